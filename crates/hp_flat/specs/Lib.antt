@@ -1,0 +1,10 @@
+pub mod Bits
+pub mod Instructions
+pub mod Valid
+pub mod State
+pub mod StackRows
+pub mod MemoryRows
+pub mod CallRows
+pub mod Step
+pub mod FlatView
+pub mod Views
