@@ -1,0 +1,14 @@
+-- The first `at` bytes were written, and no count fell.
+use Rattle.std.proofs.Common.{ℕ, ◌-◌, ◌≤◌, length, take}
+use Rattle.std.specs.Io.KnownBytes.{Appends}
+use Rattle.hp_outside.proofs.whole.write_all.Given as goal
+
+abbrev pub invariant-loop-at : goal.invariant-loop-at
+invariant-loop-at g l = record {
+  within : l.at ≤ length l.bytes;
+  never_falls : g.K.Sink.faults l.fn.sink ≤ g.K.Sink.faults l.sink;
+  written : Appends (g.K.Sink.written l.fn.sink) (g.K.Sink.written l.sink) (take l.at l.bytes);
+}
+
+abbrev pub decreases-loop-at : goal.decreases-loop-at
+decreases-loop-at g l = length l.bytes - l.at
