@@ -6,6 +6,7 @@ mod expressions;
 mod marks;
 mod names_and_places;
 mod statements;
+mod symbols;
 mod tokens;
 mod units;
 
@@ -14,5 +15,6 @@ pub use expressions::{Const, Expr, Kind, Ref};
 pub use marks::{binary, class, mark, relation, shift, unary};
 pub use names_and_places::{At, Chars, Name};
 pub use statements::{Effect, Source, Stmt, Target, Test};
+pub use symbols::{Reserved, Symbol};
 pub use tokens::{Lexed, Token, What};
 pub use units::{Sound, SplUnit};
