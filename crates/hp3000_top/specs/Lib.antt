@@ -1,0 +1,10 @@
+pub mod Gives
+pub mod ThinTokens
+pub mod ThinUnits
+pub mod ThinReading
+pub mod ThinTexts
+pub mod ThinTrees
+pub mod TokenViews
+pub mod PieceViews
+pub mod ThinViews
+pub mod UnitViews

@@ -1,0 +1,9 @@
+//! The top call: from the words of the command line and the bytes of the input to the bytes of the output.
+#![tactic(auto)]
+
+mod names;
+mod reserved;
+mod thin_reader;
+mod thin_tokens;
+mod thin_unit;
+mod unread;
