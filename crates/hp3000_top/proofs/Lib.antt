@@ -2,3 +2,4 @@ pub mod NameLemmas
 pub mod TreeLemmas
 pub mod TextLemmas
 pub mod GivesLemmas
+pub mod JobLemmas

@@ -3,6 +3,7 @@ pub mod ThinTokens
 pub mod ThinUnits
 pub mod ThinReading
 pub mod ThinTexts
+pub mod ThinJobs
 pub mod ThinTrees
 pub mod TokenViews
 pub mod PieceViews

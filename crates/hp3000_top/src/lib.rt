@@ -3,6 +3,7 @@
 
 mod names;
 mod reserved;
+mod thin_job;
 mod thin_reader;
 mod thin_tokens;
 mod thin_unit;

@@ -9,7 +9,7 @@ use spl_tree::{At, Item, Name};
 use crate::reserved::RESERVED;
 
 /// Two names are equal.
-fn same(a: &[u8], b: &[u8]) -> bool
+pub fn same(a: &[u8], b: &[u8]) -> bool
     ensures { result ≡ same_name a.now b.now }
 {
     a == b

@@ -14,19 +14,19 @@ pub struct Piece {
     pub size: usize,
 }
 
-fn capital(b: u8) -> bool
+pub fn capital(b: u8) -> bool
     ensures { result ≡ is_capital b }
 {
     65 <= b && b <= 90
 }
 
-fn digit(b: u8) -> bool
+pub fn digit(b: u8) -> bool
     ensures { result ≡ is_digit b }
 {
     48 <= b && b <= 57
 }
 
-fn name_byte(b: u8) -> bool
+pub fn name_byte(b: u8) -> bool
     ensures { result ≡ is_name_byte b }
 {
     capital(b) || digit(b)

@@ -1,0 +1,107 @@
+//! The reader of thin jobs, line by line.
+ghost use Rattle.std.specs.Prelude.{◌≡◌, ◌<◌, ◌≤◌, ◌+◌, ◌-◌, ◌*◌, ◌++◌, ◌∷◌, [], map, filter, length, nat_lt, option_map, IfOk};
+ghost use Rattle.std.specs.List.{slice_split, list_all};
+ghost use Rattle.hp3000_top.specs.Gives.{Gives};
+ghost use Rattle.hp3000_top.specs.ThinTokens.{begins_with, is_name_byte};
+ghost use Rattle.hp3000_top.specs.ThinJobs.{job_lines, is_blank, words, digits_after, quantum_in, is_program_name, name_in, is_text, command_of_words, command_of};
+
+use std::alloc::{AllocError, Global};
+
+use bstr::ByteSlice;
+use spl_tree::{Name, SplUnit};
+
+use crate::names::{is_word, same};
+use crate::thin_reader::name_of;
+use crate::thin_tokens::{capital, digit, name_byte};
+use crate::thin_unit::read_unit;
+use crate::unread::Unread;
+
+/// A command of a thin job.
+#[derive(Debug, Drop)]
+pub enum Command {
+    Job,
+    Quantum(u32),
+    Program(Name),
+    Unit,
+    Session(Name),
+    EndOfJob,
+}
+
+/// The lines of an input.
+fn lines<'a>(alloc: Global, bytes: &'a [u8]) -> Result<Vec<&'a [u8]>, AllocError>
+    ensures { IfOk result (λ v. map (λ l. l.now) v.items ≡ job_lines bytes.entry.now) }
+{
+    bytes.lines().collect(alloc)
+}
+
+fn blank(b: u8) -> bool
+    ensures { result ≡ is_blank b }
+{
+    b == 32 || b == 9
+}
+
+/// What stands between the blanks of a line.
+fn parts<'a>(alloc: Global, line: &'a [u8]) -> Result<Vec<&'a [u8]>, AllocError>
+    ensures { IfOk result (λ v. map (λ w. w.now) v.items ≡ slice_split is_blank line.entry.now) }
+{
+    line.split(|b| blank(*b)).collect(alloc)
+}
+
+/// The words of a line.
+#[tactic(auto, using(crate::proofs::JobLemmas::word_steps))]
+fn words_of<'a>(alloc: Global, line: &'a [u8]) -> Result<Vec<&'a [u8]>, AllocError>
+    ensures { IfOk result (λ v. map (λ w. w.now) v.items ≡ words line.entry.now) }
+{
+    let parts = parts(alloc, line)?;
+    let mut words = Vec::new(alloc);
+    for part in &parts {
+        if part.len() > 0 {
+            words.push(*part)?;
+        }
+    }
+    Ok(words)
+}
+
+/// The number of these digits.
+fn number(digits: &[u8]) -> Option<u64>
+    requires { length digits.now ≤ 10 }
+    ensures { result ≡ digits_after 0 digits.now }
+{
+    let mut value: u64 = 0;
+    for d in digits {
+        if !digit(*d) {
+            return None;
+        }
+        value = 10 * value + (*d - 48) as u64;
+    }
+    Some(value)
+}
+
+/// The quantum that a word says.
+#[tactic(auto, unfolding(crate::specs::ThinJobs::quantum_in))]
+fn quantum(word: &[u8]) -> Option<u32>
+    ensures { result ≡ quantum_in word.now }
+{
+    if word.is_empty() || word.len() > 10 {
+        return None;
+    }
+    let value = number(word)?;
+    if 0 < value && value <= 500 { Some(value as u32) } else { None }
+}
+
+fn all_name_bytes(bytes: &[u8]) -> bool
+    ensures { result ≡ list_all is_name_byte bytes.now }
+{
+    bytes.iter().all(|b| name_byte(*b))
+}
+
+/// A word is a program's name.
+#[tactic(auto, unfolding(crate::specs::ThinJobs::is_program_name))]
+fn program_name(word: &[u8]) -> bool
+    ensures { result ≡ is_program_name word.now }
+{
+    match word.split_first() {
+        None => false,
+        Some((first, rest)) => capital(*first) && all_name_bytes(rest) && rest.len() <= 7,
+    }
+}
