@@ -3,3 +3,4 @@ pub mod TreeLemmas
 pub mod TextLemmas
 pub mod GivesLemmas
 pub mod JobLemmas
+pub mod LineLemmas

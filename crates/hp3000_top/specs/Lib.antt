@@ -7,5 +7,7 @@ pub mod ThinJobs
 pub mod ThinTrees
 pub mod TokenViews
 pub mod PieceViews
+pub mod CommandViews
+pub mod JobViews
 pub mod ThinViews
 pub mod UnitViews

@@ -51,14 +51,21 @@ name_in w = if is_program_name w then Some w else None
 abbrev pub is_text : List ℕ → String → Bool
 is_text w text = u.same_name w (codes text)
 
--- the command of these words
-unfoldable pub command_of_words : List (List ℕ) → Option Command
-command_of_words (w ∷ []) =
-    if is_text w "!JOB" then Some job else if is_text w "!UNIT" then Some unit else if is_text w "!EOJ" then Some end_of_job else None
-command_of_words (w ∷ v ∷ []) =
+-- the command of one word
+abbrev pub command_of_one : List ℕ → Option Command
+command_of_one w = if is_text w "!JOB" then Some job else if is_text w "!UNIT" then Some unit else if is_text w "!EOJ" then Some end_of_job else None
+
+-- the command of two words
+abbrev pub command_of_two : List ℕ → List ℕ → Option Command
+command_of_two w v =
     if is_text w "!QUANTUM" then option_map quantum (quantum_in v) else
     if is_text w "!PROGRAM" then option_map program (name_in v) else
     if is_text w "!SESSION" then option_map session (name_in v) else None
+
+-- the command of these words
+unfoldable pub command_of_words : List (List ℕ) → Option Command
+command_of_words (w ∷ []) = command_of_one w
+command_of_words (w ∷ v ∷ []) = command_of_two w v
 command_of_words _ = None
 
 -- the command of a line: it begins with `!`, and its words are read in capitals

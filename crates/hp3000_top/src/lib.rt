@@ -4,6 +4,7 @@
 mod names;
 mod reserved;
 mod thin_job;
+mod thin_lines;
 mod thin_reader;
 mod thin_tokens;
 mod thin_unit;

@@ -1,9 +1,11 @@
 //! The reader of thin jobs, line by line.
-ghost use Rattle.std.specs.Prelude.{◌≡◌, ◌<◌, ◌≤◌, ◌+◌, ◌-◌, ◌*◌, ◌++◌, ◌∷◌, [], map, filter, length, nat_lt, option_map, IfOk};
+ghost use Rattle.std.specs.Prelude.{◌≡◌, ◌<◌, ◌≤◌, ◌+◌, ◌-◌, ◌*◌, ◌++◌, ◌∷◌, [], map, filter, length, nat_lt, option_map, option_and_then, IfOk, Some, None, if◌then◌else◌};
+ghost use Rattle.std.specs.Bool.{OnTrue};
 ghost use Rattle.std.specs.List.{slice_split, list_all};
 ghost use Rattle.hp3000_top.specs.Gives.{Gives};
 ghost use Rattle.hp3000_top.specs.ThinTokens.{begins_with, is_name_byte};
-ghost use Rattle.hp3000_top.specs.ThinJobs.{job_lines, is_blank, words, digits_after, quantum_in, is_program_name, name_in, is_text, command_of_words, command_of};
+ghost use Rattle.hp3000_top.specs.ThinJobs.{job_lines, is_blank, words, digits_after, quantum_in, is_program_name, name_in, is_text, command_of_one, command_of_two, command_of_words, command_of};
+ghost use Rattle.hp3000_top.specs.CommandViews.{command_view};
 
 use std::alloc::{AllocError, Global};
 
@@ -28,7 +30,7 @@ pub enum Command {
 }
 
 /// The lines of an input.
-fn lines<'a>(alloc: Global, bytes: &'a [u8]) -> Result<Vec<&'a [u8]>, AllocError>
+pub fn lines<'a>(alloc: Global, bytes: &'a [u8]) -> Result<Vec<&'a [u8]>, AllocError>
     ensures { IfOk result (λ v. map (λ l. l.now) v.items ≡ job_lines bytes.entry.now) }
 {
     bytes.lines().collect(alloc)
@@ -98,10 +100,83 @@ fn all_name_bytes(bytes: &[u8]) -> bool
 /// A word is a program's name.
 #[tactic(auto, unfolding(crate::specs::ThinJobs::is_program_name))]
 fn program_name(word: &[u8]) -> bool
-    ensures { result ≡ is_program_name word.now }
+    ensures value { result ≡ is_program_name word.now }
+    ensures short { OnTrue result (length word.now ≤ 8) }
 {
     match word.split_first() {
         None => false,
         Some((first, rest)) => capital(*first) && all_name_bytes(rest) && rest.len() <= 7,
     }
+}
+
+/// The name that a word is.
+fn name(word: &[u8]) -> Option<Name>
+    ensures { option_map (λ n. n.text.items) result ≡ name_in word.now }
+{
+    if program_name(word) { Some(name_of(word)) } else { None }
+}
+
+/// The command of one word.
+fn one_word(word: &[u8]) -> Option<Command>
+    ensures { option_map command_view result ≡ command_of_one word.now }
+{
+    if same(word, b"!JOB") {
+        Some(Command::Job)
+    } else if same(word, b"!UNIT") {
+        Some(Command::Unit)
+    } else if same(word, b"!EOJ") {
+        Some(Command::EndOfJob)
+    } else {
+        None
+    }
+}
+
+/// The command of two words.
+fn two_words(word: &[u8], value: &[u8]) -> Option<Command>
+    ensures { option_map command_view result ≡ command_of_two word.now value.now }
+{
+    if same(word, b"!QUANTUM") {
+        match quantum(value) {
+            None => None,
+            Some(n) => Some(Command::Quantum(n)),
+        }
+    } else if same(word, b"!PROGRAM") {
+        match name(value) {
+            None => None,
+            Some(name) => Some(Command::Program(name)),
+        }
+    } else if same(word, b"!SESSION") {
+        match name(value) {
+            None => None,
+            Some(name) => Some(Command::Session(name)),
+        }
+    } else {
+        None
+    }
+}
+
+/// The command of these words.
+#[tactic(auto, unfolding(crate::specs::ThinJobs::command_of_words))]
+fn command_of_words(words: &[&[u8]]) -> Option<Command>
+    ensures { option_map command_view result ≡ command_of_words (map (λ w. w.now) words.now) }
+{
+    match words {
+        [word] => one_word(word),
+        [word, value] => two_words(word, value),
+        _ => None,
+    }
+}
+
+/// The command of a line.
+#[tactic(auto, unfolding(crate::specs::ThinJobs::command_of))]
+pub fn command_in(alloc: Global, line: &[u8]) -> Result<Option<Command>, AllocError>
+    ensures { IfOk result (λ c. option_map command_view c ≡ command_of line.now) }
+{
+    if line.first() != Some(&33) {
+        return Ok(None);
+    }
+    let mut capitals = Vec::from_slice(alloc, line)?;
+    capitals.make_ascii_uppercase();
+    let words = words_of(alloc, &capitals)?;
+    Ok(command_of_words(&words))
 }

@@ -1,0 +1,18 @@
+-- What the reading of a job's lines stands for.
+use Rattle.std.specs.Prelude.{ℕ, Bool, true, false}
+use Rattle.hp3000_top.specs.declared.thin_lines.Due.{Due}
+use Rattle.hp3000_top.specs.declared.thin_lines.Due.TheVariants as d
+use Rattle.hp3000_top.specs.declared.thin_lines.JobReading.{JobReading}
+use Rattle.hp3000_top.specs.ThinJobs as j
+
+abbrev pub place_of : Due → j.Place
+place_of d.Job = j.job_due
+place_of (d.Program b) = j.program_due b
+place_of d.Unit = j.unit_due
+place_of d.Text = j.text_due
+place_of d.MoreText = j.text_read
+place_of d.End = j.end_due
+place_of d.Nothing = j.whole
+
+abbrev pub job_state : JobReading → j.State
+job_state s = record { quantum = s.quantum; name = s.name.text.items; text = s.text.items; place = place_of s.due }
