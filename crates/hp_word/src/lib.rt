@@ -2,13 +2,18 @@
 #![tactic(auto)]
 
 mod arithmetic;
+mod doubles;
 mod endings;
+mod exact;
 mod integers;
 mod intrinsics;
+mod logical;
 mod texts;
 
 pub use arithmetic::{Arith, Code, Quotient, Wide};
+pub use doubles::{dadd, dcmp, dneg, dsub};
 pub use endings::{Ending, Trap};
-pub use integers::{add, sub};
+pub use integers::{add, cmp, div, mpy, neg, sub};
 pub use intrinsics::Intrinsic;
+pub use logical::{ladd, lcmp, ldiv, lmpy, lsub};
 pub use texts::decimal_text;
