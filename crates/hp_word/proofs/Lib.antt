@@ -1,1 +1,4 @@
+pub mod BitLemmas
+pub mod ShiftLemmas
+pub mod FieldLemmas
 pub mod TextLemmas
