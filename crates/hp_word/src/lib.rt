@@ -9,6 +9,7 @@ mod fields;
 mod integers;
 mod intrinsics;
 mod logical;
+mod numbers;
 mod shifts;
 mod texts;
 
@@ -19,5 +20,6 @@ pub use fields::{deposit, extract};
 pub use integers::{add, cmp, div, mpy, neg, sub};
 pub use intrinsics::Intrinsic;
 pub use logical::{ladd, lcmp, ldiv, lmpy, lsub};
+pub use numbers::{Number, read_number};
 pub use shifts::{Shift, shift_word};
-pub use texts::decimal_text;
+pub use texts::{decimal_text, octal_text};

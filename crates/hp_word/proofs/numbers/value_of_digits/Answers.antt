@@ -1,0 +1,13 @@
+use Rattle.std.proofs.Common.{◌≡◌, ℕ, ◌+◌, ◌-◌, ◌*◌, ◌≤◌, min, drop, List, ◌∷◌, ◌∙◌, sym, ap, arith, drop-cons}
+use Rattle.std.proofs.lemmas.Grind.{common_steps}
+use Rattle.hp_word.specs.Texts.{is_digit, value_after, digits_value}
+use Rattle.hp_word.proofs.NumberLemmas.{value_after-capped}
+use Rattle.hp_word.proofs.numbers.value_of_digits.Goals as goal
+
+pub loop-byte-preserved : goal.loop-byte-preserved
+unfolding value_after
+loop-byte-preserved c = record {
+  small = grind (arith, common_steps);
+  rest = grind (arith, common_steps);
+  value = grind (arith, common_steps, value_after-capped);
+}
