@@ -15,8 +15,8 @@ value_after-le base n (d ∷ ds) some =
 pub value_after-capped : (base n cap : ℕ) (ds : List ℕ) → 1 ≤ base
     → min (value_after base (min n cap) ds) cap ≡ min (value_after base n ds) cap
 value_after-capped base n cap ds some = ⊎_elim
-    (λ below. let same : min n cap ≡ n = omega arith in rw same refl)
-    (λ above. let capped : min n cap ≡ cap = omega arith in
+    (λ (below : n < cap). let same : min n cap ≡ n = omega arith in rw same refl)
+    (λ (above : cap ≤ n). let capped : min n cap ≡ cap = omega arith in
     rw capped (omega (arith, value_after-le base cap ds some, value_after-le base n ds some)))
     (cases_lt n cap)
 

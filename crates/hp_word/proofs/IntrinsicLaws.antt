@@ -1,0 +1,26 @@
+-- Rows of bytes from an address upwards, and when one is in bounds: by its last byte alone.
+use Rattle.std.proofs.Common.{◌≡◌, ℕ, zero, suc, ◌+◌, ◌*◌, ◌/◌, ◌<◌, ◌≤◌, Bool, true, false, ◌&&◌, ◌||◌, List, [], ◌∷◌, length, refl, ap, sym, ◌∙◌, arith}
+use Rattle.std.specs.Prelude.{map, nat_lt, nat_le, ◌==◌, slice_index}
+use Rattle.std.specs.List.{list_all}
+use Rattle.std.proofs.lemmas.Bool.Decides.{nat_tests}
+use Rattle.hp_word.specs.Intrinsics.{addresses, stored_from}
+
+-- there are as many addresses as bytes
+pub length-addresses : (first count : ℕ) → length (addresses first count) ≡ count
+unfolding addresses
+length-addresses first zero = refl
+length-addresses first (suc count) = omega (arith, length-addresses (suc first) count)
+
+-- the addresses of stored bytes
+pub addresses-stored_from : (first : ℕ) (bytes : List ℕ) → map (λ (s : ℕ × ℕ). s.0) (stored_from first bytes) ≡ addresses first (length bytes)
+unfolding addresses stored_from
+addresses-stored_from first [] = refl
+addresses-stored_from first (byte ∷ bytes) = ap (λ (others : List ℕ). first ∷ others) (addresses-stored_from (suc first) bytes)
+
+-- bytes are in bounds where there are none or the last one is below twice the number of words
+pub list_all-addresses : (limit first count : ℕ)
+    → list_all (λ b. nat_lt (b / 2) limit) (addresses first count) ≡ (count == 0 || nat_le (first + count) (2 * limit))
+unfolding addresses
+list_all-addresses limit first zero = refl
+list_all-addresses limit first (suc count) =
+    grind (arith, nat_tests, list_all-addresses limit (suc first) count)
