@@ -7,7 +7,7 @@ use Rattle.hp_word.specs.declared.arithmetic.Wide.{Wide}
 use Rattle.hp_word.specs.declared.arithmetic.Quotient.{Quotient}
 use Rattle.hp_word.specs.declared.arithmetic.Code.{Code}
 use Rattle.hp_word.specs.declared.arithmetic.Code.TheVariants.{Greater, Less, Equal}
-use Rattle.hp_word.specs.Words.{signed, signed_double, word_of, double_of, is_out_of_word, is_out_of_double, compared, words_compared, logically_compared, doubles_compared, integer_result, logical_result, double_result, added, subtracted, multiplied, negated, divided, logically_added, logically_subtracted, logically_multiplied, logically_divided, double_added, double_subtracted, double_negated}
+use Rattle.hp_word.specs.Words.{signed, signed_double, word_of, double_of, is_out_of_word, is_out_of_double, compared, words_compared, logically_compared, doubles_compared, word_result, integer_result, logical_result, double_result, added, subtracted, multiplied, negated, divided, logically_added, logically_subtracted, logically_multiplied, logically_divided, double_added, double_subtracted, double_negated}
 
 abbrev leaves : ℕ → Bool → Bool → Code → Arith
 leaves value carry overflow code = record { value = value; carry = carry; overflow = overflow; code = code }
@@ -20,37 +20,37 @@ gives quotient remainder overflow = Some (record { quotient = quotient; remainde
 
 -- 32,767 and one more overflow to -32,768
 added-highest : added 32767 1 ≡ leaves 32768 false true Less
-unfolding added integer_result signed word_of is_out_of_word compared
+unfolding added word_result signed word_of is_out_of_word compared
 added-highest = refl
 
 -- -1 and 1 make zero, with a carry and no overflow
 added-minus_one : added 65535 1 ≡ leaves 0 true false Equal
-unfolding added integer_result signed word_of is_out_of_word compared
+unfolding added word_result signed word_of is_out_of_word compared
 added-minus_one = refl
 
 -- twice -32,768 leaves zero, with both
 added-lowest : added 32768 32768 ≡ leaves 0 true true Equal
-unfolding added integer_result signed word_of is_out_of_word compared
+unfolding added word_result signed word_of is_out_of_word compared
 added-lowest = refl
 
 -- zero minus one borrows and does not overflow
 subtracted-borrow : subtracted 0 1 ≡ leaves 65535 false false Less
-unfolding subtracted integer_result signed word_of is_out_of_word compared
+unfolding subtracted word_result signed word_of is_out_of_word compared
 subtracted-borrow = refl
 
 -- -32,768 minus one overflows and does not borrow
 subtracted-lowest : subtracted 32768 1 ≡ leaves 32767 true true Greater
-unfolding subtracted integer_result signed word_of is_out_of_word compared
+unfolding subtracted word_result signed word_of is_out_of_word compared
 subtracted-lowest = refl
 
 -- -32,768 times -1 is out of range by one
 multiplied-lowest : multiplied 32768 65535 ≡ leaves 32768 false true Less
-unfolding multiplied integer_result signed word_of is_out_of_word compared
+unfolding multiplied word_result signed word_of is_out_of_word compared
 multiplied-lowest = refl
 
 -- and minus -32,768 too
 negated-lowest : negated 32768 ≡ leaves 32768 false true Less
-unfolding negated integer_result signed word_of is_out_of_word compared
+unfolding negated word_result signed word_of is_out_of_word compared
 negated-lowest = refl
 
 -- -7 by 2 is -3, and -1 is left
@@ -75,7 +75,7 @@ divided-zero = refl
 
 -- 65,535 and 65,535 are 131,070, which carries; what stays is negative as a signed word
 logically_added-highest : logically_added 65535 65535 ≡ leaves 65534 true false Less
-unfolding logically_added logical_result signed word_of compared
+unfolding logically_added word_result signed word_of compared
 logically_added-highest = refl
 
 -- 65,535 squared

@@ -59,23 +59,22 @@ doubles_compared b a = compared (signed_double b) (signed_double a)
 
 -- What an operation leaves, by its exact result and its carry
 
--- of an integer operation on words: an exact result out of the signed range overflows
-unfoldable pub integer_result : ℤ → Bool → Arith
-integer_result exact carry = record {
+-- of an operation on words: the result modulo 65,536, and the code of that value read as signed
+unfoldable pub word_result : ℤ → Bool → Bool → Arith
+word_result exact carry overflow = record {
   value = word_of exact;
   carry = carry;
-  overflow = is_out_of_word exact;
+  overflow = overflow;
   code = code_of (signed (word_of exact));
 }
 
+-- of an integer operation on words: an exact result out of the signed range overflows
+abbrev pub integer_result : ℤ → Bool → Arith
+integer_result exact carry = word_result exact carry (is_out_of_word exact)
+
 -- of a logical operation on words: it never overflows
-unfoldable pub logical_result : ℤ → Bool → Arith
-logical_result exact carry = record {
-  value = word_of exact;
-  carry = carry;
-  overflow = false;
-  code = code_of (signed (word_of exact));
-}
+abbrev pub logical_result : ℤ → Bool → Arith
+logical_result exact carry = word_result exact carry false
 
 -- of an integer operation on doubles
 unfoldable pub double_result : ℤ → Bool → Wide

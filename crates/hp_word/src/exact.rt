@@ -4,7 +4,7 @@
 
 ghost use Rattle.std.specs.Prelude.{◌≡◌, ◌≢◌, ◌≤ℤ◌, pos, negsuc};
 ghost use Rattle.hp_word.specs.Words.{signed, signed_double, word_of, double_of, is_out_of_word, is_out_of_double};
-ghost use Rattle.hp_word.specs.Words.{compared, code_of, integer_result, logical_result, double_result};
+ghost use Rattle.hp_word.specs.Words.{compared, code_of, word_result, integer_result, logical_result, double_result};
 
 use crate::arithmetic::{Arith, Code, Wide};
 
@@ -90,34 +90,35 @@ pub(crate) fn code_against(lower: i64, upper: i64) -> Code
     }
 }
 
-/// What an integer operation on words leaves that has this exact result and this carry.
+/// What an operation on words leaves that has this exact result.
 #[inline]
-#[tactic(auto, unfolding(crate::specs::Words::integer_result))]
-pub(crate) fn integer(exact: i32, carry: bool) -> Arith
-    ensures { result ≡ integer_result exact carry }
+#[tactic(auto, unfolding(crate::specs::Words::word_result))]
+fn kept_of(exact: i32, carry: bool, overflow: bool) -> Arith
+    ensures { result ≡ word_result exact carry overflow }
 {
     let value = modulo_word(exact);
     Arith {
         value,
         carry,
-        overflow: is_out(exact),
+        overflow,
         code: code_against(signed_of(value) as i64, 0),
     }
 }
 
+/// What an integer operation on words leaves that has this exact result and this carry.
+#[inline]
+pub(crate) fn integer(exact: i32, carry: bool) -> Arith
+    ensures { result ≡ integer_result exact carry }
+{
+    kept_of(exact, carry, is_out(exact))
+}
+
 /// What a logical operation on words leaves that has this exact result and this carry.
 #[inline]
-#[tactic(auto, unfolding(crate::specs::Words::logical_result))]
 pub(crate) fn logical(exact: i32, carry: bool) -> Arith
     ensures { result ≡ logical_result exact carry }
 {
-    let value = modulo_word(exact);
-    Arith {
-        value,
-        carry,
-        overflow: false,
-        code: code_against(signed_of(value) as i64, 0),
-    }
+    kept_of(exact, carry, false)
 }
 
 /// What an integer operation on doubles leaves that has this exact result and this carry.
