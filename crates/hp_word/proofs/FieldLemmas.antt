@@ -1,7 +1,7 @@
 -- A field as arithmetic on the word: a quotient, a remainder, or a sum of three parts.
-use Rattle.std.proofs.Common.{◌≡◌, ℕ, zero, suc, ◌+◌, ◌-◌, ◌*◌, ◌/◌, ◌%◌, ◌^◌, ◌≤◌, ◌<◌, refl, ap, sym, ◌∙◌, arith}
+use Rattle.std.proofs.Common.{◌≡◌, ℕ, ◌+◌, ◌-◌, ◌*◌, ◌/◌, ◌%◌, ◌^◌, ◌≤◌, ◌<◌, refl, arith}
 use Rattle.std.proofs.lemmas.Bool.Decides.{nat_tests}
-use Rattle.hp_word.specs.Bits.{bit, number_of, field, with_field, bit_with_field}
+use Rattle.hp_word.specs.Bits.{bit, field, with_field, bit_with_field}
 use Rattle.hp_word.proofs.BitLemmas.{number_of-halves, number_of-part, number_of-first, number_of-last, number_of-below, bit-small}
 
 -- the field alone
@@ -35,10 +35,18 @@ with_field-value w s n v fits word =
     number_of-halves s (16 - s) 16 (w / 2 ^ (16 - s)) (v % 2 ^ n * 2 ^ r + w % 2 ^ r) f (omega arith) first rest
 
 -- which is a word
-pub with_field-below : (w s n v : ℕ) → s + n ≤ 16 → w < 65536
-    → w / 2 ^ (16 - s) * 2 ^ (16 - s) + (v % 2 ^ n * 2 ^ (16 - s - n) + w % 2 ^ (16 - s - n)) < 65536
+pub with_field-below : (w s n v : ℕ) → with_field w s n v < 65536
 unfolding with_field
-with_field-below w s n v fits word =
-    omega (arith, with_field-value w s n v fits word, number_of-below 16 (bit_with_field w s n v) (λ i. grind (arith, nat_tests, bit-small)))
+with_field-below w s n v = number_of-below 16 (bit_with_field w s n v) (λ i. grind (arith, nat_tests, bit-small))
 
-pub ruleset fields = (field-value, with_field-value, with_field-below)
+-- so the sum that makes it fits
+pub with_field_sum-below : (w s n v : ℕ) → s + n ≤ 16 → w < 65536
+    → w / 2 ^ (16 - s) * 2 ^ (16 - s) + (v % 2 ^ n * 2 ^ (16 - s - n) + w % 2 ^ (16 - s - n)) < 65536
+with_field_sum-below w s n v fits word = omega (arith, with_field-value w s n v fits word, with_field-below w s n v)
+
+-- a field of n bits is below the n-th power of two
+pub field-below : (w s n : ℕ) → field w s n < 2 ^ n
+unfolding field
+field-below w s n = number_of-below n (λ (i : ℕ). bit (s + i) w) (λ i. bit-small (s + i) w)
+
+pub ruleset fields = (field-value, with_field-value, with_field_sum-below)

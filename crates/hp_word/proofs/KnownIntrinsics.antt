@@ -1,11 +1,11 @@
 -- Calls of the intrinsics worked by hand, over memory whose byte b is the letter 65 + b.
-use Rattle.std.proofs.Common.{◌≡◌, ℕ, ◌+◌, Bool, true, false, List, [], ◌∷◌, pos, negsuc, refl}
-use Rattle.std.specs.Prelude.{codes, map}
+use Rattle.std.proofs.Common.{◌≡◌, ℕ, ◌+◌, true, [], ◌∷◌, negsuc, refl}
+use Rattle.std.specs.Prelude.{codes}
 use Rattle.std.specs.Fmt.{digits}
 use Rattle.std.specs.declared.option.Option.TheVariants.{Some, None}
 use Rattle.std.specs.declared.result.Result.TheVariants.{Ok, Err}
 use Rattle.hp_word.specs.declared.arithmetic.Code.TheVariants.{Greater, Less, Equal}
-use Rattle.hp_word.specs.declared.endings.Ending.TheVariants.{Running, Terminated, Quit}
+use Rattle.hp_word.specs.declared.endings.Ending.TheVariants.{Terminated, Quit}
 use Rattle.hp_word.specs.declared.endings.Trap.TheVariants.{Bounds, OutputLimit}
 use Rattle.hp_word.specs.declared.intrinsics.Intrinsic.TheVariants.{Dascii}
 use Rattle.hp_word.specs.Words.{signed, signed_double, word_of, double_of}

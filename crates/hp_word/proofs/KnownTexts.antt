@@ -1,5 +1,5 @@
 -- Texts and their numbers worked by hand, at the ends of the ranges and one beyond.
-use Rattle.std.proofs.Common.{◌≡◌, ℕ, Bool, true, false, List, [], pos, negsuc, refl}
+use Rattle.std.proofs.Common.{◌≡◌, true, false, pos, negsuc, refl}
 use Rattle.std.specs.Prelude.{codes}
 use Rattle.std.specs.Fmt.{digits}
 use Rattle.hp_word.specs.declared.numbers.Number.TheVariants.{Value, TooLarge, BadForm}

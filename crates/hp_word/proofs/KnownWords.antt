@@ -7,7 +7,7 @@ use Rattle.hp_word.specs.declared.arithmetic.Wide.{Wide}
 use Rattle.hp_word.specs.declared.arithmetic.Quotient.{Quotient}
 use Rattle.hp_word.specs.declared.arithmetic.Code.{Code}
 use Rattle.hp_word.specs.declared.arithmetic.Code.TheVariants.{Greater, Less, Equal}
-use Rattle.hp_word.specs.Words.{signed, signed_double, word_of, double_of, is_out_of_word, is_out_of_double, compared, words_compared, logically_compared, doubles_compared, word_result, integer_result, logical_result, double_result, added, subtracted, multiplied, negated, divided, logically_added, logically_subtracted, logically_multiplied, logically_divided, double_added, double_subtracted, double_negated}
+use Rattle.hp_word.specs.Words.{signed, signed_double, word_of, double_of, is_out_of_word, is_out_of_double, compared, words_compared, logically_compared, word_result, double_result, added, subtracted, multiplied, negated, divided, logically_added, logically_multiplied, logically_divided, double_added, double_subtracted, double_negated}
 
 abbrev leaves : ℕ → Bool → Bool → Code → Arith
 leaves value carry overflow code = record { value = value; carry = carry; overflow = overflow; code = code }

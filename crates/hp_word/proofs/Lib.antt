@@ -7,4 +7,6 @@ pub mod ShiftLemmas
 pub mod FieldLemmas
 pub mod TextLemmas
 pub mod NumberLemmas
+pub mod WordLaws
+pub mod TextLaws
 pub mod IntrinsicLaws

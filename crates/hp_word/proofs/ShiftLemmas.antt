@@ -141,21 +141,30 @@ pub shifted-Csr : (w n : ℕ) → shifted Csr w n ≡ shifted Csl w (16 - n % 16
 unfolding shifted
 shifted-Csr w n = number_of-same 16 (shifted_bit Csr w n) (shifted_bit Csl w (16 - n % 16)) (λ i h. ap (λ (k : ℕ). bit (k % 16) w) (omega arith))
 
--- a shifted word is a word
-shifted-below : (kind : Shift) (w n : ℕ) → ((i : ℕ) → shifted_bit kind w n i ≤ 1) → shifted kind w n < 65536
+-- each bit of a shifted word is zero or one
+shifted_bit-small : (kind : Shift) (w n i : ℕ) → shifted_bit kind w n i ≤ 1
+shifted_bit-small Asl w n i = grind (arith, nat_tests, bit-small)
+shifted_bit-small Asr w n i = grind (arith, nat_tests, bit-small)
+shifted_bit-small Lsl w n i = bit-small (i + n) w
+shifted_bit-small Lsr w n i = grind (arith, nat_tests, bit-small)
+shifted_bit-small Csl w n i = bit-small ((i + n) % 16) w
+shifted_bit-small Csr w n i = bit-small ((i + 16 - n % 16) % 16) w
+
+-- so it is a word
+pub shifted-below : (kind : Shift) (w n : ℕ) → shifted kind w n < 65536
 unfolding shifted
-shifted-below kind w n small = number_of-below 16 (shifted_bit kind w n) small
+shifted-below kind w n = number_of-below 16 (shifted_bit kind w n) (shifted_bit-small kind w n)
 
 -- so the sums that make one fit
 pub filled_below : (w n : ℕ) → n < 16 → 32768 ≤ w → w < 65536 → 65536 - 2 ^ (16 - n) + w / 2 ^ n < 65536
 filled_below w n short large fits =
-    omega (arith, shifted-Asr-negative w n short large fits, shifted-below Asr w n (λ i. grind (arith, nat_tests, bit-small)))
+    omega (arith, shifted-Asr-negative w n short large fits, shifted-below Asr w n)
 
 pub turned_below : (w n : ℕ) → n < 16 → w < 65536 → w * 2 ^ n % 65536 + w / 2 ^ (16 - n) < 65536
 turned_below w n short fits =
     let same : n % 16 ≡ n = omega arith in
     let turned = rw same at (shifted-Csl w n fits) in
-    omega (arith, turned, shifted-below Csl w n (λ i. bit-small ((i + n) % 16) w))
+    omega (arith, turned, shifted-below Csl w n)
 
 -- the powers of two that a word has room for
 pub power_bound : (n : ℕ) → n ≤ 16 → 2 ^ n ≤ 65536

@@ -35,7 +35,7 @@ pub length-decimal-short : (n : ℕ) → n < 2 ^ 32 → length (decimal n) ≤ 1
 length-decimal-short n small = length-decimal-le 10 n (omega arith) (omega arith) (omega arith)
 
 -- an octal text has as many digits as it was asked for
-length-octal_text_of : (k n : ℕ) → length (octal_text_of k n) ≡ k
+pub length-octal_text_of : (k n : ℕ) → length (octal_text_of k n) ≡ k
 unfolding octal_text_of
 length-octal_text_of zero n = refl
 length-octal_text_of (suc k) n =

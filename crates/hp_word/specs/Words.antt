@@ -1,5 +1,5 @@
 -- Arithmetic on words of sixteen bits and doubles of thirty-two, by the exact result over the whole numbers.
-use Rattle.std.specs.Prelude.{ℕ, ◌+◌, ◌*◌, ◌/◌, ◌%◌, ℤ, pos, negsuc, neg_ℤ, ◌+ℤ◌, ◌-ℤ◌, ◌*ℤ◌, Bool, true, false, ◌||◌, ◌==◌, nat_lt, nat_le, int_lt, int_div, int_rem, unsigned_abs, if◌then◌else◌}
+use Rattle.std.specs.Prelude.{ℕ, ◌+◌, ◌*◌, ◌/◌, ◌%◌, ℤ, pos, neg_ℤ, ◌+ℤ◌, ◌-ℤ◌, ◌*ℤ◌, Bool, false, ◌||◌, ◌==◌, nat_lt, nat_le, int_lt, int_div, int_rem, unsigned_abs, if◌then◌else◌}
 use Rattle.std.specs.declared.option.Option.{Option}
 use Rattle.std.specs.declared.option.Option.TheVariants.{Some, None}
 use Rattle.std.specs.Int.{int_rem_euclid}
@@ -45,6 +45,13 @@ compared lower upper = if int_lt upper lower then Greater else if int_lt lower u
 abbrev pub code_of : ℤ → Code
 code_of z = compared z (pos 0)
 
+-- the code of a word, and of a double: that of the signed number
+abbrev pub word_code : ℕ → Code
+word_code w = code_of (signed w)
+
+abbrev pub double_code : ℕ → Code
+double_code d = code_of (signed_double d)
+
 -- B against A, both read as signed
 abbrev pub words_compared : ℕ → ℕ → Code
 words_compared b a = compared (signed b) (signed a)
@@ -65,7 +72,7 @@ word_result exact carry overflow = record {
   value = word_of exact;
   carry = carry;
   overflow = overflow;
-  code = code_of (signed (word_of exact));
+  code = word_code (word_of exact);
 }
 
 -- of an integer operation on words: an exact result out of the signed range overflows
@@ -82,7 +89,7 @@ double_result exact carry = record {
   value = double_of exact;
   carry = carry;
   overflow = is_out_of_double exact;
-  code = code_of (signed_double (double_of exact));
+  code = double_code (double_of exact);
 }
 
 -- Integer operations on words. A sum's carry is that of the unsigned sum, a difference's is on where the unsigned
@@ -128,7 +135,7 @@ logically_multiplied b a = record {
   value = b * a;
   carry = nat_lt 65535 (b * a);
   overflow = false;
-  code = code_of (signed_double (b * a));
+  code = double_code (b * a);
 }
 
 -- a double by A: the quotient is kept modulo 65,536; nothing where A is zero

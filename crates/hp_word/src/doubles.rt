@@ -3,7 +3,7 @@
 //! B is the lower operand, A the one on top.
 
 ghost use Rattle.std.specs.Prelude.{◌≡◌};
-ghost use Rattle.hp_word.specs.Words.{double_added, double_subtracted, double_negated, doubles_compared};
+ghost use Rattle.hp_word.specs.Words.{double_added, double_subtracted, double_negated, doubles_compared, double_code};
 
 use crate::arithmetic::{Code, Wide};
 use crate::exact::{code_against, double, signed_double_of};
@@ -36,10 +36,12 @@ pub fn dneg(a: u32) -> Wide
     double(-signed_double_of(a), false)
 }
 
-/// The condition code of B against A, both signed.
+/// The condition code of B against A, both signed; against zero that of the double B.
 #[inline]
+#[tactic(auto, unfolding(crate::specs::Words::signed_double))]
 pub fn dcmp(b: u32, a: u32) -> Code
-    ensures { result ≡ doubles_compared b a }
+    ensures value { result ≡ doubles_compared b a }
+    ensures zero { a ≡ 0 → result ≡ double_code b }
 {
     code_against(signed_double_of(b), signed_double_of(a))
 }

@@ -3,7 +3,7 @@
 //! B is the lower operand, A the one on top.
 
 ghost use Rattle.std.specs.Prelude.{◌≡◌, ◌↔◌, IsNone};
-ghost use Rattle.hp_word.specs.Words.{added, subtracted, multiplied, negated, divided, words_compared};
+ghost use Rattle.hp_word.specs.Words.{added, subtracted, multiplied, negated, divided, words_compared, word_code};
 
 use crate::arithmetic::{Arith, Code, Quotient};
 use crate::exact::{code_against, integer, is_out, modulo_word, signed_of};
@@ -66,10 +66,12 @@ pub fn div(b: u16, a: u16) -> Option<Quotient>
     })
 }
 
-/// The condition code of B against A, both signed.
+/// The condition code of B against A, both signed; against zero that of the word B.
 #[inline]
+#[tactic(auto, unfolding(crate::specs::Words::signed))]
 pub fn cmp(b: u16, a: u16) -> Code
-    ensures { result ≡ words_compared b a }
+    ensures value { result ≡ words_compared b a }
+    ensures zero { a ≡ 0 → result ≡ word_code b }
 {
     code_against(signed_of(b) as i64, signed_of(a) as i64)
 }

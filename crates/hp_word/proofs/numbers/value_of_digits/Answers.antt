@@ -1,6 +1,6 @@
-use Rattle.std.proofs.Common.{◌≡◌, ℕ, ◌+◌, ◌-◌, ◌*◌, ◌≤◌, min, drop, List, ◌∷◌, ◌∙◌, sym, ap, arith, drop-cons}
+use Rattle.std.proofs.Common.{arith}
 use Rattle.std.proofs.lemmas.Grind.{common_steps}
-use Rattle.hp_word.specs.Texts.{is_digit, value_after, digits_value}
+use Rattle.hp_word.specs.Texts.{value_after}
 use Rattle.hp_word.proofs.NumberLemmas.{value_after-capped}
 use Rattle.hp_word.proofs.numbers.value_of_digits.Goals as goal
 

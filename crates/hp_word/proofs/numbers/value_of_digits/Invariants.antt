@@ -1,4 +1,4 @@
-use Rattle.std.proofs.Common.{◌≡◌, ℕ, ◌≤◌, min, drop}
+use Rattle.std.proofs.Common.{◌≡◌, ◌≤◌, min, drop}
 use Rattle.std.specs.List.{list_all}
 use Rattle.hp_word.specs.Texts.{is_digit, value_after, digits_value}
 use Rattle.hp_word.proofs.numbers.value_of_digits.Given as goal
