@@ -49,4 +49,5 @@ pub field-below : (w s n : ℕ) → field w s n < 2 ^ n
 unfolding field
 field-below w s n = number_of-below n (λ (i : ℕ). bit (s + i) w) (λ i. bit-small (s + i) w)
 
+-- what taking and putting a field cite
 pub ruleset fields = (field-value, with_field-value, with_field_sum-below)

@@ -9,12 +9,15 @@ use Rattle.hp_word.specs.declared.arithmetic.Code.{Code}
 use Rattle.hp_word.specs.declared.arithmetic.Code.TheVariants.{Greater, Less, Equal}
 use Rattle.hp_word.specs.Words.{signed, signed_double, word_of, double_of, is_out_of_word, is_out_of_double, compared, words_compared, logically_compared, word_result, double_result, added, subtracted, multiplied, negated, divided, logically_added, logically_multiplied, logically_divided, double_added, double_subtracted, double_negated}
 
+-- a result on words
 abbrev leaves : ℕ → Bool → Bool → Code → Arith
 leaves value carry overflow code = record { value = value; carry = carry; overflow = overflow; code = code }
 
+-- a result on doubles
 abbrev leaves_double : ℕ → Bool → Bool → Code → Wide
 leaves_double value carry overflow code = record { value = value; carry = carry; overflow = overflow; code = code }
 
+-- a division
 abbrev gives : ℕ → ℕ → Bool → Option Quotient
 gives quotient remainder overflow = Some (record { quotient = quotient; remainder = remainder; overflow = overflow })
 
@@ -113,6 +116,7 @@ compared-signed : words_compared 32768 32767 ≡ Less
 unfolding signed compared
 compared-signed = refl
 
+-- as unsigned numbers
 compared-unsigned : logically_compared 32768 32767 ≡ Greater
 unfolding compared
 compared-unsigned = refl

@@ -9,4 +9,5 @@ pub mod TextLemmas
 pub mod NumberLemmas
 pub mod WordLaws
 pub mod TextLaws
+pub mod ByteLaws
 pub mod IntrinsicLaws

@@ -19,5 +19,3 @@ value_after-capped base n cap ds some = ⊎_elim
     (λ (above : cap ≤ n). let capped : min n cap ≡ cap = omega arith in
     rw capped (omega (arith, value_after-le base cap ds some, value_after-le base n ds some)))
     (cases_lt n cap)
-
-pub ruleset capped = (value_after-capped)

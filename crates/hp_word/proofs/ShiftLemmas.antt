@@ -1,7 +1,7 @@
 -- Each shift as arithmetic on the word: multiplied or divided by a power of two.
--- 1. the shifted bits are the first or last bits of the word, beside zeros or copies of the sign   (number_of-halves)
--- 2. those are a quotient or a remainder by a power of two                                         (number_of-first, number_of-last)
--- 3. moved up they are what stays of a product                                                     (moved_up)
+-- 1. the shifted bits are the first or last bits of the word, beside zeros or copies of the sign (number_of-halves)
+-- 2. those are a quotient or a remainder by a power of two (number_of-first, number_of-last)
+-- 3. moved up they are what stays of a product (moved_up)
 use Rattle.std.proofs.Common.{◌≡◌, ℕ, zero, suc, ◌+◌, ◌-◌, ◌*◌, ◌/◌, ◌%◌, ◌^◌, ◌≤◌, ◌<◌, refl, ap, sym, ◌∙◌, arith, add_comm, add-one}
 use Rattle.std.proofs.Math.Nat.{mul-mod_left, suc-mul, pow-le-pow_right}
 use Rattle.std.proofs.lemmas.Nat.{mod-pow-add, shl-shr, pow-add, pow_pos, one_shl}
@@ -69,17 +69,20 @@ shifted-Asl w n short fits =
     let f : ℕ → ℕ = shifted_bit Asl w n in
     let g : ℕ → ℕ = λ (i : ℕ). f (1 + i) in
     let kept = number_of-last r (1 + n) w g (omega arith) (λ i h. Asl-bit w n i) in
-    let new = number_of-zeros n (λ (i : ℕ). g (r + i)) (λ i h. Asl-bit w n (r + i) ∙ bit-past (1 + n + (r + i)) w (omega arith)) in
+    let new = number_of-zeros n (λ (i : ℕ). g (r + i))
+    (λ i h. Asl-bit w n (r + i) ∙ bit-past (1 + n + (r + i)) w (omega arith)) in
     let others = number_of-halves r n 15 (w % 2 ^ r) 0 g all kept new in
     let first : number_of 1 f ≡ w / 32768 = omega (arith, sign w fits) in
-    number_of-halves 1 15 16 (w / 32768) (w % 2 ^ r * 2 ^ n) f refl first (others ∙ omega arith) ∙ omega (arith, moved_up w r n 15 all)
+    number_of-halves 1 15 16 (w / 32768) (w % 2 ^ r * 2 ^ n) f refl first (others ∙ omega arith)
+    ∙ omega (arith, moved_up w r n 15 all)
 
 -- ASL by fifteen or more: the sign alone
 pub shifted-Asl-past : (w n : ℕ) → 15 ≤ n → w < 65536 → shifted Asl w n ≡ w / 32768 * 32768
 unfolding shifted number_of
 shifted-Asl-past w n long fits =
     let f : ℕ → ℕ = shifted_bit Asl w n in
-    let none = number_of-zeros 15 (λ (i : ℕ). f (1 + i)) (λ i h. Asl-bit w n i ∙ bit-past (1 + n + i) w (omega arith)) in
+    let none = number_of-zeros 15 (λ (i : ℕ). f (1 + i))
+    (λ i h. Asl-bit w n i ∙ bit-past (1 + n + i) w (omega arith)) in
     let first : number_of 1 f ≡ w / 32768 = omega (arith, sign w fits) in
     number_of-halves 1 15 16 (w / 32768) 0 f refl first none ∙ omega arith
 
@@ -105,7 +108,8 @@ shifted-Asr w n short small =
     number_of-halves n r 16 0 (w / 2 ^ n) f (omega arith) new kept ∙ omega arith
 
 -- and ones before what stays of a word with its sign
-pub shifted-Asr-negative : (w n : ℕ) → n < 16 → 32768 ≤ w → w < 65536 → shifted Asr w n ≡ 65536 - 2 ^ (16 - n) + w / 2 ^ n
+pub shifted-Asr-negative : (w n : ℕ) → n < 16 → 32768 ≤ w → w < 65536
+    → shifted Asr w n ≡ 65536 - 2 ^ (16 - n) + w / 2 ^ n
 unfolding shifted
 shifted-Asr-negative w n short large fits =
     let r : ℕ = 16 - n in
@@ -115,7 +119,8 @@ shifted-Asr-negative w n short large fits =
     let new = number_of-copies n 1 f (λ i h. grind (arith, nat_tests, one)) in
     let kept = number_of-first r n w (λ (i : ℕ). f (n + i)) (omega arith) fits (λ i h. Asr-bit w n i) in
     let power : 2 ^ n * 2 ^ r ≡ 65536 = sym (pow-add 2 n r) ∙ ap (λ (k : ℕ). 2 ^ k) all in
-    let ones : (2 ^ n - 1) * 2 ^ r ≡ 65536 - 2 ^ r = one_less (2 ^ n - 1) (2 ^ n) (2 ^ r) (omega (arith, pow_pos n)) ∙ omega (arith, power) in
+    let ones : (2 ^ n - 1) * 2 ^ r ≡ 65536 - 2 ^ r =
+    one_less (2 ^ n - 1) (2 ^ n) (2 ^ r) (omega (arith, pow_pos n)) ∙ omega (arith, power) in
     number_of-halves n r 16 (2 ^ n - 1) (w / 2 ^ n) f all (omega (arith, new)) kept ∙ omega (arith, ones)
 
 -- ASR by a word or more: the sign everywhere
@@ -133,13 +138,15 @@ shifted-Csl w n fits =
     let all : r + m ≡ 16 = omega arith in
     let f : ℕ → ℕ = shifted_bit Csl w n in
     let kept = number_of-last r m w f (omega arith) (λ i h. ap (λ (k : ℕ). bit k w) (omega arith)) in
-    let back = number_of-first m r w (λ (i : ℕ). f (r + i)) (omega arith) fits (λ i h. ap (λ (k : ℕ). bit k w) (omega arith)) in
+    let back = number_of-first m r w (λ (i : ℕ). f (r + i)) (omega arith) fits
+    (λ i h. ap (λ (k : ℕ). bit k w) (omega arith)) in
     number_of-halves r m 16 (w % 2 ^ r) (w / 2 ^ r) f all kept back ∙ omega (arith, moved_up w r m 16 all)
 
 -- CSR is CSL by the rest of the sixteen places
 pub shifted-Csr : (w n : ℕ) → shifted Csr w n ≡ shifted Csl w (16 - n % 16)
 unfolding shifted
-shifted-Csr w n = number_of-same 16 (shifted_bit Csr w n) (shifted_bit Csl w (16 - n % 16)) (λ i h. ap (λ (k : ℕ). bit (k % 16) w) (omega arith))
+shifted-Csr w n =
+    number_of-same 16 (shifted_bit Csr w n) (shifted_bit Csl w (16 - n % 16)) (λ i h. ap (λ (k : ℕ). bit (k % 16) w) (omega arith))
 
 -- each bit of a shifted word is zero or one
 shifted_bit-small : (kind : Shift) (w n i : ℕ) → shifted_bit kind w n i ≤ 1
@@ -160,6 +167,7 @@ pub filled_below : (w n : ℕ) → n < 16 → 32768 ≤ w → w < 65536 → 6553
 filled_below w n short large fits =
     omega (arith, shifted-Asr-negative w n short large fits, shifted-below Asr w n)
 
+-- also of a rotation
 pub turned_below : (w n : ℕ) → n < 16 → w < 65536 → w * 2 ^ n % 65536 + w / 2 ^ (16 - n) < 65536
 turned_below w n short fits =
     let same : n % 16 ≡ n = omega arith in
@@ -170,8 +178,24 @@ turned_below w n short fits =
 pub power_bound : (n : ℕ) → n ≤ 16 → 2 ^ n ≤ 65536
 power_bound n fits = pow-le-pow_right {n = 2} (omega arith) fits
 
+-- what the power cites
 pub ruleset powers = (power_bound, pow_pos, one_shl)
 
-pub ruleset shifts = (shifted-Lsl, shifted-Lsl-past, shifted-Lsr, shifted-Lsr-past, shifted-Asl, shifted-Asl-past, shifted-Asr, shifted-Asr-negative, shifted-Asr-past, shifted-Csl, filled_below, turned_below)
+-- what the shifts cite
+pub ruleset shifts = (
+  shifted-Lsl,
+  shifted-Lsl-past,
+  shifted-Lsr,
+  shifted-Lsr-past,
+  shifted-Asl,
+  shifted-Asl-past,
+  shifted-Asr,
+  shifted-Asr-negative,
+  shifted-Asr-past,
+  shifted-Csl,
+  filled_below,
+  turned_below,
+)
 
+-- what the rotation to the right cites
 pub ruleset right_as_left = (shifted-Csr)

@@ -15,13 +15,15 @@ use Rattle.hp_word.specs.Words.{signed, signed_double}
 use Rattle.hp_word.specs.Texts.{decimal_text_of, octal_text_of, is_digit, is_digits, value_after, digits_value, decimal_number, octal_number, decimal_digits, octal_digits, number}
 
 -- one digit more at the end
-value_after-append : (base n d : ℕ) (ds : List ℕ) → value_after base n (ds ++ d ∷ []) ≡ base * value_after base n ds + (d - 48)
+value_after-append : (base n d : ℕ) (ds : List ℕ)
+    → value_after base n (ds ++ d ∷ []) ≡ base * value_after base n ds + (d - 48)
 unfolding value_after
 value_after-append base n d [] = refl
 value_after-append base n d (e ∷ ds) = value_after-append base (base * n + (e - 48)) d ds
 
 -- digits and one digit more are digits
-list_all-append : (p : ℕ → Bool) (ds : List ℕ) (d : ℕ) → list_all p ds ≡ true → p d ≡ true → list_all p (ds ++ d ∷ []) ≡ true
+list_all-append : (p : ℕ → Bool) (ds : List ℕ) (d : ℕ) → list_all p ds ≡ true → p d ≡ true
+    → list_all p (ds ++ d ∷ []) ≡ true
 list_all-append p [] d all last = rw last refl
 list_all-append p (e ∷ ds) d all last = grind (arith, nat_tests, list_all-append p ds d)
 
@@ -31,6 +33,7 @@ record Spells (n : ℕ) (ds : List ℕ) : Type 0 where
   digits : list_all (is_digit 10) ds ≡ true
   value : digits_value 10 ds ≡ n
 
+-- by induction on the digits
 Spells-decimal : (n : ℕ) → n < 2 ^ 64 → Spells n (decimal n)
 unfolding value_after
 Spells-decimal = decimal_by_steps Spells
@@ -58,12 +61,15 @@ read-digits : (wide : Bool) (n : ℕ) (ds : List ℕ) → Spells n ds → number
 unfolding decimal_digits
 read-digits wide n ds spells = number-digits wide n ds spells ∙ rw (are_digits n ds spells, spells.value) refl
 
-read-minus : (wide : Bool) (n : ℕ) (ds : List ℕ) → Spells n ds → number (45 ∷ ds) wide ≡ decimal_number wide (neg_ℤ (pos n))
+-- after a minus
+read-minus : (wide : Bool) (n : ℕ) (ds : List ℕ) → Spells n ds
+    → number (45 ∷ ds) wide ≡ decimal_number wide (neg_ℤ (pos n))
 unfolding number decimal_digits
 read-minus wide n ds spells = rw (are_digits n ds spells, spells.value) refl
 
 -- the decimal text of a number reads back
-read-decimal_text_of : (wide : Bool) (z : ℤ) → unsigned_abs z < 2 ^ 64 → number (decimal_text_of z) wide ≡ decimal_number wide z
+read-decimal_text_of : (wide : Bool) (z : ℤ) → unsigned_abs z < 2 ^ 64
+    → number (decimal_text_of z) wide ≡ decimal_number wide z
 read-decimal_text_of wide (pos n) small = read-digits wide n (decimal n) (Spells-decimal n small)
 read-decimal_text_of wide (negsuc n) small = read-minus wide (suc n) (decimal (suc n)) (Spells-decimal (suc n) small)
 
@@ -72,14 +78,17 @@ signed-small : (w : ℕ) → w < 65536 → unsigned_abs (signed w) < 2 ^ 64
 unfolding signed
 signed-small w fits = grind (arith, ints, nat_tests)
 
+-- of a word
 signed-in_range : (w : ℕ) → w < 65536 → (int_lt (signed w) (negsuc 32767) || int_lt (pos 65535) (signed w)) ≡ false
 unfolding signed
 signed-in_range w fits = grind (arith, ints, nat_tests)
 
+-- of a double
 signed_double-small : (d : ℕ) → d < 4294967296 → unsigned_abs (signed_double d) < 2 ^ 64
 unfolding signed_double
 signed_double-small d fits = grind (arith, ints, nat_tests)
 
+-- in the range of a double's text
 signed_double-in_range : (d : ℕ) → d < 4294967296
     → (int_lt (signed_double d) (negsuc 2147483647) || int_lt (pos 2147483647) (signed_double d)) ≡ false
 unfolding signed_double
@@ -89,7 +98,8 @@ signed_double-in_range d fits = grind (arith, ints, nat_tests)
 pub number-decimal_text_of : (w : ℕ) → w < 65536 → number (decimal_text_of (signed w)) false ≡ Value w
 unfolding decimal_number
 number-decimal_text_of w fits =
-    read-decimal_text_of false (signed w) (signed-small w fits) ∙ rw (signed-in_range w fits, word_of-signed w fits) refl
+    read-decimal_text_of false (signed w) (signed-small w fits)
+    ∙ rw (signed-in_range w fits, word_of-signed w fits) refl
 
 -- and that of a double as the double
 pub number-decimal_text_of-double : (d : ℕ) → d < 4294967296 → number (decimal_text_of (signed_double d)) true ≡ Value d
@@ -103,7 +113,8 @@ octal_digits-all : (k n : ℕ) → list_all (is_digit 8) (octal_text_of k n) ≡
 unfolding octal_text_of
 octal_digits-all zero n = refl
 octal_digits-all (suc k) n =
-    list_all-append (is_digit 8) (octal_text_of k (n / 8)) (48 + n % 8) (octal_digits-all k (n / 8)) (grind (arith, nat_tests))
+    list_all-append (is_digit 8) (octal_text_of k (n / 8)) (48 + n % 8) (octal_digits-all k (n / 8))
+    (grind (arith, nat_tests))
 
 -- which spell what three bits a digit have room for
 digits_value-octal : (k n : ℕ) → digits_value 8 (octal_text_of k n) ≡ n % 2 ^ (3 * k)

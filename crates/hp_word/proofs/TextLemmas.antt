@@ -43,10 +43,14 @@ length-octal_text_of (suc k) n =
 
 -- also after another text
 pub length-append-octal : (text : List ℕ) (k n : ℕ) → length (text ++ octal_text_of k n) ≡ length text + k
-length-append-octal text k n = length-append text (octal_text_of k n) ∙ ap (λ (m : ℕ). length text + m) (length-octal_text_of k n)
+length-append-octal text k n =
+    length-append text (octal_text_of k n) ∙ ap (λ (m : ℕ). length text + m) (length-octal_text_of k n)
 
+-- what the octal text cites
 pub ruleset octal_counts = (length-append-octal)
 
+-- what the decimal digits cite
 pub ruleset digits_of = (append-tenth, length-tenth, length-decimal-tenth, one_digit)
 
+-- what the decimal text cites
 pub ruleset digit_counts = (length-decimal-short)

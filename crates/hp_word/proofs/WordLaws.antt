@@ -10,6 +10,7 @@ unfolding word_of
 word_of-below (pos n) = omega arith
 word_of-below (negsuc n) = omega arith
 
+-- and modulo 4,294,967,296 a double
 pub double_of-below : (z : ℤ) → double_of z < 4294967296
 unfolding double_of
 double_of-below (pos n) = omega arith
@@ -20,6 +21,7 @@ pub word_of-signed : (w : ℕ) → w < 65536 → word_of (signed w) ≡ w
 unfolding word_of signed
 word_of-signed w fits = grind (arith, ints, nat_tests)
 
+-- and of a double
 pub double_of-signed : (d : ℕ) → d < 4294967296 → double_of (signed_double d) ≡ d
 unfolding double_of signed_double
 double_of-signed d fits = grind (arith, ints, nat_tests)
@@ -30,6 +32,7 @@ unfolding word_of signed is_out_of_word
 signed-word_of (pos n) within = grind (arith, ints, nat_tests)
 signed-word_of (negsuc n) within = grind (arith, ints, nat_tests)
 
+-- in the range of a double
 pub signed-double_of : (z : ℤ) → is_out_of_double z ≡ false → signed_double (double_of z) ≡ z
 unfolding double_of signed_double is_out_of_double
 signed-double_of (pos n) within = grind (arith, ints, nat_tests)

@@ -20,8 +20,7 @@ use Rattle.hp_word.specs.Words.{signed, signed_double}
 use Rattle.hp_word.specs.Bytes.{double, high_word, low_word}
 use Rattle.hp_word.specs.Texts.{decimal_text_of, octal_text_of, number}
 
--- What a call does
-
+-- What a call does, where its bytes are in bounds and there is room for what it prints
 pub record Effect : Type 0 where
   -- the addresses of the bytes that it reads
   pub reads : List ℕ
@@ -40,7 +39,15 @@ pub record Effect : Type 0 where
 
 -- nothing at all; the session goes on
 abbrev pub nothing : Effect
-nothing = record { reads = []; stores = []; prints = []; takes_line = false; answer = []; code = None; ending = Running }
+nothing = record {
+  reads = [];
+  stores = [];
+  prints = [];
+  takes_line = false;
+  answer = [];
+  code = None;
+  ending = Running;
+}
 
 -- `count` addresses from the first one upwards
 unfoldable pub addresses : ℕ → ℕ → List ℕ
@@ -64,11 +71,16 @@ abbrev pub in_unit_of_length : ℤ → ℕ → ℕ
 in_unit_of_length (pos words) count = (count + 1) / 2
 in_unit_of_length (negsuc n) count = count
 
--- PRINT(word array, length, control): prints the bytes of the length, and then a line feed unless the control is %320; CCE
+-- PRINT(word array, length, control): prints the bytes of the length, and then a line feed unless the control is
+-- %320; CCE
 unfoldable pub print_call : (ℕ → ℕ) → ℕ → ℕ → ℕ → Effect
 print_call byte array size control =
     let read = addresses (2 * array) (bytes_of_length (signed size)) in
-    record nothing { reads = read; prints = map byte read ++ (if control == 0o320 then [] else 10 ∷ []); code = Some Equal }
+    record nothing {
+      reads = read;
+      prints = map byte read ++ (if control == 0o320 then [] else 10 ∷ []);
+      code = Some Equal;
+    }
 
 -- READ(word array, length): takes the next line, stores its first bytes, at most those of the length, and answers how
 -- many it stored, in the unit of the length; CCE. With no line left: 0, CCG
@@ -85,7 +97,11 @@ read_call (Some line) array size =
 
 -- stores a text from a byte address upwards and answers how many bytes it stored; CCE
 abbrev pub text_stored : ℕ → List ℕ → Effect
-text_stored array text = record nothing { stores = stored_from array text; answer = length text ∷ []; code = Some Equal }
+text_stored array text = record nothing {
+  stores = stored_from array text;
+  answer = length text ∷ [];
+  code = Some Equal;
+}
 
 -- a base that is neither ten nor eight: 0, CCL
 abbrev pub unknown_base : Effect

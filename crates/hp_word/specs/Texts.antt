@@ -39,17 +39,22 @@ digits_value base digits = value_after base 0 digits
 -- a decimal number: -32,768 to 65,535 for a word, -2,147,483,648 to 2,147,483,647 for a double
 unfoldable pub decimal_number : Bool → ℤ → Number
 decimal_number false z = if int_lt z (neg_ℤ (pos 32768)) || int_lt (pos 65535) z then TooLarge else Value (word_of z)
-decimal_number true z = if int_lt z (neg_ℤ (pos 2147483648)) || int_lt (pos 2147483647) z then TooLarge else Value (double_of z)
+decimal_number true z =
+    if int_lt z (neg_ℤ (pos 2147483648)) || int_lt (pos 2147483647) z then TooLarge else Value (double_of z)
 
 -- an octal number: sixteen bits for a word, thirty-two for a double
 unfoldable pub octal_number : Bool → ℕ → Number
 octal_number false n = if nat_lt 65535 n then TooLarge else Value n
 octal_number true n = if nat_lt 4294967295 n then TooLarge else Value n
 
--- decimal digits, as a number or as its opposite
+-- a number, or minus that number
+abbrev pub with_sign : Bool → ℕ → ℤ
+with_sign negative n = if negative then neg_ℤ (pos n) else pos n
+
+-- decimal digits after a sign
 unfoldable pub decimal_digits : Bool → Bool → List ℕ → Number
-decimal_digits wide false digits = if is_digits 10 digits then decimal_number wide (pos (digits_value 10 digits)) else BadForm
-decimal_digits wide true digits = if is_digits 10 digits then decimal_number wide (neg_ℤ (pos (digits_value 10 digits))) else BadForm
+decimal_digits wide negative digits =
+    if is_digits 10 digits then decimal_number wide (with_sign negative (digits_value 10 digits)) else BadForm
 
 -- octal digits
 unfoldable pub octal_digits : Bool → List ℕ → Number

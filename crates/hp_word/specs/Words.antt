@@ -45,10 +45,11 @@ compared lower upper = if int_lt upper lower then Greater else if int_lt lower u
 abbrev pub code_of : ℤ → Code
 code_of z = compared z (pos 0)
 
--- the code of a word, and of a double: that of the signed number
+-- the code of a word: that of the signed number
 abbrev pub word_code : ℕ → Code
 word_code w = code_of (signed w)
 
+-- the code of a double
 abbrev pub double_code : ℕ → Code
 double_code d = code_of (signed_double d)
 

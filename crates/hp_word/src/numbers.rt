@@ -21,7 +21,7 @@ pub enum Number {
 const CAP: u64 = 4294967296;
 
 /// The number that the digits spell, or `CAP` where it is above; `None` where there are none or another byte.
-#[tactic(auto, using(crate::proofs::NumberLemmas::capped), unfolding(crate::specs::Texts::is_digits, crate::specs::Texts::value_after))]
+#[tactic(auto, unfolding(crate::specs::Texts::is_digits, crate::specs::Texts::value_after))]
 fn value_of_digits(text: &[u8], base: u8) -> Option<u64>
     requires some { 1 ≤ base }
     requires decimal { base ≤ 10 }

@@ -4,6 +4,7 @@ use Rattle.hp_word.specs.Texts.{value_after}
 use Rattle.hp_word.proofs.NumberLemmas.{value_after-capped}
 use Rattle.hp_word.proofs.numbers.value_of_digits.Goals as goal
 
+-- one byte more: a digit, which goes to the value, and the cap may be put on before the others or after
 pub loop-byte-preserved : goal.loop-byte-preserved
 unfolding value_after
 loop-byte-preserved c = record {

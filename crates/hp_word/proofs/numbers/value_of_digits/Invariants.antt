@@ -8,5 +8,6 @@ abbrev pub invariant-loop-byte : goal.invariant-loop-byte
 invariant-loop-byte l = record {
   small : l.value ≤ 4294967296;
   rest : list_all (is_digit l.base) (drop l.byte-index l.text) ≡ list_all (is_digit l.base) l.text;
-  value : min (value_after l.base l.value (drop l.byte-index l.text)) 4294967296 ≡ min (digits_value l.base l.text) 4294967296;
+  value : min (value_after l.base l.value (drop l.byte-index l.text)) 4294967296
+      ≡ min (digits_value l.base l.text) 4294967296;
 }

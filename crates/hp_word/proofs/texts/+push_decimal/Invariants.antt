@@ -1,5 +1,5 @@
 use Rattle.hp_word.proofs.texts.+push_decimal.Given as goal
 
--- proposed from what the function passes where it calls itself
+-- a tenth at each call
 abbrev pub decreases-push_decimal : goal.decreases-push_decimal
 decreases-push_decimal l = l.n
