@@ -1,5 +1,5 @@
 -- Rows of bytes from an address upwards, and when one is in bounds: by its last byte alone.
-use Rattle.std.proofs.Common.{◌≡◌, ℕ, zero, suc, ◌+◌, ◌*◌, ◌/◌, ◌||◌, true, List, [], ◌∷◌, ◌++◌, length, refl, append-nil, ap, arith}
+use Rattle.std.proofs.Common.{◌≡◌, ℕ, zero, suc, ◌+◌, ◌*◌, ◌/◌, ◌||◌, true, List, [], ◌∷◌, length, refl, append-nil, ap, arith}
 use Rattle.std.specs.Prelude.{map, nat_lt, nat_le, ◌==◌}
 use Rattle.std.specs.List.{list_all}
 use Rattle.std.proofs.lemmas.Bool.Decides.{nat_tests}

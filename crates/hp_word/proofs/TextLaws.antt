@@ -73,22 +73,22 @@ read-decimal_text_of : (wide : Bool) (z : ℤ) → unsigned_abs z < 2 ^ 64
 read-decimal_text_of wide (pos n) small = read-digits wide n (decimal n) (Spells-decimal n small)
 read-decimal_text_of wide (negsuc n) small = read-minus wide (suc n) (decimal (suc n)) (Spells-decimal (suc n) small)
 
--- the signed readings are small, and in the ranges of the texts
+-- a word's signed reading is small
 signed-small : (w : ℕ) → w < 65536 → unsigned_abs (signed w) < 2 ^ 64
 unfolding signed
 signed-small w fits = grind (arith, ints, nat_tests)
 
--- of a word
+-- and in the range of a word's text
 signed-in_range : (w : ℕ) → w < 65536 → (int_lt (signed w) (negsuc 32767) || int_lt (pos 65535) (signed w)) ≡ false
 unfolding signed
 signed-in_range w fits = grind (arith, ints, nat_tests)
 
--- of a double
+-- a double's signed reading is small
 signed_double-small : (d : ℕ) → d < 4294967296 → unsigned_abs (signed_double d) < 2 ^ 64
 unfolding signed_double
 signed_double-small d fits = grind (arith, ints, nat_tests)
 
--- in the range of a double's text
+-- and in the range of a double's text
 signed_double-in_range : (d : ℕ) → d < 4294967296
     → (int_lt (signed_double d) (negsuc 2147483647) || int_lt (pos 2147483647) (signed_double d)) ≡ false
 unfolding signed_double
