@@ -1,2 +1,5 @@
 pub mod Words
+pub mod Bits
+pub mod Bytes
 pub mod Texts
+pub mod Intrinsics

@@ -1,72 +1,12 @@
-//! Integer arithmetic on words: two's complement, with an overflow where the exact result has no place in a word.
+//! Integer operations on words: two's complement, with an overflow where the exact result has no place in a word.
+//!
+//! B is the lower operand, A the one on top.
 
-ghost use Rattle.std.specs.Prelude.{◌≡◌, ◌≢◌, ◌≤ℤ◌, pos, negsuc};
-ghost use Rattle.hp_word.specs.Words.{signed, word_of, is_out_of_word, compared, code_of, integer_result, added, subtracted};
+ghost use Rattle.std.specs.Prelude.{◌≡◌, ◌↔◌, IsNone};
+ghost use Rattle.hp_word.specs.Words.{added, subtracted, multiplied, negated, divided, words_compared, word_code};
 
-use crate::arithmetic::{Arith, Code};
-
-/// The word read with its sign.
-#[inline]
-#[tactic(auto, unfolding(crate::specs::Words::signed))]
-pub(crate) fn signed_of(w: u16) -> i32
-    ensures value { result ≡ signed w }
-    ensures low { negsuc 32767 ≤ℤ result }
-    ensures high { result ≤ℤ pos 32767 }
-{
-    if w < 32768 {
-        w as i32
-    } else {
-        w as i32 - 65536
-    }
-}
-
-/// The number modulo 65,536.
-#[inline]
-#[tactic(auto, unfolding(crate::specs::Words::word_of))]
-fn modulo_word(z: i32) -> u16
-    ensures { result ≡ word_of z }
-{
-    z.rem_euclid(65536) as u16
-}
-
-/// Whether the number has no place in a signed word.
-#[inline]
-#[tactic(auto, unfolding(crate::specs::Words::is_out_of_word))]
-fn is_out(z: i32) -> bool
-    ensures { result ≡ is_out_of_word z }
-{
-    z < -32768 || z > 32767
-}
-
-/// The condition code of the lower operand against the upper.
-#[inline]
-#[tactic(auto, unfolding(crate::specs::Words::compared))]
-fn code_against(lower: i32, upper: i32) -> Code
-    ensures { result ≡ compared lower upper }
-{
-    if lower > upper {
-        Code::Greater
-    } else if lower < upper {
-        Code::Less
-    } else {
-        Code::Equal
-    }
-}
-
-/// What an integer operation leaves that has this exact result and this carry.
-#[inline]
-#[tactic(auto, unfolding(crate::specs::Words::integer_result))]
-fn integer(exact: i32, carry: bool) -> Arith
-    ensures { result ≡ integer_result exact carry }
-{
-    let value = modulo_word(exact);
-    Arith {
-        value,
-        carry,
-        overflow: is_out(exact),
-        code: code_against(signed_of(value), 0),
-    }
-}
+use crate::arithmetic::{Arith, Code, Quotient};
+use crate::exact::{code_against, integer, is_out, modulo_word, signed_of};
 
 /// B plus A.
 #[inline]
@@ -85,4 +25,53 @@ pub fn sub(b: u16, a: u16) -> Arith
     ensures { result ≡ subtracted b a }
 {
     integer(signed_of(b) - signed_of(a), b >= a)
+}
+
+/// B times A.
+#[inline]
+#[tactic(auto, unfolding(crate::specs::Words::multiplied))]
+pub fn mpy(b: u16, a: u16) -> Arith
+    ensures { result ≡ multiplied b a }
+{
+    integer(signed_of(b) * signed_of(a), false)
+}
+
+/// Minus A. Of all words only 32,768 overflows.
+#[inline]
+#[tactic(auto, unfolding(crate::specs::Words::negated))]
+pub fn neg(a: u16) -> Arith
+    ensures { result ≡ negated a }
+{
+    integer(-signed_of(a), false)
+}
+
+/// B by A, rounded toward zero, and the remainder, which has the sign of B; `None` exactly where A is zero.
+///
+/// Only 32,768 by 65,535, which is -32,768 by -1, overflows.
+#[inline]
+#[tactic(auto, unfolding(crate::specs::Words::divided))]
+pub fn div(b: u16, a: u16) -> Option<Quotient>
+    ensures value { result ≡ divided b a }
+    ensures zero_divisor { IsNone result ↔ (a ≡ 0) }
+{
+    if a == 0 {
+        return None;
+    }
+    let quotient = signed_of(b) / signed_of(a);
+    let remainder = signed_of(b) % signed_of(a);
+    Some(Quotient {
+        quotient: modulo_word(quotient),
+        remainder: modulo_word(remainder),
+        overflow: is_out(quotient),
+    })
+}
+
+/// The condition code of B against A, both signed; against zero that of the word B.
+#[inline]
+#[tactic(auto, unfolding(crate::specs::Words::signed))]
+pub fn cmp(b: u16, a: u16) -> Code
+    ensures value { result ≡ words_compared b a }
+    ensures zero { a ≡ 0 → result ≡ word_code b }
+{
+    code_against(signed_of(b) as i64, signed_of(a) as i64)
 }

@@ -3,7 +3,7 @@
 ghost use Rattle.std.specs.Prelude.{◌≡◌, ◌+◌, ◌≤◌, ◌<◌, [], ◌∷◌, ◌++◌, length};
 ghost use Rattle.std.specs.Fmt.{decimal};
 ghost use Rattle.arrayvec.specs.ArrayVec.{array_vec_len};
-ghost use Rattle.hp_word.specs.Texts.{decimal_text_of};
+ghost use Rattle.hp_word.specs.Texts.{decimal_text_of, octal_text_of};
 
 use arrayvec::ArrayVec;
 
@@ -40,5 +40,27 @@ pub fn decimal_text(v: i32) -> ArrayVec<u8, 11>
         text.push(b'-');
     }
     push_decimal(&mut text, v.unsigned_abs());
+    text
+}
+
+/// Appends the last `digits` octal digits of the number.
+#[tactic(auto, using(crate::proofs::TextLemmas::octal_counts), unfolding(crate::specs::Texts::octal_text_of))]
+fn push_octal(text: &mut ArrayVec<u8, 11>, v: u32, digits: u8)
+    requires room { array_vec_len text.old + digits ≤ 11 }
+    ensures items { text.new.items ≡ text.old.items ++ octal_text_of digits v }
+{
+    if digits > 0 {
+        push_octal(text, v / 8, digits - 1);
+        push_digit(text, (v % 8) as u8);
+    }
+}
+
+/// The last `digits` octal digits of the number, at most eleven, leading zeros too.
+pub fn octal_text(v: u32, digits: u8) -> ArrayVec<u8, 11>
+    requires { digits ≤ 11 }
+    ensures { result.items ≡ octal_text_of digits v }
+{
+    let mut text = ArrayVec::new();
+    push_octal(&mut text, v, digits);
     text
 }
