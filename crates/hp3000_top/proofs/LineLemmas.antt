@@ -1,5 +1,5 @@
 -- Lines read one by one.
-use Rattle.std.proofs.Common.{◌≡◌, ℕ, suc, ◌+◌, ◌<◌, ◌≤◌, List, [], ◌∷◌, length, get_or, drop, map, Option, None, Some, refl, sym, ap, ◌∙◌, add-one}
+use Rattle.std.proofs.Common.{◌≡◌, ℕ, zero, suc, arith, ◌+◌, ◌<◌, ◌≤◌, List, [], ◌∷◌, length, get_or, drop, map, Option, None, Some, refl, sym, ap, ◌∙◌, add-one}
 use Rattle.std.specs.Prelude.{option_and_then}
 use Rattle.std.specs.Borrow.{Bor}
 use Rattle.std.proofs.Math.Seq.{drop-cons}
@@ -35,3 +35,9 @@ none_left s = refl
 
 pub lines_end : (xs : List (Bor (List ℕ))) (i : ℕ) (s : State) → length xs ≤ i → fed_all (map (λ l. l.now) (drop i xs)) s ≡ Some s
 lines_end xs i s h = rw (drop_all i xs h) (none_left s)
+
+-- the item at an index is there whatever would stand past the end
+pub any_item : {X : Type 0} (xs : List X) (i : ℕ) (d : X) → i < length xs → get_or xs i d ≡ get_or xs i (get_or xs i d)
+any_item [] i d h = absurd (omega arith)
+any_item (x ∷ xs) zero d h = refl
+any_item (x ∷ xs) (suc i) d h = any_item xs i d (omega arith)
