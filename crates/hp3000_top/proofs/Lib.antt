@@ -4,3 +4,4 @@ pub mod TextLemmas
 pub mod GivesLemmas
 pub mod JobLemmas
 pub mod LineLemmas
+pub mod CodeLemmas

@@ -5,9 +5,11 @@ pub mod ThinReading
 pub mod ThinTexts
 pub mod ThinJobs
 pub mod ThinTrees
+pub mod ThinCode
 pub mod TokenViews
 pub mod PieceViews
 pub mod CommandViews
+pub mod OperandViews
 pub mod JobViews
 pub mod ThinViews
 pub mod UnitViews

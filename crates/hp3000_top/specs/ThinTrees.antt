@@ -32,11 +32,10 @@ atom_of _ = u.no_atom
 abbrev pub operation : ℕ → u.Sum → u.Atom → u.Sum
 operation op s a = if op == 11 then u.plus s a else if op == 12 then u.minus s a else u.no_sum
 
+-- a tree as a sum: any other tree is one operand
 abbrev pub sum_of : e.Expr → u.Sum
 sum_of (e.Binary' op p l q r at) = operation op (sum_of l) (atom_of r)
-sum_of (e.Number n) = u.one (u.constant n)
-sum_of (e.Named' name shape row at) = u.one (plain_variable name row)
-sum_of _ = u.no_sum
+sum_of x = u.one (atom_of x)
 
 -- an assignment to a plain variable
 abbrev pub plain_assignment : Name → Option (Box e.Expr Global) → u.Sum → u.Statement

@@ -3,6 +3,7 @@
 
 mod names;
 mod reserved;
+mod thin_code;
 mod thin_job;
 mod thin_lines;
 mod thin_reader;

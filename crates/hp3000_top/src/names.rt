@@ -23,7 +23,7 @@ pub fn is_word(name: &Name, word: &[u8]) -> bool
 }
 
 /// The item has the name.
-fn is_named(item: &Item, name: &[u8]) -> bool
+pub fn is_named(item: &Item, name: &[u8]) -> bool
     ensures { result ≡ same_name item.now.name.text.items name.now }
 {
     same(item.name.text.as_slice(), name)

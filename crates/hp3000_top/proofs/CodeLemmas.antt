@@ -1,0 +1,62 @@
+-- The code of a tree, part by part.
+use Rattle.std.proofs.Common.{◌≡◌, ℕ, suc, ◌+◌, ◌<◌, ◌≤◌, Bool, true, false, List, [], ◌∷◌, ◌++◌, length, get_or, drop, map, refl, sym, ap, ◌∙◌, arith, add-one, append_assoc, append-nil}
+use Rattle.std.specs.Prelude.{if◌then◌else◌}
+use Rattle.spl_tree.specs.declared.declarations.Item.{Item}
+use Rattle.hp3000_top.specs.ThinUnits as u
+use Rattle.hp3000_top.specs.ThinTrees.{names_of}
+use Rattle.hp3000_top.specs.ThinCode.{place, sum_words, atom_words}
+use Rattle.std.proofs.Math.Seq.{drop-cons}
+use Rattle.std.proofs.lemmas.List.{drop_all}
+
+front : {X : Type 0} (xs : List X) (i : ℕ) (x : X) → i < length xs → x ≡ get_or xs i x → drop i xs ≡ x ∷ drop (i + 1) xs
+front xs i x lt is = drop-cons xs i x lt ∙ ap (λ y. y ∷ drop (suc i) xs) (sym is) ∙ rw add-one refl
+
+-- the variable is found at the front of those left
+pub place_found : (xs : List Item) (i : ℕ) (x : Item) (name : List ℕ) → i < length xs → x ≡ get_or xs i x → u.same_name x.name.text.items name ≡ true
+    → place (names_of (drop i xs)) name ≡ 0
+place_found xs i x name lt is h = rw (front xs i x lt is, h) refl
+
+-- or it stands behind
+pub place_behind : (xs : List Item) (i : ℕ) (x : Item) (name : List ℕ) → i < length xs → x ≡ get_or xs i x → u.same_name x.name.text.items name ≡ false
+    → place (names_of (drop i xs)) name ≡ place (names_of (drop (i + 1) xs)) name + 1
+place_behind xs i x name lt is h = rw (front xs i x lt is, h) refl
+
+-- or nowhere
+pub place_nowhere : (xs : List Item) (i : ℕ) (name : List ℕ) → length xs ≤ i → place (names_of (drop i xs)) name ≡ 0
+place_nowhere xs i name h = rw (drop_all i xs h) refl
+
+pub ruleset place_steps = (place_found, place_behind, place_nowhere)
+
+-- the code of a sum by what it ends with
+pub words_plus : (names : List (List ℕ)) (whole s : u.Sum) (a : u.Atom) → whole ≡ u.plus s a → sum_words names whole ≡ sum_words names s ++ atom_words names a ++ 0o002000 ∷ []
+unfolding sum_words
+words_plus names whole s a h = rw h refl
+
+pub words_minus : (names : List (List ℕ)) (whole s : u.Sum) (a : u.Atom) → whole ≡ u.minus s a → sum_words names whole ≡ sum_words names s ++ atom_words names a ++ 0o002100 ∷ []
+unfolding sum_words
+words_minus names whole s a h = rw h refl
+
+pub words_one : (names : List (List ℕ)) (whole : u.Sum) (a : u.Atom) → whole ≡ u.one a → sum_words names whole ≡ atom_words names a
+unfolding sum_words
+words_one names whole a h = rw h refl
+
+pub words_none : (names : List (List ℕ)) (whole : u.Sum) → whole ≡ u.no_sum → sum_words names whole ≡ []
+unfolding sum_words
+words_none names whole h = rw h refl
+
+-- a sum has more atoms than what stands before its last operator
+pub fewer_plus : (whole s : u.Sum) (a : u.Atom) → whole ≡ u.plus s a → u.atom_count s < u.atom_count whole
+fewer_plus whole s a h = rw h (omega arith)
+
+pub fewer_minus : (whole s : u.Sum) (a : u.Atom) → whole ≡ u.minus s a → u.atom_count s < u.atom_count whole
+fewer_minus whole s a h = rw h (omega arith)
+
+pub ruleset sums = (words_plus, words_minus, words_one, words_none, fewer_plus, fewer_minus)
+
+-- three parts appended one after another
+pub appended : (code0 code1 code2 code3 s a w whole : List ℕ) → code1 ≡ code0 ++ s → code2 ≡ code1 ++ a → code3 ≡ code2 ++ w → whole ≡ s ++ a ++ w → code3 ≡ code0 ++ whole
+appended code0 code1 code2 code3 s a w whole h1 h2 h3 h = simp (h3, h2, h1, h, append_assoc)
+
+-- nothing is appended
+pub none_appended : (code whole : List ℕ) → whole ≡ [] → code ≡ code ++ whole
+none_appended code whole h = simp (h, append-nil)

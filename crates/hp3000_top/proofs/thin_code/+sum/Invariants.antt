@@ -1,0 +1,7 @@
+use Rattle.hp3000_top.specs.ThinUnits.{atom_count}
+use Rattle.hp3000_top.specs.ThinTrees.{sum_of}
+use Rattle.hp3000_top.proofs.thin_code.+sum.Given as goal
+
+-- a sum has more operands than what stands before its last operator
+abbrev pub decreases-sum : goal.decreases-sum
+decreases-sum l = atom_count (sum_of l.expr.now)
