@@ -2,9 +2,10 @@
 use Rattle.std.proofs.Common.{◌≡◌, ℕ, suc, ◌+◌, ◌<◌, ◌≤◌, Bool, true, false, List, [], ◌∷◌, ◌++◌, length, get_or, drop, map, refl, sym, ap, ◌∙◌, arith, add-one, append_assoc, append-nil}
 use Rattle.std.specs.Prelude.{if◌then◌else◌}
 use Rattle.spl_tree.specs.declared.declarations.Item.{Item}
+use Rattle.spl_tree.specs.declared.statements.Stmt.{Stmt}
 use Rattle.hp3000_top.specs.ThinUnits as u
-use Rattle.hp3000_top.specs.ThinTrees.{names_of}
-use Rattle.hp3000_top.specs.ThinCode.{place, sum_words, atom_words}
+use Rattle.hp3000_top.specs.ThinTrees.{names_of, statement_of, statements_of}
+use Rattle.hp3000_top.specs.ThinCode.{Entries, place, sum_words, atom_words, statement_words, statements_words}
 use Rattle.std.proofs.Math.Seq.{drop-cons}
 use Rattle.std.proofs.lemmas.List.{drop_all}
 
@@ -60,3 +61,44 @@ appended code0 code1 code2 code3 s a w whole h1 h2 h3 h = simp (h3, h2, h1, h, a
 -- nothing is appended
 pub none_appended : (code whole : List ℕ) → whole ≡ [] → code ≡ code ++ whole
 none_appended code whole h = simp (h, append-nil)
+
+-- the code of a statement by what it does
+pub words_assign : (names : List (List ℕ)) (e : Entries) (st : u.Statement) (name : List ℕ) (s : u.Sum) → u.assign name s ≡ st → statement_words names e st ≡ sum_words names s ++ (0o051000 + place names name) ∷ []
+unfolding statement_words
+words_assign names e st name s h = rw (← h) refl
+
+pub words_quit : (names : List (List ℕ)) (e : Entries) (st : u.Statement) (s : u.Sum) → u.quit s ≡ st → statement_words names e st ≡ sum_words names s ++ (0o030000 + e.quit) ∷ []
+unfolding statement_words
+words_quit names e st s h = rw (← h) refl
+
+pub words_terminate : (names : List (List ℕ)) (e : Entries) (st : u.Statement) → u.terminate ≡ st → statement_words names e st ≡ (0o030000 + e.terminate) ∷ []
+unfolding statement_words
+words_terminate names e st h = rw (← h) refl
+
+pub words_no_statement : (names : List (List ℕ)) (e : Entries) (st : u.Statement) → u.no_statement ≡ st → statement_words names e st ≡ []
+unfolding statement_words
+words_no_statement names e st h = rw (← h) refl
+
+pub ruleset statement_parts = (words_assign, words_quit, words_terminate, words_no_statement)
+
+-- two parts appended one after another
+pub appended_two : (code0 code1 code2 s w whole : List ℕ) → code1 ≡ code0 ++ s → code2 ≡ code1 ++ w → whole ≡ s ++ w → code2 ≡ code0 ++ whole
+appended_two code0 code1 code2 s w whole h1 h2 h = simp (h2, h1, h, append_assoc)
+
+-- one statement more
+all_turn : (names : List (List ℕ)) (e : Entries) (st : u.Statement) (sts : List u.Statement) → statements_words names e (st ∷ sts) ≡ statement_words names e st ++ statements_words names e sts
+unfolding statements_words
+all_turn names e st sts = refl
+
+all_none : (names : List (List ℕ)) (e : Entries) → statements_words names e [] ≡ []
+unfolding statements_words
+all_none names e = refl
+
+pub all_more : (names : List (List ℕ)) (e : Entries) (xs : List Stmt) (i : ℕ) (x : Stmt) (code new : List ℕ) → i < length xs → x ≡ get_or xs i x → new ≡ code ++ statement_words names e (statement_of x)
+    → new ++ statements_words names e (statements_of (drop (i + 1) xs)) ≡ code ++ statements_words names e (statements_of (drop i xs))
+all_more names e xs i x code new lt is h = rw (front xs i x lt is, h) (append_assoc code (statement_words names e (statement_of x)) (statements_words names e (statements_of (drop (i + 1) xs))) ∙ ap (λ (l : List ℕ). code ++ l) (sym (all_turn names e (statement_of x) (statements_of (drop (i + 1) xs)))))
+
+pub all_end : (names : List (List ℕ)) (e : Entries) (xs : List Stmt) (i : ℕ) (code : List ℕ) → length xs ≤ i → code ++ statements_words names e (statements_of (drop i xs)) ≡ code
+all_end names e xs i code h = rw (drop_all i xs h, all_none names e) (append-nil code)
+
+pub ruleset statement_steps = (all_more, all_end)

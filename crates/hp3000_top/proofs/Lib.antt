@@ -5,3 +5,4 @@ pub mod GivesLemmas
 pub mod JobLemmas
 pub mod LineLemmas
 pub mod CodeLemmas
+pub mod CallLemmas

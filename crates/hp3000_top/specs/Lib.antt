@@ -10,6 +10,7 @@ pub mod TokenViews
 pub mod PieceViews
 pub mod CommandViews
 pub mod OperandViews
+pub mod StepViews
 pub mod JobViews
 pub mod ThinViews
 pub mod UnitViews

@@ -40,6 +40,12 @@ unfoldable pub statements_words : List (List ℕ) → Entries → List u.Stateme
 statements_words names entries [] = []
 statements_words names entries (st ∷ sts) = statement_words names entries st ++ statements_words names entries sts
 
+-- the call that a statement is: true for QUIT, false for TERMINATE
+abbrev pub call_kind : u.Statement → Option Bool
+call_kind (u.quit s) = Some true
+call_kind u.terminate = Some false
+call_kind _ = None
+
 -- the first call is one of QUIT
 abbrev pub quits_first : List u.Statement → Bool
 quits_first [] = false
@@ -93,6 +99,10 @@ statement_nodes (u.assign name s) = 3 + sum_nodes s
 statement_nodes (u.quit s) = 1 + sum_nodes s
 statement_nodes u.terminate = 1
 statement_nodes u.no_statement = 0
+
+-- a number less another, where it is at least that
+abbrev pub spent : ℕ → ℕ → Option ℕ
+spent budget n = if nat_le n budget then Some (budget - n) else None
 
 abbrev pub nodes : List u.Statement → ℕ
 nodes [] = 0

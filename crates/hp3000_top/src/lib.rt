@@ -7,6 +7,7 @@ mod thin_code;
 mod thin_job;
 mod thin_lines;
 mod thin_reader;
+mod thin_statements;
 mod thin_tokens;
 mod thin_unit;
 mod unread;

@@ -28,24 +28,9 @@ const ADD: u16 = 0o002000;
 /// SUB and NOP.
 const SUBTRACT: u16 = 0o002100;
 
-/// STOR DB+.
-const STORE: u16 = 0o051000;
-
-/// PCAL.
-const CALL: u16 = 0o030000;
-
-/// ROOM.
-const ROOM: u16 = 0o033000;
-
-/// The label of TERMINATE.
-const TERMINATE: u16 = 0o103777;
-
-/// The label of QUIT.
-const QUIT: u16 = 0o104377;
-
 /// The word of a variable.
 #[tactic(auto, using(crate::proofs::CodeLemmas::place_steps))]
-fn place_in(items: &[Item], name: &[u8]) -> usize
+pub fn place_in(items: &[Item], name: &[u8]) -> usize
     ensures value { result ≡ place (names_of items.now) name.now }
     ensures within { result ≤ length items.now }
 {
@@ -59,7 +44,7 @@ fn place_in(items: &[Item], name: &[u8]) -> usize
 
 /// What an operand is.
 #[derive(Clone, Copy)]
-enum Operand<'a> {
+pub enum Operand<'a> {
     Number(u16),
     Variable(&'a Name),
     Other,
@@ -99,7 +84,7 @@ fn atom(code: &mut Vec<u16>, items: &[Item], expr: &Expr) -> Result<(), AllocErr
 
 /// What a sum ends with.
 #[derive(Clone, Copy)]
-enum Last<'a> {
+pub enum Last<'a> {
     Plus(&'a Expr, &'a Expr),
     Minus(&'a Expr, &'a Expr),
     Lone,
@@ -107,7 +92,7 @@ enum Last<'a> {
 }
 
 /// The last operator of a sum, with its operands.
-fn last_of(expr: &Expr) -> Last<'_>
+pub fn last_of(expr: &Expr) -> Last<'_>
     ensures { EndsWith result expr.now }
 {
     match expr {
@@ -124,7 +109,7 @@ fn last_of(expr: &Expr) -> Last<'_>
 
 /// A sum is pushed.
 #[tactic(auto, using(crate::proofs::CodeLemmas::sums))]
-fn sum(code: &mut Vec<u16>, items: &[Item], expr: &Expr) -> Result<(), AllocError>
+pub fn sum(code: &mut Vec<u16>, items: &[Item], expr: &Expr) -> Result<(), AllocError>
     requires { length items.now ≤ 256 }
     ensures { OnOk result (code.new.items ≡ code.old.items ++ sum_words (names_of items.now) (sum_of expr.now)) }
 {

@@ -1,0 +1,18 @@
+-- What the compiler tells apart in statements.
+use Rattle.hp3000_top.specs.declared.thin_statements.Step.{Step}
+use Rattle.hp3000_top.specs.declared.thin_statements.Step.TheVariants as s
+use Rattle.hp3000_top.specs.declared.thin_statements.First.{First}
+use Rattle.hp3000_top.specs.declared.thin_statements.First.TheVariants as f
+use Rattle.hp3000_top.specs.ThinTrees.{sum_of}
+use Rattle.hp3000_top.specs.ThinUnits as u
+use Rattle.hp3000_top.specs.ThinCode as c
+
+abbrev pub step_view : Step → u.Statement
+step_view (s.Assign name value) = u.assign name.now.text.items (sum_of value.now)
+step_view (s.Quit number) = u.quit (sum_of number.now)
+step_view s.Terminate = u.terminate
+step_view s.Other = u.no_statement
+
+abbrev pub entries_view : First → c.Entries
+entries_view f.Quit = record { quit = 2; terminate = 3 }
+entries_view f.Terminate = record { quit = 3; terminate = 2 }
