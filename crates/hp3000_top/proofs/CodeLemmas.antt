@@ -102,3 +102,7 @@ pub all_end : (names : List (List ℕ)) (e : Entries) (xs : List Stmt) (i : ℕ)
 all_end names e xs i code h = rw (drop_all i xs h, all_none names e) (append-nil code)
 
 pub ruleset statement_steps = (all_more, all_end)
+
+-- the parts of a segment one after another
+pub segment_parts : (c0 c1 c2 c3 c4 body tab : List ℕ) (room call : ℕ) → c0 ≡ [] → c1 ≡ c0 ++ room ∷ [] → c2 ≡ c1 ++ body → c3 ≡ c2 ++ call ∷ [] → c4 ≡ c3 ++ tab → c4 ≡ room ∷ (body ++ call ∷ tab)
+segment_parts c0 c1 c2 c3 c4 body tab room call h0 h1 h2 h3 h4 = simp (h4, h3, h2, h1, h0, append_assoc)

@@ -6,3 +6,6 @@ pub mod JobLemmas
 pub mod LineLemmas
 pub mod CodeLemmas
 pub mod CallLemmas
+pub mod NodeLemmas
+pub mod ProgramLemmas
+pub mod RunLemmas

@@ -14,3 +14,5 @@ pub mod StepViews
 pub mod JobViews
 pub mod ThinViews
 pub mod UnitViews
+pub mod ProgramViews
+pub mod Runs

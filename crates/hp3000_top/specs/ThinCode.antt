@@ -66,11 +66,13 @@ abbrev pub entries_of : List u.Statement → Entries
 entries_of sts = if quits_first sts then record { quit = 2; terminate = 3 } else record { quit = 3; terminate = 2 }
 
 -- the table at the segment's end: the labels from the last entry to the first, which is the main body at offset 0, and
--- their number. The label of an intrinsic has bit 0 on, its number in bits 1 to 7 and 255 in bits 8 to 15
+-- their number, where QUIT is called first, or somewhere. The label of an intrinsic has bit 0 on, its number in bits 1 to 7 and 255 in bits 8 to 15
+abbrev pub table : Bool → Bool → List ℕ
+table first some =
+    if first then 0o103777 ∷ 0o104377 ∷ 0 ∷ 3 ∷ [] else if some then 0o104377 ∷ 0o103777 ∷ 0 ∷ 3 ∷ [] else 0o103777 ∷ 0 ∷ 2 ∷ []
+
 abbrev pub table_of : List u.Statement → List ℕ
-table_of sts =
-    if quits_first sts then 0o103777 ∷ 0o104377 ∷ 0 ∷ 3 ∷ [] else
-    if quits sts then 0o104377 ∷ 0o103777 ∷ 0 ∷ 3 ∷ [] else 0o103777 ∷ 0 ∷ 2 ∷ []
+table_of sts = table (quits_first sts) (quits sts)
 
 -- a sum with more than one operand
 abbrev pub is_long : u.Sum → Bool
@@ -113,15 +115,10 @@ abbrev pub bound_of : List u.Statement → ℕ
 bound_of sts = 24 * (1 + nodes sts) + length (table_of sts)
 
 -- the words of the segment: ROOM, the statements, a last call of TERMINATE, and the table
-unfoldable pub segment_of : u.Unit → List ℕ
-segment_of unit =
-    let entries = entries_of unit.statements in
-    (0o033000 + depth_of unit.statements) ∷ (statements_words unit.names entries unit.statements ++ (0o030000 + entries.terminate) ∷ table_of unit.statements)
+unfoldable pub segment_words : List (List ℕ) → List u.Statement → List ℕ
+segment_words names sts =
+    (0o033000 + depth_of sts) ∷ (statements_words names (entries_of sts) sts ++ (0o030000 + (entries_of sts).terminate) ∷ table_of sts)
 
 -- there is a segment: its bound is at most 16,383, and the variables are at most 256
 unfoldable pub is_in_bounds : u.Unit → Bool
 is_in_bounds unit = nat_le (bound_of unit.statements) 16383 && nat_le (length unit.names) 256
-
--- the data words: one for each variable, zero at first
-abbrev pub globals_of : u.Unit → List ℕ
-globals_of unit = replicate (length unit.names) 0

@@ -1,5 +1,5 @@
 -- The thin unit that a tree is. Whatever a tree has beyond a thin unit is seen as `no_statement`, `no_sum` or `no_atom`.
-use Rattle.std.specs.Prelude.{ℕ, ◌==◌, ◌&&◌, Bool, true, false, not, List, [], ◌∷◌, map, Option, None, Some, Box, codes, if◌then◌else◌}
+use Rattle.std.specs.Prelude.{ℕ, ◌==◌, ◌&&◌, Bool, true, false, not, List, [], ◌∷◌, map, Option, None, Some, option_and_then, slice_get, Box, codes, if◌then◌else◌}
 use Rattle.std.specs.Global.{Global}
 use Rattle.spl_tree.specs.declared.expressions.Expr as e
 use Rattle.spl_tree.specs.declared.expressions.Ref.{Ref}
@@ -75,11 +75,24 @@ abbrev pub is_integer : Kind → Bool
 is_integer k.Integer = true
 is_integer _ = false
 
--- the declarations of a thin unit: plain integer variables, and intrinsics
+-- the variables of a declaration of integers
+abbrev pub variables_of : d.Decl → Option (List (List ℕ))
+variables_of (d.Data own kind items) = if not own && is_integer kind then Some (names_of items.items) else None
+variables_of _ = None
+
+-- the intrinsics of a declaration of these
+abbrev pub intrinsics_of : d.Decl → Option (List u.Gate)
+intrinsics_of (d.Intrinsic gates) = Some (gates_of gates.items)
+intrinsics_of _ = None
+
+-- the thin unit of these declarations: its variables in the first, its intrinsics in the second
+abbrev pub declared_unit : Option (List (List ℕ)) → Option (List u.Gate) → List u.Statement → Option u.Unit
+declared_unit (Some names) (Some gates) statements = Some (record { names = names; gates = gates; statements = statements })
+declared_unit _ _ statements = None
+
 abbrev pub with_declarations : List d.Decl → List u.Statement → Option u.Unit
-with_declarations (d.Data own kind items ∷ d.Intrinsic gates ∷ []) statements =
-    if not own && is_integer kind then Some (record { names = names_of items.items; gates = gates_of gates.items; statements = statements }) else None
-with_declarations _ statements = None
+with_declarations decls statements =
+    declared_unit (option_and_then variables_of (slice_get decls 0)) (option_and_then intrinsics_of (slice_get decls 1)) statements
 
 -- the thin unit that a tree is
 unfoldable pub thin_of : SplUnit → Option u.Unit

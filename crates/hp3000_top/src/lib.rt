@@ -3,9 +3,11 @@
 
 mod names;
 mod reserved;
+mod session;
 mod thin_code;
 mod thin_job;
 mod thin_lines;
+mod thin_program;
 mod thin_reader;
 mod thin_statements;
 mod thin_tokens;

@@ -24,7 +24,7 @@ fn signed_word(w: u16) -> i16
 }
 
 /// The label is an intrinsic's.
-fn gate(label: u16) -> bool
+pub(crate) fn gate(label: u16) -> bool
     ensures { result ≡ is_gate label }
 {
     label / 32768 == 1 && label % 256 == 255

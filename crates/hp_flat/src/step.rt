@@ -1,16 +1,19 @@
 //! One step: the word at P is fetched, and its row decides.
-ghost use Rattle.std.specs.Prelude.{◌≡◌, ◌<◌, length};
+ghost use Rattle.std.specs.Prelude.{◌≡◌, ◌<◌, ◌≤◌, ◌⊎◌, length, Some, false};
+ghost use Rattle.std.specs.Bool.{OnTrue, OnFalse};
 ghost use Rattle.hp_word.specs.declared.endings.Ending.TheVariants.{Running};
 ghost use Rattle.hp_flat.specs.State.{Does, Outcome, passed, passing, at_place, displaced};
 ghost use Rattle.hp_flat.specs.StackRows.{binary};
-ghost use Rattle.hp_flat.specs.MemoryRows.{branched};
-ghost use Rattle.hp_flat.specs.Step.{operated, row, outcome, step, IsBuilt};
+ghost use Rattle.hp_flat.specs.MemoryRows.{branched, code_word};
+ghost use Rattle.hp_flat.specs.Step.{operated, row, outcome, step, is_built_word, IsBuilt};
 ghost use Rattle.hp_flat.specs.Views.{segments_of};
 
+use crate::call_rows::{current_words, gate};
 use crate::flat::Flat;
 use crate::instructions::{Instruction, decode};
 use crate::memory_rows::{displacement, fetch};
 use crate::program::Program;
+use crate::valid::label_word;
 use hp_word::{Ending, Trap};
 
 impl Flat {
@@ -75,6 +78,36 @@ impl Flat {
         match fetch(program, self.regs.seg, self.regs.p) {
             None => Err(Trap::CodeBounds),
             Some(word) => self.row(program, decode(word)),
+        }
+    }
+
+    /// The word is one whose row is written.
+    #[tactic(auto, unfolding(crate::specs::MemoryRows::code_word))]
+    fn built(&self, program: &Program, word: u16) -> bool
+        ensures { result ≡ is_built_word (segments_of program.now) self.now (Some word) }
+    {
+        match decode(word) {
+            Instruction::Other => false,
+            Instruction::Call(n) => {
+                let label = label_word(current_words(program, self.regs.seg), n as u16);
+                gate(label) && (label / 256 % 128 == 7 || label / 256 % 128 == 8)
+            }
+            _ => true,
+        }
+    }
+
+    /// The test for a step: the current segment is one of the program's, and the row of the word at P is written.
+    pub fn can_step(&self, program: &Program) -> bool
+        ensures segment { OnTrue result (self.now.regs.seg < length (segments_of program.now)) }
+        ensures built { OnTrue result (IsBuilt (segments_of program.now) self.now) }
+        ensures refused { OnFalse result ((length (segments_of program.now) ≤ self.now.regs.seg) ⊎ (is_built_word (segments_of program.now) self.now (code_word (segments_of program.now) self.now.regs.seg self.now.regs.p) ≡ false)) }
+    {
+        if self.regs.seg as usize >= program.segments.len() {
+            return false;
+        }
+        match fetch(program, self.regs.seg, self.regs.p) {
+            None => true,
+            Some(word) => self.built(program, word),
         }
     }
 

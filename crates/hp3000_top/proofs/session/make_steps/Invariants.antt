@@ -1,0 +1,11 @@
+use Rattle.std.proofs.Common.{◌≡◌}
+use Rattle.hp_flat.specs.Step.{after}
+use Rattle.hp_flat.specs.Views.{segments_of}
+use Rattle.hp3000_top.proofs.session.make_steps.Given as goal
+
+-- the steps left lead from here to where all lead
+abbrev pub invariant-loop-left : goal.invariant-loop-left
+invariant-loop-left l = after (segments_of l.program) l.left l.flat ≡ after (segments_of l.program) l.fn.steps l.fn.flat
+
+abbrev pub decreases-loop-left : goal.decreases-loop-left
+decreases-loop-left l = l.left

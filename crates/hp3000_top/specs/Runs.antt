@@ -1,0 +1,20 @@
+-- A session of a thin job, run to the end of the job's turns.
+use Rattle.std.specs.Prelude.{ℕ, ◌*◌, []}
+use Rattle.hp_flat.specs.declared.program.Program.{Program}
+use Rattle.hp_flat.specs.State.{Machine}
+use Rattle.hp_flat.specs.Step.{after}
+use Rattle.hp_flat.specs.Views.{segments_of, opened_of}
+
+-- the words of a session's stack, its room for printed bytes, and the turns of a job, where the job sets none
+abbrev pub stack_words : ℕ
+stack_words = 1024
+
+abbrev pub print_room : ℕ
+print_room = 16384
+
+abbrev pub turns : ℕ
+turns = 100000
+
+-- the session after as many steps as the turns with this quantum have; it has no terminal lines and no extra segment
+unfoldable pub run_of : Program → ℕ → Machine
+run_of p quantum = after (segments_of p) (quantum * turns) (opened_of p [] stack_words 0 print_room)

@@ -1,0 +1,64 @@
+//! A session run by the flat machine.
+ghost use Rattle.std.specs.Prelude.{◌≡◌, IfOk, [], length};
+ghost use Rattle.std.specs.Bool.{OnTrue};
+ghost use Rattle.hp_flat.specs.Step.{after, is_running};
+ghost use Rattle.hp_flat.specs.Views.{segments_of};
+ghost use Rattle.hp3000_top.specs.Runs.{run_of};
+
+use std::alloc::Global;
+
+use hp_flat::{Flat, OpenFlat, Program};
+use hp_word::Ending;
+
+use crate::unread::Unread;
+
+/// The words of a session's stack, unless its job sets another number.
+const STACK: u16 = 1024;
+
+/// The bytes that a session may print, unless its job sets another number.
+const ROOM: u32 = 16384;
+
+/// The turns of a job, unless it sets another number.
+const TURNS: u32 = 100_000;
+
+fn running(ending: Ending) -> bool
+    ensures { result ≡ is_running ending }
+{
+    matches!(ending, Ending::Running)
+}
+
+/// Makes steps until so many were made or the session has ended, and answers that each could be made.
+#[tactic(auto, using(crate::proofs::RunLemmas::steps))]
+fn make_steps(flat: &mut Flat, program: &Program, steps: u64) -> bool
+    ensures { OnTrue result (flat.new ≡ after (segments_of program.now) steps flat.old) }
+{
+    let mut left = steps;
+    while left > 0 {
+        if !running(flat.ending) {
+            return true;
+        }
+        if !flat.can_step(program) {
+            return false;
+        }
+        flat.step(program);
+        left -= 1;
+    }
+    true
+}
+
+/// The session of a program in a job with this quantum, after all its turns.
+pub fn run(alloc: Global, program: &Program, quantum: u32) -> Result<Flat, Unread>
+    ensures { IfOk result (λ f. f ≡ run_of program.now quantum) }
+{
+    let lines = Vec::new(alloc);
+    let mut flat = match Flat::open(alloc, program, &lines, STACK, 0, ROOM) {
+        Ok(flat) => flat,
+        Err(OpenFlat::StackTooSmall { .. }) => return Err(Unread::Later),
+        Err(OpenFlat::NoMemory) => return Err(Unread::NoMemory),
+    };
+    if make_steps(&mut flat, program, quantum as u64 * TURNS as u64) {
+        Ok(flat)
+    } else {
+        Err(Unread::Later)
+    }
+}
