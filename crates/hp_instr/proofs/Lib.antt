@@ -1,0 +1,4 @@
+pub mod RangeLemmas
+pub mod RoundTripLaws
+pub mod FieldLaws
+pub mod LabelLaws
