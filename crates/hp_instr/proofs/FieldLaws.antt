@@ -17,27 +17,27 @@ use Rattle.hp_instr.proofs.RangeLemmas.{op_below, shift_below, short_branch_betw
 use Rattle.hp_instr.proofs.RoundTripLaws.{encoded-instruction}
 
 instruction-Pair : (left right : Op) → is_op left.code ≡ true → is_op right.code ≡ true →
-  instruction (encoded (Pair left right)) ≡ Pair left right
+    instruction (encoded (Pair left right)) ≡ Pair left right
 unfolding instruction encoded pair
 instruction-Pair left right l r = grind (arith, op_below)
 
 instruction-Shifted : (kind count : ℕ) → is_shift kind ≡ true → count < 64 →
-  instruction (encoded (Shifted kind count)) ≡ Shifted kind count
+    instruction (encoded (Shifted kind count)) ≡ Shifted kind count
 unfolding instruction encoded shift_or_branch
 instruction-Shifted kind count k h = grind (arith, shift_below)
 
 instruction-Short : (test : ℕ) (back : Bool) (d : ℕ) → is_short_branch test ≡ true → d < 32 →
-  instruction (encoded (Short test back d)) ≡ Short test back d
+    instruction (encoded (Short test back d)) ≡ Short test back d
 unfolding instruction encoded shift_or_branch
 instruction-Short test back d k h = grind (arith, shift_below, short_branch_between)
 
 instruction-Immediate : (which n : ℕ) → is_immediate which n ≡ true → n < 256 →
-  instruction (encoded (Immediate which n)) ≡ Immediate which n
+    instruction (encoded (Immediate which n)) ≡ Immediate which n
 unfolding instruction encoded immediate
 instruction-Immediate which n k h = grind (arith, immediate_below)
 
 instruction-Control : (which n : ℕ) → is_control which n ≡ true → n < 256 →
-  instruction (encoded (Control which n)) ≡ Control which n
+    instruction (encoded (Control which n)) ≡ Control which n
 unfolding instruction encoded control
 instruction-Control which n k h = grind (arith, control_below)
 
@@ -76,7 +76,7 @@ abbrev above : ℕ → Bool → Bool → Bool → ℕ
 above major second x i = major * 8 + flag 13 x + flag 14 i + flag 15 second
 
 encoded-Memory : (major : ℕ) (second x i : Bool) (m : Mode) →
-  encoded (Memory major second x i m) ≡ above major second x i * 512 + mode_bits m
+    encoded (Memory major second x i m) ≡ above major second x i * 512 + mode_bits m
 unfolding encoded
 encoded-Memory major second x i m = grind arith
 
@@ -86,34 +86,34 @@ memory_word w h is = grind arith
 
 -- the major and bit 6 are read from above an operand
 major_above : (major : ℕ) (second x i : Bool) (bits : ℕ) → major < 16 → bits < 512 →
-  (above major second x i * 512 + bits) / 4096 % 16 ≡ major
+    (above major second x i * 512 + bits) / 4096 % 16 ≡ major
 major_above major second x i bits h k = grind arith
 
 second_above : (major : ℕ) (second x i : Bool) (bits : ℕ) → bits < 512 →
-  ((above major second x i * 512 + bits) / 512 % 2 == 1) ≡ second
+    ((above major second x i * 512 + bits) / 512 % 2 == 1) ≡ second
 second_above major second x i bits k = grind arith
 
 memory-above : (major : ℕ) (second x i : Bool) (bits : ℕ) (m : Mode) → major < 16 → bits < 512 →
-  mode (above major second x i * 512 + bits) ≡ m →
-  memory (above major second x i * 512 + bits) ≡ Memory major second x i m
+    mode (above major second x i * 512 + bits) ≡ m →
+    memory (above major second x i * 512 + bits) ≡ Memory major second x i m
 unfolding memory
 memory-above major second x i bits m h k e = grind arith
 
 instruction-Memory : (major : ℕ) (second x i : Bool) (m : Mode) → is_reference major second ≡ true → is_mode m ≡ true →
-  instruction (encoded (Memory major second x i m)) ≡ Memory major second x i m
+    instruction (encoded (Memory major second x i m)) ≡ Memory major second x i m
 instruction-Memory major second x i m r k =
-  let between : (4 ≤ major) × (major < 16) = reference_between major second r in
-  let below : mode_bits m < 512 = mode_bits-below m k in
-  let is_major = major_above major second x i (mode_bits m) between.1 below in
-  let is_second = second_above major second x i (mode_bits m) below in
-  let word : instruction (above major second x i * 512 + mode_bits m) ≡ memory (above major second x i * 512 + mode_bits m) =
+    let between : (4 ≤ major) × (major < 16) = reference_between major second r in
+    let below : mode_bits m < 512 = mode_bits-below m k in
+    let is_major = major_above major second x i (mode_bits m) between.1 below in
+    let is_second = second_above major second x i (mode_bits m) below in
+    let word : instruction (above major second x i * 512 + mode_bits m) ≡ memory (above major second x i * 512 + mode_bits m) =
     memory_word _ (rw is_major between.0) (rw (is_major, is_second) r) in
-  rw (encoded-Memory major second x i m, word)
+    rw (encoded-Memory major second x i m, word)
     (memory-above major second x i (mode_bits m) m between.1 below (mode-mode_bits m (above major second x i) k))
 
 -- from major 4 on, a word of a major and bit 6 that have no operation on a word in memory
 no_memory_word : (w major : ℕ) (second : Bool) → w / 4096 % 16 ≡ major → (w / 512 % 2 == 1) ≡ second → 4 ≤ major →
-  is_reference major second ≡ false → instruction w ≡ no_memory w
+    is_reference major second ≡ false → instruction w ≡ no_memory w
 unfolding instruction reference
 no_memory_word w major second e f h none = grind arith
 
@@ -159,7 +159,7 @@ unfolding encoded branch
 instruction-Branch i back d h = grind (arith, instruction-branch)
 
 instruction-OnCode : (mask : ℕ) (back : Bool) (d : ℕ) → mask < 8 → d < 32 →
-  instruction (encoded (OnCode mask back d)) ≡ OnCode mask back d
+    instruction (encoded (OnCode mask back d)) ≡ OnCode mask back d
 unfolding encoded on_code
 instruction-OnCode mask back d m h = grind (arith, instruction-on_code)
 
@@ -171,34 +171,34 @@ illegal_word i h = cc
 
 -- where a word is no instruction, its own word says so
 instruction-Illegal : (w : ℕ) → nat_lt w (2 ^ 16) ≡ true → is_illegal (instruction w) ≡ true →
-  instruction (encoded (Illegal w)) ≡ Illegal w
+    instruction (encoded (Illegal w)) ≡ Illegal w
 unfolding encoded
 instruction-Illegal w below h =
-  rw (encoded-instruction w (ltb-true w (2 ^ 16) below)) at (illegal_word (instruction w) h)
+    rw (encoded-instruction w (ltb-true w (2 ^ 16) below)) at (illegal_word (instruction w) h)
 
 -- an instruction whose fields are such as words have, encoded and decoded again
 pub instruction-encoded : (i : Instr) → has_word i ≡ true → instruction (encoded i) ≡ i
 unfolding has_word
 instruction-encoded (Pair left right) h =
-  let both = and_parts (is_op left.code) (is_op right.code) h in instruction-Pair left right both.0 both.1
+    let both = and_parts (is_op left.code) (is_op right.code) h in instruction-Pair left right both.0 both.1
 instruction-encoded (Shifted kind count) h =
-  let both = and_parts (is_shift kind) (nat_lt count 64) h in instruction-Shifted kind count both.0 (ltb-true count 64 both.1)
+    let both = and_parts (is_shift kind) (nat_lt count 64) h in instruction-Shifted kind count both.0 (ltb-true count 64 both.1)
 instruction-encoded (Short test back d) h =
-  let both = and_parts (is_short_branch test) (nat_lt d 32) h in instruction-Short test back d both.0 (ltb-true d 32 both.1)
+    let both = and_parts (is_short_branch test) (nat_lt d 32) h in instruction-Short test back d both.0 (ltb-true d 32 both.1)
 instruction-encoded (Immediate which n) h =
-  let both = and_parts (is_immediate which n) (nat_lt n 256) h in instruction-Immediate which n both.0 (ltb-true n 256 both.1)
+    let both = and_parts (is_immediate which n) (nat_lt n 256) h in instruction-Immediate which n both.0 (ltb-true n 256 both.1)
 instruction-encoded (Control which n) h =
-  let both = and_parts (is_control which n) (nat_lt n 256) h in instruction-Control which n both.0 (ltb-true n 256 both.1)
+    let both = and_parts (is_control which n) (nat_lt n 256) h in instruction-Control which n both.0 (ltb-true n 256 both.1)
 instruction-encoded (Memory major second x i m) h =
-  let both = and_parts (is_reference major second) (is_mode m) h in instruction-Memory major second x i m both.0 both.1
+    let both = and_parts (is_reference major second) (is_mode m) h in instruction-Memory major second x i m both.0 both.1
 instruction-encoded (LoadCode back d) h = instruction-LoadCode back d (ltb-true d 256 h)
 instruction-encoded (Branch i back d) h = instruction-Branch i back d (ltb-true d 256 h)
 instruction-encoded (OnCode mask back d) h =
-  let both = and_parts (nat_lt mask 8) (nat_lt d 32) h in
-  instruction-OnCode mask back d (ltb-true mask 8 both.0) (ltb-true d 32 both.1)
+    let both = and_parts (nat_lt mask 8) (nat_lt d 32) h in
+    instruction-OnCode mask back d (ltb-true mask 8 both.0) (ltb-true d 32 both.1)
 instruction-encoded (Loop modify back d) h = instruction-Loop modify back d (ltb-true d 256 h)
 instruction-encoded (Illegal w) h =
-  let both = and_parts (nat_lt w (2 ^ 16)) (is_illegal (instruction w)) h in instruction-Illegal w both.0 both.1
+    let both = and_parts (nat_lt w (2 ^ 16)) (is_illegal (instruction w)) h in instruction-Illegal w both.0 both.1
 
 -- a flag is at most its bit
 flag_below : (k : ℕ) (chosen : Bool) → flag k chosen ≤ 2 ^ (15 - k)
@@ -209,28 +209,28 @@ flag_below k false = omega arith
 pub encoded-below : (i : Instr) → has_word i ≡ true → encoded i < 2 ^ 16
 unfolding has_word encoded
 encoded-below (Pair left right) h =
-  let both = and_parts (is_op left.code) (is_op right.code) h in
-  omega (arith, op_below left.code both.0, op_below right.code both.1)
+    let both = and_parts (is_op left.code) (is_op right.code) h in
+    omega (arith, op_below left.code both.0, op_below right.code both.1)
 encoded-below (Shifted kind count) h =
-  let both = and_parts (is_shift kind) (nat_lt count 64) h in
-  omega (arith, shift_below kind both.0, ltb-true count 64 both.1)
+    let both = and_parts (is_shift kind) (nat_lt count 64) h in
+    omega (arith, shift_below kind both.0, ltb-true count 64 both.1)
 encoded-below (Short test back d) h =
-  let both = and_parts (is_short_branch test) (nat_lt d 32) h in
-  omega (arith, short_branch_between test both.0, flag_below 10 back, ltb-true d 32 both.1)
+    let both = and_parts (is_short_branch test) (nat_lt d 32) h in
+    omega (arith, short_branch_between test both.0, flag_below 10 back, ltb-true d 32 both.1)
 encoded-below (Immediate which n) h =
-  let both = and_parts (is_immediate which n) (nat_lt n 256) h in
-  omega (arith, immediate_below which n both.0, ltb-true n 256 both.1)
+    let both = and_parts (is_immediate which n) (nat_lt n 256) h in
+    omega (arith, immediate_below which n both.0, ltb-true n 256 both.1)
 encoded-below (Control which n) h =
-  let both = and_parts (is_control which n) (nat_lt n 256) h in
-  omega (arith, control_below which n both.0, ltb-true n 256 both.1)
+    let both = and_parts (is_control which n) (nat_lt n 256) h in
+    omega (arith, control_below which n both.0, ltb-true n 256 both.1)
 encoded-below (Memory major second x i m) h =
-  let both = and_parts (is_reference major second) (is_mode m) h in
-  omega (arith, reference_between major second both.0, flag_below 4 x, flag_below 5 i, flag_below 6 second, mode_bits-below m both.1)
+    let both = and_parts (is_reference major second) (is_mode m) h in
+    omega (arith, reference_between major second both.0, flag_below 4 x, flag_below 5 i, flag_below 6 second, mode_bits-below m both.1)
 encoded-below (LoadCode back d) h = omega (arith, flag_below 7 back, ltb-true d 256 h)
 encoded-below (Branch i back d) h = omega (arith, flag_below 5 i, flag_below 7 back, ltb-true d 256 h)
 encoded-below (OnCode mask back d) h =
-  let both = and_parts (nat_lt mask 8) (nat_lt d 32) h in
-  omega (arith, flag_below 10 back, ltb-true mask 8 both.0, ltb-true d 32 both.1)
+    let both = and_parts (nat_lt mask 8) (nat_lt d 32) h in
+    omega (arith, flag_below 10 back, ltb-true mask 8 both.0, ltb-true d 32 both.1)
 encoded-below (Loop modify back d) h = omega (arith, flag_below 4 modify, flag_below 7 back, ltb-true d 256 h)
 encoded-below (Illegal w) h = ltb-true w (2 ^ 16) (and_parts (nat_lt w (2 ^ 16)) (is_illegal (instruction w)) h).0
 
@@ -282,7 +282,7 @@ has_word-on_code w h e = grind (arith, nat_tests, has_word-illegal w h)
 has_word-no_memory : (w : ℕ) → w < 2 ^ 16 → instruction w ≡ no_memory w → has_word (no_memory w) ≡ true
 unfolding no_memory
 has_word-no_memory w h e =
-  grind (arith, has_word-load_code, has_word-loop_branch, has_word-branch, has_word-on_code, has_word-illegal)
+    grind (arith, has_word-load_code, has_word-loop_branch, has_word-branch, has_word-on_code, has_word-illegal)
 
 has_word-reference : (w : ℕ) → w < 2 ^ 16 → instruction w ≡ reference w → has_word (reference w) ≡ true
 unfolding reference
@@ -292,9 +292,9 @@ has_word-reference w h e = grind (arith, has_word-memory, has_word-no_memory)
 pub has_word-instruction : (w : ℕ) → w < 2 ^ 16 → has_word (instruction w) ≡ true
 unfolding instruction
 has_word-instruction w h =
-  grind (arith, has_word-pair, has_word-shift_or_branch, has_word-immediate, has_word-control, has_word-reference)
+    grind (arith, has_word-pair, has_word-shift_or_branch, has_word-immediate, has_word-control, has_word-reference)
 
 -- the fields are such as words have exactly where some word has the instruction
 pub has_word_iff : (i : Instr) → IsTrue (has_word i) ↔ HasWord i
 has_word_iff i =
-  (λ fit. (encoded i, encoded-below i fit, instruction-encoded i fit), λ some. subst (λ j. has_word j ≡ true) some.2 (has_word-instruction some.0 some.1))
+    (λ fit. (encoded i, encoded-below i fit, instruction-encoded i fit), λ some. subst (λ j. has_word j ≡ true) some.2 (has_word-instruction some.0 some.1))

@@ -44,21 +44,21 @@ pub label-label_bits : (l : Label) → is_label l ≡ true → label (label_bits
 unfolding is_label
 label-label_bits (Local offset) h = label-Local offset (ltb-true offset (2 ^ 14) h)
 label-label_bits (External seg entry) h =
-  let both = and_parts (nat_lt seg 256) (nat_lt entry 128) h in
-  label-External seg entry (ltb-true seg 256 both.0) (ltb-true entry 128 both.1)
+    let both = and_parts (nat_lt seg 256) (nat_lt entry 128) h in
+    label-External seg entry (ltb-true seg 256 both.0) (ltb-true entry 128 both.1)
 label-label_bits (Bad w) h =
-  let both = and_parts (nat_lt w (2 ^ 16)) (is_bad (label w)) h in label-Bad w (ltb-true w (2 ^ 16) both.0) both.1
+    let both = and_parts (nat_lt w (2 ^ 16)) (is_bad (label w)) h in label-Bad w (ltb-true w (2 ^ 16) both.0) both.1
 
 -- the word of a label has sixteen bits
 pub label_bits-below : (l : Label) → is_label l ≡ true → label_bits l < 2 ^ 16
 unfolding is_label label_bits
 label_bits-below (Local offset) h = omega (arith, ltb-true offset (2 ^ 14) h)
 label_bits-below (External seg entry) h =
-  let both = and_parts (nat_lt seg 256) (nat_lt entry 128) h in
-  omega (arith, ltb-true seg 256 both.0, ltb-true entry 128 both.1)
+    let both = and_parts (nat_lt seg 256) (nat_lt entry 128) h in
+    omega (arith, ltb-true seg 256 both.0, ltb-true entry 128 both.1)
 label_bits-below (Bad w) h = ltb-true w (2 ^ 16) (and_parts (nat_lt w (2 ^ 16)) (is_bad (label w)) h).0
 
 -- the fields are such as words have exactly where some word has the label
 pub is_label_iff : (l : Label) → IsTrue (is_label l) ↔ IsLabel l
 is_label_iff l =
-  (λ fit. (label_bits l, label_bits-below l fit, label-label_bits l fit), λ some. subst (λ m. is_label m ≡ true) some.2 (is_label-label some.0 some.1))
+    (λ fit. (label_bits l, label_bits-below l fit, label-label_bits l fit), λ some. subst (λ m. is_label m ≡ true) some.2 (is_label-label some.0 some.1))

@@ -1,3 +1,4 @@
+pub mod OperationsMask
 pub mod RangeLemmas
 pub mod RoundTripLaws
 pub mod FieldLaws

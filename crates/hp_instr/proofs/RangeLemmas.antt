@@ -12,16 +12,16 @@ lie_between low high table = list_all (λ entry. nat_le low entry.code && nat_lt
 
 -- one line more
 listed_between-step : (low high first code : ℕ) (rest any : Bool) →
-  ((nat_le low first && nat_lt first high) && rest) ≡ true → (first == code || any) ≡ true →
-  (rest ≡ true → any ≡ true → (low ≤ code) × (code < high)) → (low ≤ code) × (code < high)
+    ((nat_le low first && nat_lt first high) && rest) ≡ true → (first == code || any) ≡ true →
+    (rest ≡ true → any ≡ true → (low ≤ code) × (code < high)) → (low ≤ code) × (code < high)
 listed_between-step low high first code rest any all listed more = grind (arith, nat_tests)
 
 -- then so is each code that is listed
 listed_between : (low high : ℕ) (table : List Line) (code : ℕ) → lie_between low high table ≡ true →
-  is_listed table code ≡ true → (low ≤ code) × (code < high)
+    is_listed table code ≡ true → (low ≤ code) × (code < high)
 listed_between low high [] code all listed = cc
 listed_between low high (entry ∷ table) code all listed =
-  listed_between-step low high entry.code code _ _ all listed (listed_between low high table code)
+    listed_between-step low high entry.code code _ _ all listed (listed_between low high table code)
 
 pub op_below : (code : ℕ) → is_op code ≡ true → code < 64
 unfolding is_op
@@ -42,7 +42,7 @@ last_of_three false true x y z h = inl refl
 last_of_three false false x y z h = inr h
 
 last_of_four : (a b c x y z u : Bool) → (if a then x else if b then y else if c then z else u) ≡ true →
-  ((a || b || c) ≡ true) ⊎ (u ≡ true)
+    ((a || b || c) ≡ true) ⊎ (u ≡ true)
 last_of_four true b c x y z u h = inl refl
 last_of_four false true c x y z u h = inl refl
 last_of_four false false true x y z u h = inl refl
@@ -52,24 +52,24 @@ few_below : (code : ℕ) → (code == 0 || (code == 11 || code == 12)) ≡ true 
 few_below code h = grind (arith, nat_tests)
 
 some_below : (code : ℕ) → (code == 9 || code == 10 || code == 14 || code == 11 || (code == 12 || code == 13)) ≡ true →
-  code < 15
+    code < 15
 some_below code h = grind (arith, nat_tests)
 
 pub immediate_below : (code n : ℕ) → is_immediate code n ≡ true → code < 16
 unfolding is_immediate
 immediate_below code n h =
-  elim (last_of_three (code == 0) (code == 11 || code == 12) _ _ _ h) [
-    inl few ↦ few_below code few
-  | inr listed ↦ (listed_between 1 16 immediates code refl listed).1
-  ]
+    elim (last_of_three (code == 0) (code == 11 || code == 12) _ _ _ h) [
+      | inl few ↦ few_below code few
+      | inr listed ↦ (listed_between 1 16 immediates code refl listed).1
+    ]
 
 pub control_below : (code n : ℕ) → is_control code n ≡ true → code < 15
 unfolding is_control
 control_below code n h =
-  elim (last_of_four (code == 9 || code == 10 || code == 14) (code == 11) (code == 12 || code == 13) _ _ _ _ h) [
-    inl some ↦ some_below code some
-  | inr listed ↦ (listed_between 0 15 controls code refl listed).1
-  ]
+    elim (last_of_four (code == 9 || code == 10 || code == 14) (code == 11) (code == 12 || code == 13) _ _ _ _ h) [
+      | inl some ↦ some_below code some
+      | inr listed ↦ (listed_between 0 15 controls code refl listed).1
+    ]
 
 pub reference_between : (major : ℕ) (second : Bool) → is_reference major second ≡ true → (4 ≤ major) × (major < 16)
 unfolding is_reference

@@ -63,7 +63,7 @@ bit_6-loop w h e = grind arith
 encoded-no_memory : (w : ℕ) → is_reference (bits 0 3 w) (bit 6 w) ≡ false → w < 65536 → encoded (no_memory w) ≡ w
 unfolding no_memory
 encoded-no_memory w h k =
-  grind (arith, bit_6-load w h, bit_6-loop w h, encoded-load_code, encoded-loop_branch, encoded-branch, encoded-on_code, encoded-illegal)
+    grind (arith, bit_6-load w h, bit_6-loop w h, encoded-load_code, encoded-loop_branch, encoded-branch, encoded-on_code, encoded-illegal)
 
 encoded-reference : (w : ℕ) → w < 65536 → encoded (reference w) ≡ w
 unfolding reference
@@ -73,4 +73,4 @@ encoded-reference w k = grind (arith, encoded-memory, encoded-no_memory)
 pub encoded-instruction : (w : ℕ) → w < 65536 → encoded (instruction w) ≡ w
 unfolding instruction
 encoded-instruction w k =
-  grind (arith, encoded-pair, encoded-shift_or_branch, encoded-immediate, encoded-control, encoded-reference)
+    grind (arith, encoded-pair, encoded-shift_or_branch, encoded-immediate, encoded-control, encoded-reference)

@@ -26,18 +26,18 @@ is_field n = nat_le (bits 8 11 n + field_length n) 16
 -- a code of major 2 with its number: code 0 is SPLT or JOIN by the number, EXF and DPF have a field, the others any number
 unfoldable pub is_immediate : ℕ → ℕ → Bool
 is_immediate code n =
-  if code == 0 then is_listed window_operations n else
-  if code == 11 || code == 12 then is_field n else
-  is_listed immediates code
+    if code == 0 then is_listed window_operations n else
+    if code == 11 || code == 12 then is_field n else
+    is_listed immediates code
 
 -- a code of major 3 with its number: MOVE, MVB and CMPB have 0 for a source in the data and 1 for one in the code, MVBW
 -- has the letters of its class, SCW and SCU have 0, the others any number
 unfoldable pub is_control : ℕ → ℕ → Bool
 is_control code n =
-  if code == 9 || code == 10 || code == 14 then n == 0 || n == 1 else
-  if code == 11 then n == 1 || n == 2 || n == 3 || n == 6 || n == 7 else
-  if code == 12 || code == 13 then n == 0 else
-  is_listed controls code
+    if code == 9 || code == 10 || code == 14 then n == 0 || n == 1 else
+    if code == 11 then n == 1 || n == 2 || n == 3 || n == 6 || n == 7 else
+    if code == 12 || code == 13 then n == 0 else
+    is_listed controls code
 
 -- a major of 4 to 15 that has an operation on a word in memory, with bit 6 zero or one
 unfoldable pub is_reference : ℕ → Bool → Bool

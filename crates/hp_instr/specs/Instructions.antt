@@ -15,37 +15,37 @@ op code = record { code = code }
 -- major 0: the left operation in bits 4 to 9, the right one in bits 10 to 15; a code that is not listed makes the word illegal
 unfoldable pub pair : ℕ → Instr
 pair w =
-  if is_op (bits 4 9 w) && is_op (bits 10 15 w)
-  then Pair (op (bits 4 9 w)) (op (bits 10 15 w))
-  else Illegal w
+    if is_op (bits 4 9 w) && is_op (bits 10 15 w)
+    then Pair (op (bits 4 9 w)) (op (bits 10 15 w))
+    else Illegal w
 
 -- major 1: bit 4 zero and the code in bits 5 to 9. A shift has its count in bits 10 to 15; a branch has 1 in bit 10
 -- where it goes back, and its displacement in bits 11 to 15
 unfoldable pub shift_or_branch : ℕ → Instr
 shift_or_branch w =
-  if bit 4 w then Illegal w else
-  if is_shift (bits 5 9 w) then Shifted (bits 5 9 w) (bits 10 15 w) else
-  if is_short_branch (bits 5 9 w) then Short (bits 5 9 w) (bit 10 w) (bits 11 15 w) else
-  Illegal w
+    if bit 4 w then Illegal w else
+    if is_shift (bits 5 9 w) then Shifted (bits 5 9 w) (bits 10 15 w) else
+    if is_short_branch (bits 5 9 w) then Short (bits 5 9 w) (bit 10 w) (bits 11 15 w) else
+    Illegal w
 
 -- major 2: the code in bits 4 to 7, its number in bits 8 to 15
 unfoldable pub immediate : ℕ → Instr
 immediate w =
-  if is_immediate (bits 4 7 w) (bits 8 15 w) then Immediate (bits 4 7 w) (bits 8 15 w) else Illegal w
+    if is_immediate (bits 4 7 w) (bits 8 15 w) then Immediate (bits 4 7 w) (bits 8 15 w) else Illegal w
 
 -- major 3: the code in bits 4 to 7, its number in bits 8 to 15
 unfoldable pub control : ℕ → Instr
 control w =
-  if is_control (bits 4 7 w) (bits 8 15 w) then Control (bits 4 7 w) (bits 8 15 w) else Illegal w
+    if is_control (bits 4 7 w) (bits 8 15 w) then Control (bits 4 7 w) (bits 8 15 w) else Illegal w
 
 -- a data operand, bits 7 to 15: 0 and eight bits above DB, 10 and seven bits above Q, 110 and six bits below Q,
 -- 111 and six bits below S
 unfoldable pub mode : ℕ → Mode
 mode w =
-  if bits 7 7 w == 0b0 then DbPlus (bits 8 15 w) else
-  if bits 7 8 w == 0b10 then QPlus (bits 9 15 w) else
-  if bits 7 9 w == 0b110 then QMinus (bits 10 15 w) else
-  SMinus (bits 10 15 w)
+    if bits 7 7 w == 0b0 then DbPlus (bits 8 15 w) else
+    if bits 7 8 w == 0b10 then QPlus (bits 9 15 w) else
+    if bits 7 9 w == 0b110 then QMinus (bits 10 15 w) else
+    SMinus (bits 10 15 w)
 
 -- LOAD of a code word: bits 4 and 5 zero, bit 7 for back, the displacement in bits 8 to 15
 unfoldable pub load_code : ℕ → Instr
@@ -70,10 +70,10 @@ memory w = Memory (bits 0 3 w) (bit 6 w) (bit 4 w) (bit 5 w) (mode w)
 -- the words of majors 4 to 15 that have no operation on a word in memory
 unfoldable pub no_memory : ℕ → Instr
 no_memory w =
-  if bits 0 3 w == 4 then load_code w else
-  if bits 0 3 w == 5 then loop_branch w else
-  if bits 0 3 w == 12 then (if bit 6 w then on_code w else branch w) else
-  Illegal w
+    if bits 0 3 w == 4 then load_code w else
+    if bits 0 3 w == 5 then loop_branch w else
+    if bits 0 3 w == 12 then (if bit 6 w then on_code w else branch w) else
+    Illegal w
 
 -- majors 4 to 15
 unfoldable pub reference : ℕ → Instr
@@ -82,8 +82,8 @@ reference w = if is_reference (bits 0 3 w) (bit 6 w) then memory w else no_memor
 -- the instruction of a word, which is illegal where it is none
 unfoldable pub instruction : ℕ → Instr
 instruction w =
-  if bits 0 3 w == 0 then pair w else
-  if bits 0 3 w == 1 then shift_or_branch w else
-  if bits 0 3 w == 2 then immediate w else
-  if bits 0 3 w == 3 then control w else
-  reference w
+    if bits 0 3 w == 0 then pair w else
+    if bits 0 3 w == 1 then shift_or_branch w else
+    if bits 0 3 w == 2 then immediate w else
+    if bits 0 3 w == 3 then control w else
+    reference w

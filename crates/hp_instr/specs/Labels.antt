@@ -9,9 +9,9 @@ use Rattle.hp_instr.specs.Encoded.{up_to, flag}
 -- label, with the offset in bits 2 to 15; no other word is a label
 unfoldable pub label : ℕ → Label
 label w =
-  if bit 0 w then External (bits 8 15 w) (bits 1 7 w) else
-  if bit 1 w then Bad w else
-  Local (bits 2 15 w)
+    if bit 0 w then External (bits 8 15 w) (bits 1 7 w) else
+    if bit 1 w then Bad w else
+    Local (bits 2 15 w)
 
 -- the word of a label; one that is bad is its own word
 unfoldable pub label_bits : Label → ℕ

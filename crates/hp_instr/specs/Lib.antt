@@ -5,5 +5,6 @@ pub mod Fields
 pub mod Instructions
 pub mod Encoded
 pub mod Given
+pub mod Groups
 pub mod Labels
 pub mod Names

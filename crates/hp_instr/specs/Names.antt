@@ -1,5 +1,5 @@
 -- The names of operations and instructions in a listing, from the tables.
-use Rattle.std.specs.Prelude.{◌==◌, ◌++◌, ℕ, List, [], ◌∷◌, codes, if◌then◌else◌}
+use Rattle.std.specs.Prelude.{◌==◌, ◌++◌, ℕ, Bool, true, false, List, [], ◌∷◌, codes, if◌then◌else◌}
 use Rattle.hp_instr.specs.declared.instruction.Instr.{Instr}
 use Rattle.hp_instr.specs.declared.instruction.Instr.TheVariants.{Pair, Shifted, Short, Immediate, Control, Memory, LoadCode, Branch, OnCode, Loop, Illegal}
 use Rattle.hp_instr.specs.Tables.{Line, stack_operations, shifts, short_branches, window_operations, immediates, controls, first_references, second_references}
@@ -26,3 +26,8 @@ listed_name (Branch i back d) = codes "BR"
 listed_name (OnCode mask back d) = codes "BCC"
 listed_name (Loop modify back d) = if modify then codes "MTBA" else codes "TBA"
 listed_name (Illegal w) = codes "ILLEGAL"
+
+-- whether an instruction is a pair of stack operations
+abbrev pub is_pair : Instr → Bool
+is_pair (Pair left right) = true
+is_pair i = false

@@ -1,5 +1,6 @@
 //! From a word to its instruction. The major, bits 0 to 3, chooses one function, and each of them reads fixed fields.
-ghost use Rattle.std.specs.Prelude.{◌≡◌, ◌*◌, ◌≤◌, IsTrue};
+ghost use Rattle.std.specs.Prelude.{◌≡◌, ◌*◌, ◌<◌, ◌≤◌, IsTrue};
+ghost use Rattle.hp_instr.specs.Bits.{bit, bits};
 ghost use Rattle.hp_instr.specs.Encoded.{encoded};
 ghost use Rattle.hp_instr.specs.Given.{has_word};
 ghost use Rattle.hp_instr.specs.Fields.{is_op, is_shift, is_short_branch, is_field, is_immediate, is_control, is_reference};
@@ -32,13 +33,17 @@ fn by_major(w: u16) -> Instr
     }
 }
 
+/// The codes of stack operations: bit `k`, counted from the least, is one where code `k` is listed.
+const OPERATIONS: u64 = 0x71FF_407F_FEFF_E7FF;
+
 /// Whether a code of six bits is that of a stack operation.
 #[inline]
-#[tactic(auto, unfolding(crate::specs::Fields::is_op))]
+#[tactic(auto, using(crate::proofs::OperationsMask::mask_is))]
 pub(crate) fn is_listed_op(code: u8) -> bool
+    requires { code < 64 }
     ensures { result ≡ is_op code }
 {
-    matches!(code, 0o00..=0o12 | 0o15..=0o27 | 0o31..=0o46 | 0o56 | 0o60..=0o70 | 0o74..=0o76)
+    (OPERATIONS >> code) % 2 == 1
 }
 
 /// A word of major 0.
@@ -74,10 +79,11 @@ fn decode_shift_or_branch(w: u16) -> Instr
             count: (w % 64) as u8,
         }
     } else if is_listed_branch(code) {
+        let (back, d) = short_displacement(w);
         Instr::Short {
             test: code,
-            back: w / 32 % 2 == 1,
-            d: (w % 32) as u8,
+            back,
+            d,
         }
     } else {
         Instr::Illegal(w)
@@ -102,14 +108,21 @@ pub(crate) fn is_listed_branch(code: u8) -> bool
     (0o10..=0o22).contains(&code)
 }
 
+/// The code of a word of major 2 or 3, and its number.
+#[inline]
+fn code_and_number(w: u16) -> (u8, u8)
+    ensures { result ≡ (bits 4 7 w, bits 8 15 w) }
+{
+    ((w / 256 % 16) as u8, (w % 256) as u8)
+}
+
 /// A word of major 2.
 #[inline]
 #[tactic(auto, unfolding(crate::specs::Instructions::immediate))]
 fn decode_immediate(w: u16) -> Instr
     ensures { result ≡ immediate w }
 {
-    let which = (w / 256 % 16) as u8;
-    let n = (w % 256) as u8;
+    let (which, n) = code_and_number(w);
     if takes_immediate(which, n) {
         Instr::Immediate { which, n }
     } else {
@@ -145,8 +158,7 @@ fn lies_within_a_word(n: u8) -> bool
 fn decode_control(w: u16) -> Instr
     ensures { result ≡ control w }
 {
-    let which = (w / 256 % 16) as u8;
-    let n = (w % 256) as u8;
+    let (which, n) = code_and_number(w);
     if takes_control(which, n) {
         Instr::Control { which, n }
     } else {
@@ -182,6 +194,22 @@ fn decode_mode(w: u16) -> Mode
     }
 }
 
+/// A displacement of eight bits, and whether it goes back.
+#[inline]
+fn long_displacement(w: u16) -> (bool, u8)
+    ensures { result ≡ (bit 7 w, bits 8 15 w) }
+{
+    (w / 256 % 2 == 1, (w % 256) as u8)
+}
+
+/// A displacement of five bits, and whether it goes back.
+#[inline]
+fn short_displacement(w: u16) -> (bool, u8)
+    ensures { result ≡ (bit 10 w, bits 11 15 w) }
+{
+    (w / 32 % 2 == 1, (w % 32) as u8)
+}
+
 /// LOAD of a code word.
 #[inline]
 #[tactic(auto, unfolding(crate::specs::Instructions::load_code))]
@@ -191,10 +219,8 @@ fn decode_load_code(w: u16) -> Instr
     if w / 1024 % 4 != 0 {
         return Instr::Illegal(w);
     }
-    Instr::LoadCode {
-        back: w / 256 % 2 == 1,
-        d: (w % 256) as u8,
-    }
+    let (back, d) = long_displacement(w);
+    Instr::LoadCode { back, d }
 }
 
 /// TBA and MTBA.
@@ -206,10 +232,11 @@ fn decode_loop_branch(w: u16) -> Instr
     if w / 1024 % 2 == 1 {
         return Instr::Illegal(w);
     }
+    let (back, d) = long_displacement(w);
     Instr::Loop {
         modify: w / 2048 % 2 == 1,
-        back: w / 256 % 2 == 1,
-        d: (w % 256) as u8,
+        back,
+        d,
     }
 }
 
@@ -222,10 +249,11 @@ fn decode_branch(w: u16) -> Instr
     if w / 2048 % 2 == 1 {
         return Instr::Illegal(w);
     }
+    let (back, d) = long_displacement(w);
     Instr::Branch {
         i: w / 1024 % 2 == 1,
-        back: w / 256 % 2 == 1,
-        d: (w % 256) as u8,
+        back,
+        d,
     }
 }
 
@@ -238,10 +266,11 @@ fn decode_on_code(w: u16) -> Instr
     if w / 1024 % 4 != 0 {
         return Instr::Illegal(w);
     }
+    let (back, d) = short_displacement(w);
     Instr::OnCode {
         mask: (w / 64 % 8) as u8,
-        back: w / 32 % 2 == 1,
-        d: (w % 32) as u8,
+        back,
+        d,
     }
 }
 

@@ -4,7 +4,10 @@ ghost use Rattle.hp_instr.specs.Instructions.{instruction};
 ghost use Rattle.hp_instr.specs.Encoded.{encoded, mode_bits};
 ghost use Rattle.hp_instr.specs.Given.{has_word, HasWord, is_mode};
 
-use crate::decoder::{decode, is_listed_branch, is_listed_op, is_listed_shift, takes_control, takes_immediate, takes_operand};
+use crate::decoder::{
+    decode, is_listed_branch, is_listed_shift, takes_control, takes_immediate, takes_operand,
+};
+use crate::groups::is_op;
 use crate::instruction::{Instr, Mode};
 
 /// The word of an instruction that some word has.
@@ -31,7 +34,7 @@ fn fields_fit(i: Instr) -> bool
     ensures { result ≡ has_word i }
 {
     match i {
-        Instr::Pair { left, right } => is_listed_op(left.code) && is_listed_op(right.code),
+        Instr::Pair { left, right } => is_op(left) && is_op(right),
         Instr::Shifted { kind, count } => is_listed_shift(kind) && count < 64,
         Instr::Short { test, back: _, d } => is_listed_branch(test) && d < 32,
         Instr::Immediate { which, n } => takes_immediate(which, n),
@@ -69,7 +72,10 @@ fn word_of(i: Instr) -> u16
     match i {
         Instr::Pair { left, right } => u16::from(left.code) * 64 + u16::from(right.code),
         Instr::Shifted { kind, count } => 4096 + u16::from(kind) * 64 + u16::from(count),
-        Instr::Short { test, back, d } => 4096 + u16::from(test) * 64 + bit(back, 32) + u16::from(d),
+        Instr::Short { test, back, d } => 4096
+            + u16::from(test) * 64
+            + bit(back, 32)
+            + u16::from(d),
         Instr::Immediate { which, n } => 2 * 4096 + u16::from(which) * 256 + u16::from(n),
         Instr::Control { which, n } => 3 * 4096 + u16::from(which) * 256 + u16::from(n),
         Instr::Memory {
@@ -78,9 +84,16 @@ fn word_of(i: Instr) -> u16
             x,
             i,
             mode,
-        } => u16::from(major) * 4096 + bit(x, 2048) + bit(i, 1024) + bit(second, 512) + operand_bits(mode),
+        } => u16::from(major) * 4096
+            + bit(x, 2048)
+            + bit(i, 1024)
+            + bit(second, 512)
+            + operand_bits(mode),
         Instr::LoadCode { back, d } => 4 * 4096 + bit(back, 256) + u16::from(d),
-        Instr::Loop { modify, back, d } => 5 * 4096 + bit(modify, 2048) + bit(back, 256) + u16::from(d),
+        Instr::Loop { modify, back, d } => 5 * 4096
+            + bit(modify, 2048)
+            + bit(back, 256)
+            + u16::from(d),
         Instr::Branch { i, back, d } => 12 * 4096 + bit(i, 1024) + bit(back, 256) + u16::from(d),
         Instr::OnCode { mask, back, d } => {
             12 * 4096 + 512 + u16::from(mask) * 64 + bit(back, 32) + u16::from(d)
