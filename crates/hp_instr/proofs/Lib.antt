@@ -3,3 +3,4 @@ pub mod RangeLemmas
 pub mod RoundTripLaws
 pub mod FieldLaws
 pub mod LabelLaws
+pub mod KnownWords
