@@ -12,7 +12,7 @@ use Rattle.hp_instr.specs.Bits.{bits, bit}
 use Rattle.hp_instr.specs.Fields.{is_op, is_shift, is_short_branch, is_immediate, is_control, is_reference}
 use Rattle.hp_instr.specs.Encoded.{encoded, mode_bits, flag}
 use Rattle.hp_instr.specs.Given.{has_word, HasWord, is_mode, is_illegal}
-use Rattle.hp_instr.specs.Instructions.{op, pair, shift_or_branch, immediate, control, mode, load_code, loop_branch, branch, on_code, memory, no_memory, reference, instruction}
+use Rattle.hp_instr.specs.Instructions.{pair, shift_or_branch, immediate, control, mode, load_code, loop_branch, branch, on_code, memory, no_memory, reference, instruction}
 use Rattle.hp_instr.proofs.RangeLemmas.{op_below, shift_below, short_branch_between, immediate_below, control_below, reference_between}
 use Rattle.hp_instr.proofs.RoundTripLaws.{encoded-instruction}
 

@@ -1,8 +1,7 @@
 -- Known words of the manual's page, each worked by hand from its fields.
-use Rattle.std.proofs.Common.{◌≡◌, ℕ, true, false, refl}
-use Rattle.hp_instr.specs.declared.instruction.Instr.{Instr}
+use Rattle.std.proofs.Common.{◌≡◌, true, false, refl}
 use Rattle.hp_instr.specs.declared.instruction.Instr.TheVariants.{Pair, Shifted, Short, Immediate, Control, Memory, LoadCode, Branch, OnCode, Loop, Illegal}
-use Rattle.hp_instr.specs.declared.instruction.Mode.TheVariants.{DbPlus, QPlus, QMinus, SMinus}
+use Rattle.hp_instr.specs.declared.instruction.Mode.TheVariants.{QMinus, SMinus}
 use Rattle.hp_instr.specs.declared.labels.Label.TheVariants.{Local, External, Bad}
 use Rattle.hp_instr.specs.Fields.{is_op, is_shift, is_short_branch, is_immediate, is_control, is_reference}
 use Rattle.hp_instr.specs.Instructions.{op, pair, shift_or_branch, immediate, control, mode, load_code, loop_branch, branch, on_code, memory, no_memory, reference, instruction}

@@ -1,5 +1,5 @@
 -- A table word read as a label and written again is the same word, and a label written and read again is the same label.
-use Rattle.std.proofs.Common.{◌≡◌, ℕ, ◌/◌, ◌%◌, ◌<◌, ◌^◌, ◌&&◌, Bool, true, false, nat_lt, IsTrue, ◌↔◌, subst, refl, arith}
+use Rattle.std.proofs.Common.{◌≡◌, ℕ, ◌<◌, ◌^◌, true, nat_lt, IsTrue, ◌↔◌, subst, refl, arith}
 use Rattle.std.proofs.lemmas.Bool.{ltb-true, lt-ltb, and_parts, and_from}
 use Rattle.std.proofs.lemmas.Bool.Decides.{nat_tests}
 use Rattle.hp_instr.specs.declared.labels.Label.{Label}

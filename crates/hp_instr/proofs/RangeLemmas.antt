@@ -1,9 +1,8 @@
 -- The codes of each table lie in a range, found by going over its lines once.
-use Rattle.std.proofs.Common.{◌≡◌, ℕ, ◌<◌, ◌≤◌, ◌==◌, Bool, true, false, ◌&&◌, ◌||◌, ◌+◌, ◌⊎◌, inl, inr, if◌then◌else◌, List, [], ◌∷◌, nat_lt, nat_le, refl, arith}
-use Rattle.std.specs.List.{list_any, list_all}
+use Rattle.std.proofs.Common.{◌≡◌, ℕ, ◌<◌, ◌≤◌, ◌==◌, Bool, true, false, ◌&&◌, ◌||◌, ◌⊎◌, inl, inr, if◌then◌else◌, List, [], ◌∷◌, nat_lt, nat_le, refl, arith}
+use Rattle.std.specs.List.{list_all}
 use Rattle.std.proofs.lemmas.Bool.Decides.{nat_tests}
-use Rattle.hp_instr.specs.Bits.{bits}
-use Rattle.hp_instr.specs.Tables.{Line, is_listed, stack_operations, shifts, short_branches, window_operations, immediates, controls, first_references, second_references}
+use Rattle.hp_instr.specs.Tables.{Line, is_listed, stack_operations, shifts, short_branches, immediates, controls, first_references, second_references}
 use Rattle.hp_instr.specs.Fields.{is_op, is_shift, is_short_branch, is_immediate, is_control, is_reference}
 
 -- whether each code of a table is at least `low` and below `high`

@@ -1,7 +1,6 @@
 -- A word decoded and encoded again is the same word: one lemma for each group of words, by division with remainder.
-use Rattle.std.proofs.Common.{◌≡◌, ℕ, ◌/◌, ◌%◌, ◌<◌, ◌^◌, Bool, true, false, if◌then◌else◌, refl, arith}
-use Rattle.hp_instr.specs.declared.instruction.Instr.{Instr}
-use Rattle.hp_instr.specs.declared.instruction.Instr.TheVariants.{Memory, Illegal}
+use Rattle.std.proofs.Common.{◌≡◌, ℕ, ◌/◌, ◌%◌, ◌<◌, false, refl, arith}
+use Rattle.hp_instr.specs.declared.instruction.Instr.TheVariants.{Illegal}
 use Rattle.hp_instr.specs.Bits.{bits, bit}
 use Rattle.hp_instr.specs.Fields.{is_reference}
 use Rattle.hp_instr.specs.Encoded.{encoded, mode_bits}

@@ -1,5 +1,5 @@
 -- Which codes, and which numbers with them, the words of each major may have.
-use Rattle.std.specs.Prelude.{◌==◌, ◌&&◌, ◌||◌, ℕ, ◌+◌, Bool, nat_le, if◌then◌else◌}
+use Rattle.std.specs.Prelude.{◌==◌, ◌||◌, ℕ, ◌+◌, Bool, nat_le, if◌then◌else◌}
 use Rattle.hp_instr.specs.Bits.{bits}
 use Rattle.hp_instr.specs.Tables.{is_listed, stack_operations, shifts, short_branches, window_operations, immediates, controls, first_references, second_references}
 

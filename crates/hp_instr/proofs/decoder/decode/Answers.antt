@@ -1,6 +1,5 @@
 -- The laws of the round trip, at the word.
-use Rattle.std.proofs.Common.{◌≡◌, ◌<◌, ◌^◌, true, arith}
-use Rattle.hp_instr.specs.Given.{has_word}
+use Rattle.std.proofs.Common.{arith}
 use Rattle.hp_instr.proofs.RoundTripLaws.{encoded-instruction}
 use Rattle.hp_instr.proofs.FieldLaws.{has_word-instruction}
 use Rattle.hp_instr.proofs.decoder.decode.Goals as goal

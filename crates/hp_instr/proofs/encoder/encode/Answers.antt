@@ -1,5 +1,5 @@
 -- The word has sixteen bits, is decoded to the instruction, and is the only word that is.
-use Rattle.std.proofs.Common.{◌≡◌, ◌∙◌, ap, sym}
+use Rattle.std.proofs.Common.{◌∙◌, ap, sym}
 use Rattle.hp_instr.specs.Encoded.{encoded}
 use Rattle.hp_instr.proofs.RoundTripLaws.{encoded-instruction}
 use Rattle.hp_instr.proofs.FieldLaws.{encoded-below, instruction-encoded}

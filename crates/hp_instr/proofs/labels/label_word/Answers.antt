@@ -1,5 +1,5 @@
 -- The word has sixteen bits, is read as the label, and is the only word that is.
-use Rattle.std.proofs.Common.{◌≡◌, ◌∙◌, ap, sym}
+use Rattle.std.proofs.Common.{◌∙◌, ap, sym}
 use Rattle.hp_instr.specs.Labels.{label_bits}
 use Rattle.hp_instr.proofs.LabelLaws.{label_bits-label, label_bits-below, label-label_bits}
 use Rattle.hp_instr.proofs.labels.label_word.Goals as goal

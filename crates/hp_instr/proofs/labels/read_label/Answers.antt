@@ -1,5 +1,5 @@
 -- The laws of the round trip, at the word.
-use Rattle.std.proofs.Common.{◌≡◌, ◌<◌, ◌^◌, true, arith}
+use Rattle.std.proofs.Common.{arith}
 use Rattle.hp_instr.proofs.LabelLaws.{label_bits-label, is_label-label}
 use Rattle.hp_instr.proofs.labels.read_label.Goals as goal
 
