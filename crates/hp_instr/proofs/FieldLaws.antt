@@ -1,65 +1,73 @@
 -- An instruction whose fields are such as words have, encoded and decoded again, is the same instruction: one lemma for
 -- each kind of instruction.
-use Rattle.std.proofs.Common.{◌≡◌, ℕ, ◌+◌, ◌-◌, ◌*◌, ◌/◌, ◌%◌, ◌==◌, ◌<◌, ◌≤◌, ◌^◌, Bool, true, false, nat_lt, IsTrue, ◌↔◌, subst, refl, arith}
-use Rattle.std.proofs.lemmas.Bool.{ltb-true, lt-ltb, and_parts, and_from}
-use Rattle.std.proofs.lemmas.Bool.Decides.{nat_tests}
+use Rattle.std.proofs.Common.{◌≡◌, ℕ, ◌+◌, ◌*◌, ◌/◌, ◌%◌, ◌==◌, ◌<◌, ◌≤◌, ◌^◌, Bool, true, false, nat_lt, refl, arith}
+use Rattle.std.proofs.lemmas.Bool.{ltb-true, and_parts}
 use Rattle.hp_instr.specs.declared.instruction.Instr.{Instr}
 use Rattle.hp_instr.specs.declared.instruction.Instr.TheVariants.{Pair, Shifted, Short, Immediate, Control, Memory, LoadCode, Branch, OnCode, Loop, Illegal}
 use Rattle.hp_instr.specs.declared.instruction.Mode.{Mode}
 use Rattle.hp_instr.specs.declared.instruction.Mode.TheVariants.{DbPlus, QPlus, QMinus, SMinus}
 use Rattle.hp_instr.specs.declared.instruction.Op.{Op}
-use Rattle.hp_instr.specs.Bits.{bits, bit}
+use Rattle.hp_instr.specs.Bits.{bits}
 use Rattle.hp_instr.specs.Fields.{is_op, is_shift, is_short_branch, is_immediate, is_control, is_reference}
 use Rattle.hp_instr.specs.Encoded.{encoded, mode_bits, flag}
-use Rattle.hp_instr.specs.Given.{has_word, HasWord, is_mode, is_illegal}
+use Rattle.hp_instr.specs.Given.{has_word, is_mode, is_illegal}
 use Rattle.hp_instr.specs.Instructions.{pair, shift_or_branch, immediate, control, mode, load_code, loop_branch, branch, on_code, memory, no_memory, reference, instruction}
 use Rattle.hp_instr.proofs.RangeLemmas.{op_below, shift_below, short_branch_between, immediate_below, control_below, reference_between}
 use Rattle.hp_instr.proofs.RoundTripLaws.{encoded-instruction}
 
+-- a pair
 instruction-Pair : (left right : Op) → is_op left.code ≡ true → is_op right.code ≡ true →
     instruction (encoded (Pair left right)) ≡ Pair left right
 unfolding instruction encoded pair
 instruction-Pair left right l r = grind (arith, op_below)
 
+-- a shift
 instruction-Shifted : (kind count : ℕ) → is_shift kind ≡ true → count < 64 →
     instruction (encoded (Shifted kind count)) ≡ Shifted kind count
 unfolding instruction encoded shift_or_branch
 instruction-Shifted kind count k h = grind (arith, shift_below)
 
+-- a short branch: its codes begin above those of the shifts
 instruction-Short : (test : ℕ) (back : Bool) (d : ℕ) → is_short_branch test ≡ true → d < 32 →
     instruction (encoded (Short test back d)) ≡ Short test back d
 unfolding instruction encoded shift_or_branch
 instruction-Short test back d k h = grind (arith, shift_below, short_branch_between)
 
+-- an operation with an immediate number
 instruction-Immediate : (which n : ℕ) → is_immediate which n ≡ true → n < 256 →
     instruction (encoded (Immediate which n)) ≡ Immediate which n
 unfolding instruction encoded immediate
 instruction-Immediate which n k h = grind (arith, immediate_below)
 
+-- a word of major 3
 instruction-Control : (which n : ℕ) → is_control which n ≡ true → n < 256 →
     instruction (encoded (Control which n)) ≡ Control which n
 unfolding instruction encoded control
 instruction-Control which n k h = grind (arith, control_below)
 
 -- an operand's displacement fits its bits, which stand below bit 6
-mode_bits-below : (m : Mode) → is_mode m ≡ true → mode_bits m < 512
+pub mode_bits-below : (m : Mode) → is_mode m ≡ true → mode_bits m < 512
 mode_bits-below (DbPlus d) h = omega (arith, ltb-true d 256 h)
 mode_bits-below (QPlus d) h = omega (arith, ltb-true d 128 h)
 mode_bits-below (QMinus d) h = omega (arith, ltb-true d 64 h)
 mode_bits-below (SMinus d) h = omega (arith, ltb-true d 64 h)
 
+-- an operand above DB
 mode-DbPlus : (above d : ℕ) → d < 256 → mode (above * 512 + mode_bits (DbPlus d)) ≡ DbPlus d
 unfolding mode
 mode-DbPlus above d h = grind arith
 
+-- an operand above Q
 mode-QPlus : (above d : ℕ) → d < 128 → mode (above * 512 + mode_bits (QPlus d)) ≡ QPlus d
 unfolding mode
 mode-QPlus above d h = grind arith
 
+-- an operand below Q
 mode-QMinus : (above d : ℕ) → d < 64 → mode (above * 512 + mode_bits (QMinus d)) ≡ QMinus d
 unfolding mode
 mode-QMinus above d h = grind arith
 
+-- an operand below S
 mode-SMinus : (above d : ℕ) → d < 64 → mode (above * 512 + mode_bits (SMinus d)) ≡ SMinus d
 unfolding mode
 mode-SMinus above d h = grind arith
@@ -75,11 +83,13 @@ mode-mode_bits (SMinus d) above h = mode-SMinus above d (ltb-true d 64 h)
 abbrev above : ℕ → Bool → Bool → Bool → ℕ
 above major second x i = major * 8 + flag 13 x + flag 14 i + flag 15 second
 
+-- the word of an operation on a word in memory, in these two parts
 encoded-Memory : (major : ℕ) (second x i : Bool) (m : Mode) →
     encoded (Memory major second x i m) ≡ above major second x i * 512 + mode_bits m
 unfolding encoded
 encoded-Memory major second x i m = grind arith
 
+-- a word of a major and bit 6 that have an operation on a word in memory
 memory_word : (w : ℕ) → 4 ≤ w / 4096 % 16 → is_reference (w / 4096 % 16) (w / 512 % 2 == 1) ≡ true → instruction w ≡ memory w
 unfolding instruction reference
 memory_word w h is = grind arith
@@ -93,12 +103,14 @@ second_above : (major : ℕ) (second x i : Bool) (bits : ℕ) → bits < 512 →
     ((above major second x i * 512 + bits) / 512 % 2 == 1) ≡ second
 second_above major second x i bits k = grind arith
 
+-- the parts are read as they were put together
 memory-above : (major : ℕ) (second x i : Bool) (bits : ℕ) (m : Mode) → major < 16 → bits < 512 →
     mode (above major second x i * 512 + bits) ≡ m →
     memory (above major second x i * 512 + bits) ≡ Memory major second x i m
 unfolding memory
 memory-above major second x i bits m h k e = grind arith
 
+-- an operation on a word in memory
 instruction-Memory : (major : ℕ) (second x i : Bool) (m : Mode) → is_reference major second ≡ true → is_mode m ≡ true →
     instruction (encoded (Memory major second x i m)) ≡ Memory major second x i m
 instruction-Memory major second x i m r k =
@@ -117,6 +129,7 @@ no_memory_word : (w major : ℕ) (second : Bool) → w / 4096 % 16 ≡ major →
 unfolding instruction reference
 no_memory_word w major second e f h none = grind arith
 
+-- majors 4 and 5 with bit 6 zero, and major 12, have no operation on a word in memory
 not_4 : is_reference 4 false ≡ false
 unfolding is_reference
 not_4 = refl
@@ -130,6 +143,7 @@ unfolding is_reference
 not_12 true = refl
 not_12 false = refl
 
+-- so these words are read as LOAD of a code word, as TBA or MTBA, as BR and as BCC
 instruction-load_code : (w : ℕ) → w / 4096 % 16 ≡ 4 → w / 512 % 2 ≡ 0 → instruction w ≡ load_code w
 unfolding no_memory
 instruction-load_code w e f = grind (arith, no_memory_word w 4 false, not_4)
@@ -146,18 +160,22 @@ instruction-on_code : (w : ℕ) → w / 4096 % 16 ≡ 12 → w / 512 % 2 ≡ 1 �
 unfolding no_memory
 instruction-on_code w e f = grind (arith, no_memory_word w 12 true, not_12)
 
+-- LOAD of a code word
 instruction-LoadCode : (back : Bool) (d : ℕ) → d < 256 → instruction (encoded (LoadCode back d)) ≡ LoadCode back d
 unfolding encoded load_code
 instruction-LoadCode back d h = grind (arith, instruction-load_code)
 
+-- TBA and MTBA
 instruction-Loop : (modify back : Bool) (d : ℕ) → d < 256 → instruction (encoded (Loop modify back d)) ≡ Loop modify back d
 unfolding encoded loop_branch
 instruction-Loop modify back d h = grind (arith, instruction-loop_branch)
 
+-- BR
 instruction-Branch : (i back : Bool) (d : ℕ) → d < 256 → instruction (encoded (Branch i back d)) ≡ Branch i back d
 unfolding encoded branch
 instruction-Branch i back d h = grind (arith, instruction-branch)
 
+-- BCC
 instruction-OnCode : (mask : ℕ) (back : Bool) (d : ℕ) → mask < 8 → d < 32 →
     instruction (encoded (OnCode mask back d)) ≡ OnCode mask back d
 unfolding encoded on_code
@@ -199,102 +217,3 @@ instruction-encoded (OnCode mask back d) h =
 instruction-encoded (Loop modify back d) h = instruction-Loop modify back d (ltb-true d 256 h)
 instruction-encoded (Illegal w) h =
     let both = and_parts (nat_lt w (2 ^ 16)) (is_illegal (instruction w)) h in instruction-Illegal w both.0 both.1
-
--- a flag is at most its bit
-flag_below : (k : ℕ) (chosen : Bool) → flag k chosen ≤ 2 ^ (15 - k)
-flag_below k true = omega arith
-flag_below k false = omega arith
-
--- the word of an instruction has sixteen bits
-pub encoded-below : (i : Instr) → has_word i ≡ true → encoded i < 2 ^ 16
-unfolding has_word encoded
-encoded-below (Pair left right) h =
-    let both = and_parts (is_op left.code) (is_op right.code) h in
-    omega (arith, op_below left.code both.0, op_below right.code both.1)
-encoded-below (Shifted kind count) h =
-    let both = and_parts (is_shift kind) (nat_lt count 64) h in
-    omega (arith, shift_below kind both.0, ltb-true count 64 both.1)
-encoded-below (Short test back d) h =
-    let both = and_parts (is_short_branch test) (nat_lt d 32) h in
-    omega (arith, short_branch_between test both.0, flag_below 10 back, ltb-true d 32 both.1)
-encoded-below (Immediate which n) h =
-    let both = and_parts (is_immediate which n) (nat_lt n 256) h in
-    omega (arith, immediate_below which n both.0, ltb-true n 256 both.1)
-encoded-below (Control which n) h =
-    let both = and_parts (is_control which n) (nat_lt n 256) h in
-    omega (arith, control_below which n both.0, ltb-true n 256 both.1)
-encoded-below (Memory major second x i m) h =
-    let both = and_parts (is_reference major second) (is_mode m) h in
-    omega (arith, reference_between major second both.0, flag_below 4 x, flag_below 5 i, flag_below 6 second, mode_bits-below m both.1)
-encoded-below (LoadCode back d) h = omega (arith, flag_below 7 back, ltb-true d 256 h)
-encoded-below (Branch i back d) h = omega (arith, flag_below 5 i, flag_below 7 back, ltb-true d 256 h)
-encoded-below (OnCode mask back d) h =
-    let both = and_parts (nat_lt mask 8) (nat_lt d 32) h in
-    omega (arith, flag_below 10 back, ltb-true mask 8 both.0, ltb-true d 32 both.1)
-encoded-below (Loop modify back d) h = omega (arith, flag_below 4 modify, flag_below 7 back, ltb-true d 256 h)
-encoded-below (Illegal w) h = ltb-true w (2 ^ 16) (and_parts (nat_lt w (2 ^ 16)) (is_illegal (instruction w)) h).0
-
--- a word that is no instruction is an illegal one
-has_word-illegal : (w : ℕ) → w < 2 ^ 16 → instruction w ≡ Illegal w → has_word (Illegal w) ≡ true
-unfolding has_word
-has_word-illegal w h e = rw e (and_from _ _ (lt-ltb w (2 ^ 16) h) refl)
-
-has_word-pair : (w : ℕ) → w < 2 ^ 16 → instruction w ≡ pair w → has_word (pair w) ≡ true
-unfolding has_word pair
-has_word-pair w h e = grind (arith, nat_tests, has_word-illegal w h)
-
-has_word-shift_or_branch : (w : ℕ) → w < 2 ^ 16 → instruction w ≡ shift_or_branch w → has_word (shift_or_branch w) ≡ true
-unfolding has_word shift_or_branch
-has_word-shift_or_branch w h e = grind (arith, nat_tests, has_word-illegal w h)
-
-has_word-immediate : (w : ℕ) → w < 2 ^ 16 → instruction w ≡ immediate w → has_word (immediate w) ≡ true
-unfolding has_word immediate
-has_word-immediate w h e = grind (arith, nat_tests, has_word-illegal w h)
-
-has_word-control : (w : ℕ) → w < 2 ^ 16 → instruction w ≡ control w → has_word (control w) ≡ true
-unfolding has_word control
-has_word-control w h e = grind (arith, nat_tests, has_word-illegal w h)
-
-is_mode-mode : (w : ℕ) → is_mode (mode w) ≡ true
-unfolding mode
-is_mode-mode w = grind (arith, nat_tests)
-
-has_word-memory : (w : ℕ) → is_reference (bits 0 3 w) (bit 6 w) ≡ true → has_word (memory w) ≡ true
-unfolding has_word memory
-has_word-memory w h = and_from _ _ h (is_mode-mode w)
-
-has_word-load_code : (w : ℕ) → w < 2 ^ 16 → instruction w ≡ load_code w → has_word (load_code w) ≡ true
-unfolding has_word load_code
-has_word-load_code w h e = grind (arith, nat_tests, has_word-illegal w h)
-
-has_word-loop_branch : (w : ℕ) → w < 2 ^ 16 → instruction w ≡ loop_branch w → has_word (loop_branch w) ≡ true
-unfolding has_word loop_branch
-has_word-loop_branch w h e = grind (arith, nat_tests, has_word-illegal w h)
-
-has_word-branch : (w : ℕ) → w < 2 ^ 16 → instruction w ≡ branch w → has_word (branch w) ≡ true
-unfolding has_word branch
-has_word-branch w h e = grind (arith, nat_tests, has_word-illegal w h)
-
-has_word-on_code : (w : ℕ) → w < 2 ^ 16 → instruction w ≡ on_code w → has_word (on_code w) ≡ true
-unfolding has_word on_code
-has_word-on_code w h e = grind (arith, nat_tests, has_word-illegal w h)
-
-has_word-no_memory : (w : ℕ) → w < 2 ^ 16 → instruction w ≡ no_memory w → has_word (no_memory w) ≡ true
-unfolding no_memory
-has_word-no_memory w h e =
-    grind (arith, has_word-load_code, has_word-loop_branch, has_word-branch, has_word-on_code, has_word-illegal)
-
-has_word-reference : (w : ℕ) → w < 2 ^ 16 → instruction w ≡ reference w → has_word (reference w) ≡ true
-unfolding reference
-has_word-reference w h e = grind (arith, has_word-memory, has_word-no_memory)
-
--- each word's instruction has fields such as words have
-pub has_word-instruction : (w : ℕ) → w < 2 ^ 16 → has_word (instruction w) ≡ true
-unfolding instruction
-has_word-instruction w h =
-    grind (arith, has_word-pair, has_word-shift_or_branch, has_word-immediate, has_word-control, has_word-reference)
-
--- the fields are such as words have exactly where some word has the instruction
-pub has_word_iff : (i : Instr) → IsTrue (has_word i) ↔ HasWord i
-has_word_iff i =
-    (λ fit. (encoded i, encoded-below i fit, instruction-encoded i fit), λ some. subst (λ j. has_word j ≡ true) some.2 (has_word-instruction some.0 some.1))

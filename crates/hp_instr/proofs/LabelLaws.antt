@@ -21,10 +21,12 @@ pub is_label-label : (w : ℕ) → w < 2 ^ 16 → is_label (label w) ≡ true
 unfolding label is_label
 is_label-label w h = grind (arith, nat_tests)
 
+-- a local label
 label-Local : (offset : ℕ) → offset < 2 ^ 14 → label (label_bits (Local offset)) ≡ Local offset
 unfolding label label_bits
 label-Local offset h = grind arith
 
+-- an external label
 label-External : (seg entry : ℕ) → seg < 256 → entry < 128 → label (label_bits (External seg entry)) ≡ External seg entry
 unfolding label label_bits
 label-External seg entry h k = grind arith
@@ -35,6 +37,7 @@ unfolding label_bits
 bad_word (Bad w) h = refl
 bad_word l h = cc
 
+-- a bad label
 label-Bad : (w : ℕ) → w < 2 ^ 16 → is_bad (label w) ≡ true → label (label_bits (Bad w)) ≡ Bad w
 unfolding label_bits
 label-Bad w below h = rw (label_bits-label w below) at (bad_word (label w) h)

@@ -22,14 +22,17 @@ listed_between low high [] code all listed = cc
 listed_between low high (entry ∷ table) code all listed =
     listed_between-step low high entry.code code _ _ all listed (listed_between low high table code)
 
+-- the codes of stack operations have six bits
 pub op_below : (code : ℕ) → is_op code ≡ true → code < 64
 unfolding is_op
 op_below code h = (listed_between 0 64 stack_operations code refl h).1
 
+-- the shifts are six
 pub shift_below : (code : ℕ) → is_shift code ≡ true → code < 6
 unfolding is_shift
 shift_below code h = (listed_between 0 6 shifts code refl h).1
 
+-- the short branches have the codes %10 to %22
 pub short_branch_between : (code : ℕ) → is_short_branch code ≡ true → (8 ≤ code) × (code < 19)
 unfolding is_short_branch
 short_branch_between code h = listed_between 8 19 short_branches code refl h
@@ -40,6 +43,7 @@ last_of_three true b x y z h = inl refl
 last_of_three false true x y z h = inl refl
 last_of_three false false x y z h = inr h
 
+-- the same with one test more
 last_of_four : (a b c x y z u : Bool) → (if a then x else if b then y else if c then z else u) ≡ true →
     ((a || b || c) ≡ true) ⊎ (u ≡ true)
 last_of_four true b c x y z u h = inl refl
@@ -47,13 +51,16 @@ last_of_four false true c x y z u h = inl refl
 last_of_four false false true x y z u h = inl refl
 last_of_four false false false x y z u h = inr h
 
+-- the codes of major 2 that are not looked up in its table
 few_below : (code : ℕ) → (code == 0 || (code == 11 || code == 12)) ≡ true → code < 16
 few_below code h = grind (arith, nat_tests)
 
+-- the codes of major 3 that are not looked up in its table
 some_below : (code : ℕ) → (code == 9 || code == 10 || code == 14 || code == 11 || (code == 12 || code == 13)) ≡ true →
     code < 15
 some_below code h = grind (arith, nat_tests)
 
+-- the codes of major 2 have four bits
 pub immediate_below : (code n : ℕ) → is_immediate code n ≡ true → code < 16
 unfolding is_immediate
 immediate_below code n h =
@@ -62,6 +69,7 @@ immediate_below code n h =
       | inr listed ↦ (listed_between 1 16 immediates code refl listed).1
     ]
 
+-- the codes of major 3 are below 15
 pub control_below : (code n : ℕ) → is_control code n ≡ true → code < 15
 unfolding is_control
 control_below code n h =
@@ -70,6 +78,7 @@ control_below code n h =
       | inr listed ↦ (listed_between 0 15 controls code refl listed).1
     ]
 
+-- the majors of operations on a word in memory are 4 to 15
 pub reference_between : (major : ℕ) (second : Bool) → is_reference major second ≡ true → (4 ≤ major) × (major < 16)
 unfolding is_reference
 reference_between major true h = listed_between 4 16 second_references major refl h

@@ -1,7 +1,7 @@
 -- The laws of the round trip, at the word.
 use Rattle.std.proofs.Common.{arith}
 use Rattle.hp_instr.proofs.RoundTripLaws.{encoded-instruction}
-use Rattle.hp_instr.proofs.FieldLaws.{has_word-instruction}
+use Rattle.hp_instr.proofs.GivenLaws.{has_word-instruction}
 use Rattle.hp_instr.proofs.decoder.decode.Goals as goal
 
 pub returns-clause-has_word : goal.returns-clause-has_word

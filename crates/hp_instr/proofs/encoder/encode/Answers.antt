@@ -2,7 +2,8 @@
 use Rattle.std.proofs.Common.{◌∙◌, ap, sym}
 use Rattle.hp_instr.specs.Encoded.{encoded}
 use Rattle.hp_instr.proofs.RoundTripLaws.{encoded-instruction}
-use Rattle.hp_instr.proofs.FieldLaws.{encoded-below, instruction-encoded}
+use Rattle.hp_instr.proofs.FieldLaws.{instruction-encoded}
+use Rattle.hp_instr.proofs.GivenLaws.{encoded-below}
 use Rattle.hp_instr.proofs.encoder.encode.Goals as goal
 
 pub word_of-requires : goal.word_of-requires
