@@ -6,7 +6,7 @@ ghost use Rattle.hp_outside.specs.Faults.{HasCause};
 ghost use Rattle.hp_outside.specs.Calls.{fails_at};
 ghost use Rattle.hp_outside.specs.Room.{taken_count};
 
-use crate::streams::{Failed, Sink, Source};
+use crate::streams::{Failed, Sink, Source, one_more};
 use std::alloc::{AllocError as NoMemory, Global};
 
 /// A source that gives the bytes of a vector from a place on, and tells them.
@@ -49,7 +49,7 @@ impl Source for MemorySource {
 
     fn read(&mut self, room: &mut [u8]) -> Result<usize, Failed>
         ensures value { result ≡ read_answer self.old (length room.old) }
-        ensures left { self.new ≡ source_after self.old (length room.old) }
+        ensures after { self.new ≡ source_after self.old (length room.old) }
 
         // As of every source.
         ensures within { ReadsAtMost result room.new }
@@ -60,8 +60,7 @@ impl Source for MemorySource {
         let fails = is_to_fail(&self.fails, self.calls);
         self.calls = self.calls.saturating_add(1);
         if fails {
-            self.faults = self.faults.saturating_add(1);
-            return Err(Failed);
+            return Err(one_more(&mut self.faults));
         }
         let count = take_from(&self.bytes, self.at, room);
         self.at += count;
@@ -96,7 +95,7 @@ impl Sink for MemorySink {
 
     fn write(&mut self, piece: &[u8]) -> Result<usize, Failed>
         ensures value { result ≡ write_answer self.old (length piece.now) }
-        ensures left { WritesTo self.old self.new result piece.now }
+        ensures after { WritesTo self.old self.new result piece.now }
 
         // As of every sink.
         ensures within { WritesAtMost result piece.now }
@@ -107,8 +106,7 @@ impl Sink for MemorySink {
         let fails = self.left == 0 || is_to_fail(&self.fails, self.calls);
         self.calls = self.calls.saturating_add(1);
         if fails {
-            self.faults = self.faults.saturating_add(1);
-            return Err(Failed);
+            return Err(one_more(&mut self.faults));
         }
         let count = self.left.min(piece.len());
         self.bytes.extend_from_slice(&piece[..count]).unwrap();

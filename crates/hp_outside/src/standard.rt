@@ -8,7 +8,7 @@ ghost use Rattle.std.specs.Io.KnownBytes.{ReadConsumes, WriteAppends};
 ghost use Rattle.hp_outside.specs.Faults.{HasCause};
 ghost use Rattle.hp_outside.specs.Calls.{faults_after};
 
-use crate::streams::{Failed, Sink, Source};
+use crate::streams::{Failed, Sink, Source, one_more};
 use std::io::{Read, Write};
 
 /// A standard reader as a source that tells no bytes.
@@ -45,10 +45,7 @@ impl<R: Read> Source for StdSource<R> {
     {
         match self.reader.read(room) {
             Ok(count) => Ok(count),
-            Err(_) => {
-                self.faults = self.faults.saturating_add(1);
-                Err(Failed)
-            }
+            Err(_) => Err(one_more(&mut self.faults)),
         }
     }
 }
@@ -71,10 +68,7 @@ impl<W: Write> Sink for StdSink<W> {
     {
         match self.writer.write(piece) {
             Ok(count) if count > 0 || piece.is_empty() => Ok(count),
-            _ => {
-                self.faults = self.faults.saturating_add(1);
-                Err(Failed)
-            }
+            _ => Err(one_more(&mut self.faults)),
         }
     }
 }

@@ -31,7 +31,7 @@ impl Source for SteadySource {
 
     fn read(&mut self, room: &mut [u8]) -> Result<usize, Failed>
         ensures value { result ≡ Ok (taken_count self.old.bytes.items self.old.at (length room.old)) }
-        ensures left { self.new ≡ record self.old {
+        ensures after { self.new ≡ record self.old {
           at = self.old.at + taken_count self.old.bytes.items self.old.at (length room.old);
         } }
 
@@ -54,7 +54,7 @@ impl Sink for SteadySink {
 
     fn write(&mut self, piece: &[u8]) -> Result<usize, Failed>
         ensures value { result ≡ Ok (length piece.now) }
-        ensures left { self.new.taken ≡ (self.old.taken + length piece.now) % 2 ^ 64 }
+        ensures after { self.new.taken ≡ (self.old.taken + length piece.now) % 2 ^ 64 }
 
         // As of every sink.
         ensures within { WritesAtMost result piece.now }

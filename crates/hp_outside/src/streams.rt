@@ -2,10 +2,11 @@
 //!
 //! Neither says when it will fail. Each keeps a count of its faults, and a call may fail only where this count rose.
 //! So whoever is told of a fault can see that the outside is to blame.
-ghost use Rattle.std.specs.Prelude.{ℕ, ◌<◌, List, length, Option, IfOk};
+ghost use Rattle.std.specs.Prelude.{◌≡◌, ℕ, ◌<◌, ◌≤◌, List, length, Option, IfOk};
 ghost use Rattle.std.specs.Io.{ReadsAtMost, WritesAtMost};
 ghost use Rattle.std.specs.Io.KnownBytes.{ReadConsumes, WriteAppends};
-ghost use Rattle.hp_outside.specs.Faults.{HasCause};
+ghost use Rattle.hp_outside.specs.Faults.{Rose, HasCause};
+ghost use Rattle.hp_outside.specs.Calls.{one_more_fault};
 
 /// A read or a write that failed.
 #[derive(Clone, Copy, Debug, PartialEq, Eq)]
@@ -45,4 +46,14 @@ pub trait Sink {
         ensures progress { IfOk result (λ k. 0 < length piece.now → 0 < k) }
         ensures bytes { WriteAppends (written self.old) (written self.new) result piece.now }
         ensures cause { HasCause (faults self.old) (faults self.new) result };
+}
+
+/// Counts one more fault; at its last value the count stands still.
+pub(crate) fn one_more(faults: &mut u64) -> Failed
+    ensures value { faults.new ≡ one_more_fault faults.old }
+    ensures rose { Rose faults.old faults.new }
+    ensures never_falls { faults.old ≤ faults.new }
+{
+    *faults = faults.saturating_add(1);
+    Failed
 }

@@ -1,4 +1,6 @@
 //! Runs of each source and sink: whole inputs and outputs, limits met and passed by one, and faults in mid-stream.
+ghost use Rattle.std.specs.Prelude.{None};
+
 use crate::{
     Failed, MemorySink, MemorySource, ReadAll, Sink, Source, StdSink, StdSource, SteadySink,
     SteadySource, read_all, write_all,
@@ -27,6 +29,29 @@ impl Write for Stuck {
 
     fn flush(&mut self) -> io::Result<()> {
         Ok(())
+    }
+}
+
+/// A source of zeros that gives one byte a read, and counts the reads.
+#[derive(Drop)]
+struct Dripping {
+    left: usize,
+    reads: usize,
+}
+
+impl Source for Dripping {
+    ghost left = { λ _. None };
+
+    ghost faults = { λ _. 0 };
+
+    fn read(&mut self, room: &mut [u8]) -> Result<usize, Failed> {
+        self.reads = self.reads.wrapping_add(1);
+        if self.left == 0 || room.is_empty() {
+            return Ok(0);
+        }
+        self.left -= 1;
+        room[0] = 0;
+        Ok(1)
     }
 }
 
@@ -66,6 +91,22 @@ fn reads_up_to_the_limit_and_fails_at_the_listed_calls(rt: HostRuntime) -> Resul
             faults,
             "at {at}, call {failing} fails, limit {limit}"
         );
+    }
+    Ok(())
+}
+
+#[test]
+fn reads_at_most_two_times_more_than_bytes_may_come(rt: HostRuntime) -> Result<(), Fail> {
+    let cases = [
+        (5, 5, Ok(5), 6),
+        (6, 5, Err(ReadAll::TooLong), 6),
+        (0, 0, Ok(0), 1),
+    ];
+    for (left, limit, want, reads) in cases {
+        let mut source = Dripping { left, reads: 0 };
+        let got = read_all(rt.alloc(), &mut source, limit).map(|bytes| bytes.len());
+        assert_eq!(rt; got, want, "{left} bytes, limit {limit}");
+        assert_eq!(rt; source.reads, reads, "{left} bytes, limit {limit}");
     }
     Ok(())
 }

@@ -1,5 +1,5 @@
 -- The bytes copied are the first of those from the place on, and the others stand behind them.
-use Rattle.std.proofs.Common.{◌≡◌, ◌-◌, ◌≤◌, length, take, drop, arith}
+use Rattle.std.proofs.Common.{drop, arith}
 use Rattle.std.proofs.lemmas.Grind.{common_steps}
 use Rattle.hp_outside.proofs.StreamLemmas.{copied_from}
 use Rattle.hp_outside.proofs.memory.take_from.Goals as goal

@@ -1,5 +1,5 @@
 -- The bytes so far are within the limit and came from the front of what was left, and no count fell.
-use Rattle.std.proofs.Common.{ℕ, ◌-◌, ◌≤◌, vec_len}
+use Rattle.std.proofs.Common.{◌-◌, ◌≤◌, vec_len}
 use Rattle.std.specs.Io.KnownBytes.{Consumes}
 use Rattle.hp_outside.proofs.whole.read_all.Given as goal
 

@@ -1,5 +1,5 @@
 -- The piece written in this turn follows the first `at` bytes.
-use Rattle.std.proofs.Common.{◌+◌, ◌≤◌, ◌≡◌, ◌-◌, length, take, drop, arith, rules}
+use Rattle.std.proofs.Common.{arith, rules}
 use Rattle.std.proofs.lemmas.Grind.{common_steps}
 use Rattle.hp_outside.proofs.StreamLemmas.{Appends-Appends}
 use Rattle.hp_outside.proofs.whole.write_all.Goals as goal

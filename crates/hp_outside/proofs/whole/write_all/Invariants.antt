@@ -1,5 +1,5 @@
 -- The first `at` bytes were written, and no count fell.
-use Rattle.std.proofs.Common.{ℕ, ◌-◌, ◌≤◌, length, take}
+use Rattle.std.proofs.Common.{◌-◌, ◌≤◌, length, take}
 use Rattle.std.specs.Io.KnownBytes.{Appends}
 use Rattle.hp_outside.proofs.whole.write_all.Given as goal
 
