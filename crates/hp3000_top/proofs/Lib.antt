@@ -9,3 +9,4 @@ pub mod CallLemmas
 pub mod NodeLemmas
 pub mod ProgramLemmas
 pub mod RunLemmas
+pub mod AnswerLemmas

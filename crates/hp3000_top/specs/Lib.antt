@@ -16,3 +16,6 @@ pub mod ThinViews
 pub mod UnitViews
 pub mod ProgramViews
 pub mod Runs
+pub mod Reports
+pub mod Statuses
+pub mod Answers

@@ -1,7 +1,9 @@
 //! The top call: from the words of the command line and the bytes of the input to the bytes of the output.
 #![tactic(auto)]
 
+mod exit;
 mod names;
+mod report;
 mod reserved;
 mod session;
 mod thin_code;
@@ -12,4 +14,7 @@ mod thin_reader;
 mod thin_statements;
 mod thin_tokens;
 mod thin_unit;
+mod top;
 mod unread;
+
+pub use exit::Exit;

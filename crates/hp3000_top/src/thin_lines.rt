@@ -1,7 +1,7 @@
 //! What the lines of a thin job say, one after another.
 ghost use Rattle.std.specs.Prelude.{◌≡◌, map};
 ghost use Rattle.hp3000_top.specs.Gives.{Gives};
-ghost use Rattle.hp3000_top.specs.ThinJobs.{is_in_unit, fed_all, start};
+ghost use Rattle.hp3000_top.specs.ThinJobs.{is_in_unit, is_whole, fed_all, start};
 ghost use Rattle.hp3000_top.specs.JobViews.{job_state, place_of};
 
 use std::alloc::{AllocError, Global};
@@ -112,7 +112,7 @@ fn in_unit(due: Due) -> bool
 }
 
 /// What all the lines say.
-fn read_lines(alloc: Global, lines: &[&[u8]]) -> Result<JobReading, Unread>
+pub fn read_lines(alloc: Global, lines: &[&[u8]]) -> Result<JobReading, Unread>
     ensures { Gives job_state result (fed_all (map (λ l. l.now) lines.now) start) }
 {
     let mut reading = JobReading {
@@ -128,4 +128,11 @@ fn read_lines(alloc: Global, lines: &[&[u8]]) -> Result<JobReading, Unread>
         }
     }
     Ok(reading)
+}
+
+/// All lines of a job were read.
+pub fn whole(due: Due) -> bool
+    ensures { result ≡ is_whole (place_of due) }
+{
+    matches!(due, Due::Nothing)
 }

@@ -1,0 +1,14 @@
+-- The session that was opened has made its steps.
+use Rattle.std.proofs.Common.{◌≡◌, ℕ, ◌*◌, ◌∙◌, ap, List}
+use Rattle.hp_flat.specs.declared.terminal.Line.{Line}
+use Rattle.hp_flat.specs.Step.{after}
+use Rattle.hp_flat.specs.Views.{segments_of, opened_of}
+use Rattle.hp3000_top.specs.Runs.{run_of}
+use Rattle.hp3000_top.proofs.RunLemmas.{told}
+use Rattle.hp3000_top.proofs.session.run.Goals as goal
+
+pub returns-then-make_steps : goal.returns-then-make_steps
+unfolding run_of
+returns-then-make_steps c =
+    told c.make_steps.result _ c.if-make_steps.true c.make_steps.ensures
+    ∙ ap (after (segments_of c.args.program.now) (c.args.quantum * 100000)) (c.in-Ok.ensures.ok ∙ ap (λ (lines : List Line). opened_of c.args.program.now lines 1024 0 16384) c.new-lines.ensures.items)

@@ -1,0 +1,33 @@
+-- What the top call answers and writes.
+use Rattle.std.specs.Prelude.{◌≡◌, ℕ, Bool, true, false, List, [], ◌∷◌, Option, None, Some, IsSomeAnd, codes, nat_eq}
+use Rattle.std.specs.Io.KnownBytes.{Appends}
+use lib.Pointwise.{pointwise}
+use Rattle.hp_flat.specs.declared.program.Program.{Program}
+use Rattle.hp_flat.specs.State.{Machine}
+use Rattle.hp3000_top.specs.ThinUnits as u
+use Rattle.hp3000_top.specs.ThinJobs.{Job}
+use Rattle.hp3000_top.specs.ProgramViews.{IsMadeOf}
+use Rattle.hp3000_top.specs.Reports.{report_of}
+use Rattle.hp3000_top.specs.Runs.{run_of}
+
+-- the one word of the verb that is built
+abbrev pub is_run : List (List ℕ) → Bool
+is_run (w ∷ []) = pointwise nat_eq w (codes "run")
+is_run _ = false
+
+-- the line for an input of a form that is not built yet
+abbrev pub later_line : List ℕ
+later_line = codes "REFUSED LATER\n"
+
+-- the job read has this quantum, this name, and a tree that is this unit
+abbrev pub IsJobOf : Option Job → ℕ → List ℕ → Option u.Unit → Type 0
+IsJobOf given quantum name unit = IsSomeAnd given (λ job. (job.quantum ≡ quantum) × (job.name ≡ name) × (unit ≡ Some job.unit))
+
+-- the report of a session of this program's name
+abbrev pub report_of_run : List ℕ → Machine → List ℕ
+report_of_run name m = report_of name m.printed m.ending
+
+-- the one program is made of the job's unit, and the bytes are the report of its run by the flat machine
+abbrev pub IsAnswered : Job → List Program → List ℕ → Type 0
+IsAnswered job (p ∷ []) text = IsMadeOf job.unit.names job.unit.statements p × (text ≡ report_of_run job.name (run_of p job.quantum))
+IsAnswered job _ text = ⊥

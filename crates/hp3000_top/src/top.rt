@@ -1,0 +1,94 @@
+//! The top call.
+ghost use Rattle.std.specs.Prelude.{◌≡◌, ◌≢◌, ◌↔◌, ◌<◌, ◌≤◌, ◌⊎◌, map, length, IfSome, IsSomeAnd, IfOk, Option, None, Some, string_bytes, codes};
+ghost use Rattle.std.specs.Io.KnownBytes.{Appends};
+ghost use Rattle.hp_outside.specs.Faults.{Rose};
+ghost use Rattle.hp_outside.specs.Whole.{AppendsPrefix};
+ghost use Rattle.hp3000_top.specs.Gives.{Gives};
+ghost use Rattle.hp3000_top.specs.ThinJobs.{job_lines, fed_all, job_of, thin_job};
+ghost use Rattle.hp3000_top.specs.Answers.{is_run, IsJobOf, IsAnswered, report_of_run, later_line};
+ghost use Rattle.hp3000_top.specs.ThinTrees.{thin_of};
+ghost use Rattle.hp3000_top.specs.Runs.{run_of};
+
+use std::alloc::Global;
+
+use hp_flat::Program;
+use hp_outside::{ReadAll, Sink, Source, read_all, write_all};
+
+use spl_tree::{Name, SplUnit};
+
+use crate::exit::Exit;
+use crate::report::report;
+use crate::session::run;
+use crate::thin_job::lines;
+use crate::thin_lines::{read_lines, whole};
+use crate::thin_program::make;
+use crate::thin_unit::read_unit;
+use crate::unread::Unread;
+
+/// The greatest number of bytes of an input.
+const LIMIT: usize = 1_048_576;
+
+/// What is written where an input has a form that is not built yet.
+const LATER: &[u8] = b"REFUSED LATER\n";
+
+/// The words are those of the verb `run`.
+fn runs(words: &[String]) -> bool
+    ensures { result ≡ is_run (map (λ w. string_bytes w) words.now) }
+{
+    match words {
+        [word] => word.as_str() == "run",
+        _ => false,
+    }
+}
+
+/// A thin job as it was read.
+#[derive(Drop)]
+struct ThinJob {
+    quantum: u32,
+    name: Name,
+    unit: SplUnit,
+}
+
+/// The thin job that an input is.
+fn job_in(alloc: Global, bytes: &[u8]) -> Result<ThinJob, Unread>
+    ensures { IfOk result (λ j. IsJobOf (thin_job bytes.now) j.quantum j.name.text.items (thin_of j.unit)) }
+{
+    let lines = lines(alloc, bytes)?;
+    let job = read_lines(alloc, &lines)?;
+    if !whole(job.due) {
+        return Err(Unread::Later);
+    }
+    let unit = read_unit(alloc, &job.text)?;
+    Ok(ThinJob {
+        quantum: job.quantum,
+        name: job.name,
+        unit,
+    })
+}
+
+/// The report of a program's session.
+fn session_report(alloc: Global, name: &Name, program: &Program, quantum: u32) -> Result<Vec<u8>, Unread>
+    ensures { IfOk result (λ text. text.items ≡ report_of_run name.now.text.items (run_of program.now quantum)) }
+{
+    let session = run(alloc, program, quantum)?;
+    let text = report(alloc, name.text.as_slice(), &session.printed, session.ending)?;
+    Ok(text)
+}
+
+/// What an input is answered by: the program that was made, and the report of its session.
+#[derive(Drop)]
+struct Answer {
+    made: Vec<Program>,
+    text: Vec<u8>,
+}
+
+/// The answer to the thin job that an input is.
+fn answer_of(alloc: Global, bytes: &[u8]) -> Result<Answer, Unread>
+    ensures { IfOk result (λ a. IsSomeAnd (thin_job bytes.now) (λ job. IsAnswered job a.made.items a.text.items)) }
+{
+    let job = job_in(alloc, bytes)?;
+    let program = make(alloc, &job.unit)?;
+    let text = session_report(alloc, &job.name, &program, job.quantum)?;
+    let made = vec![in alloc; program]?;
+    Ok(Answer { made, text })
+}
