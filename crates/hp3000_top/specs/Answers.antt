@@ -1,11 +1,13 @@
 -- What the top call answers and writes.
-use Rattle.std.specs.Prelude.{◌≡◌, ℕ, Bool, true, false, List, [], ◌∷◌, Option, None, Some, IsSomeAnd, codes, nat_eq}
-use Rattle.std.specs.Io.KnownBytes.{Appends}
+use Rattle.std.specs.Prelude.{◌≡◌, ℕ, Bool, true, false, List, [], ◌∷◌, Option, None, Some, IsSomeAnd, IfSome, codes, nat_eq, length, ◌≤◌}
+use Rattle.std.specs.Io.KnownBytes.{Appends, IsAtEnd}
 use lib.Pointwise.{pointwise}
 use Rattle.hp_flat.specs.declared.program.Program.{Program}
 use Rattle.hp_flat.specs.State.{Machine}
 use Rattle.hp3000_top.specs.ThinUnits as u
-use Rattle.hp3000_top.specs.ThinJobs.{Job}
+use Rattle.hp3000_top.specs.declared.exit.Exit.{Exit}
+use Rattle.hp3000_top.specs.declared.exit.Exit.TheVariants as e
+use Rattle.hp3000_top.specs.ThinJobs.{Job, thin_job}
 use Rattle.hp3000_top.specs.ProgramViews.{IsMadeOf}
 use Rattle.hp3000_top.specs.Reports.{report_of}
 use Rattle.hp3000_top.specs.Runs.{run_of}
@@ -31,3 +33,23 @@ report_of_run name m = report_of name m.printed m.ending
 abbrev pub IsAnswered : Job → List Program → List ℕ → Type 0
 IsAnswered job (p ∷ []) text = IsMadeOf job.unit.names job.unit.statements p × (text ≡ report_of_run job.name (run_of p job.quantum))
 IsAnswered job _ text = ⊥
+
+-- the input was read to its end, and has at most so many bytes
+abbrev pub IsWhole : ℕ → Option (List ℕ) → Option (List ℕ) → Type 0
+IsWhole limit old new = IfSome old (λ all. length all ≤ limit) × IsAtEnd new
+
+-- the answers at which nothing is written
+abbrev pub IsSilent : Exit → Type 0
+IsSilent e.Done = ⊥
+IsSilent e.Refused = ⊥
+IsSilent e.WriteFault = ⊥
+IsSilent _ = Unit {0}
+
+-- the one program is made of the job's unit, and the report of its run was appended to what was written
+abbrev pub DeliversJob : Job → List Program → Option (List ℕ) → Option (List ℕ) → Type 0
+DeliversJob job (p ∷ []) old new = IsMadeOf job.unit.names job.unit.statements p × Appends old new (report_of_run job.name (run_of p job.quantum))
+DeliversJob job _ old new = ⊥
+
+-- the bytes that were left are a thin job, and it was delivered
+abbrev pub Delivers : Option (List ℕ) → List Program → Option (List ℕ) → Option (List ℕ) → Type 0
+Delivers left made old new = IfSome left (λ bytes. IsSomeAnd (thin_job bytes) (λ job. DeliversJob job made old new))

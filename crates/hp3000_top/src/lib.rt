@@ -18,3 +18,4 @@ mod top;
 mod unread;
 
 pub use exit::Exit;
+pub use top::hp3000_main;

@@ -1,11 +1,11 @@
 //! The top call.
-ghost use Rattle.std.specs.Prelude.{◌≡◌, ◌≢◌, ◌↔◌, ◌<◌, ◌≤◌, ◌⊎◌, map, length, IfSome, IsSomeAnd, IfOk, Option, None, Some, string_bytes, codes};
+ghost use Rattle.std.specs.Prelude.{◌≡◌, ◌≢◌, ◌↔◌, ◌<◌, ◌≤◌, ◌⊎◌, map, length, IfSome, IsSomeAnd, IfOk, Option, None, Some, false, string_bytes, codes};
 ghost use Rattle.std.specs.Io.KnownBytes.{Appends};
 ghost use Rattle.hp_outside.specs.Faults.{Rose};
-ghost use Rattle.hp_outside.specs.Whole.{AppendsPrefix};
+ghost use Rattle.hp_outside.specs.Whole.{IsLongerThan};
 ghost use Rattle.hp3000_top.specs.Gives.{Gives};
 ghost use Rattle.hp3000_top.specs.ThinJobs.{job_lines, fed_all, job_of, thin_job};
-ghost use Rattle.hp3000_top.specs.Answers.{is_run, IsJobOf, IsAnswered, report_of_run, later_line};
+ghost use Rattle.hp3000_top.specs.Answers.{is_run, IsJobOf, IsAnswered, IsWhole, IsSilent, Delivers, report_of_run, later_line};
 ghost use Rattle.hp3000_top.specs.ThinTrees.{thin_of};
 ghost use Rattle.hp3000_top.specs.Runs.{run_of};
 
@@ -91,4 +91,64 @@ fn answer_of(alloc: Global, bytes: &[u8]) -> Result<Answer, Unread>
     let text = session_report(alloc, &job.name, &program, job.quantum)?;
     let made = vec![in alloc; program]?;
     Ok(Answer { made, text })
+}
+
+/// Does what the words of the command line say: reads the input, and writes the output whole, or as far as the sink takes
+/// it.
+///
+/// `words` are the words after the program's name. At `Done` with `run` the list `made` holds the one program that was made
+/// of the job's unit; at every other answer it is as before. Want of memory may come in place of any later answer, and
+/// then nothing was written.
+pub fn hp3000_main<I: Source, O: Sink>(
+    alloc: Global,
+    words: &Vec<String>,
+    input: &mut I,
+    output: &mut O,
+    made: &mut Vec<Program>,
+) -> Exit
+    // Each answer, and when it comes.
+    ensures usage { (result ≡ Exit.Usage) ↔ (is_run (map (λ w. string_bytes w) words.now.items) ≡ false) }
+    ensures read_fault { result ≡ Exit.ReadFault → Rose (I.faults input.old) (I.faults input.new) }
+    ensures too_long { result ≡ Exit.InputTooLong → IsLongerThan 1048576 (I.left input.old) }
+    ensures write_fault { result ≡ Exit.WriteFault → Rose (O.faults output.old) (O.faults output.new) }
+
+    // What was read.
+    ensures unread { result ≡ Exit.Usage → input.new ≡ input.old }
+    ensures whole { (result ≡ Exit.Done) ⊎ (result ≡ Exit.Refused) → IsWhole 1048576 (I.left input.old) (I.left input.new) }
+
+    // What was written.
+    ensures silent { IsSilent result → output.new ≡ output.old }
+    ensures refused { result ≡ Exit.Refused → Appends (O.written output.old) (O.written output.new) later_line }
+    ensures done { result ≡ Exit.Done → Delivers (I.left input.old) made.new.items (O.written output.old) (O.written output.new) }
+    ensures kept { result ≢ Exit.Done → made.new ≡ made.old }
+{
+    if !runs(words) {
+        return Exit::Usage;
+    }
+    let bytes = match read_all(alloc, input, LIMIT) {
+        Ok(bytes) => bytes,
+        Err(ReadAll::ReadFault) => return Exit::ReadFault,
+        Err(ReadAll::TooLong) => return Exit::InputTooLong,
+        Err(ReadAll::NoMemory) => return Exit::NoMemory,
+    };
+    match answer_of(alloc, &bytes) {
+        Ok(answer) => {
+            let Answer {
+                made: programs,
+                text,
+            } = answer;
+            if write_all(output, &text).is_err() {
+                return Exit::WriteFault;
+            }
+            *made = programs;
+            Exit::Done
+        }
+        Err(Unread::Later) => {
+            if write_all(output, LATER).is_err() {
+                return Exit::WriteFault;
+            }
+            Exit::Refused
+        }
+        Err(Unread::NoMemory) => Exit::NoMemory,
+    }
 }
