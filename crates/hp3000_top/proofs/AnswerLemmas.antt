@@ -36,6 +36,7 @@ job_read bytes unit s read h some e =
 pub answered : (given : Option Job) (quantum : ℕ) (name : List ℕ) (unit : Option u.Unit) (p : Program) (text : List ℕ) → IsJobOf given quantum name unit
     → IfSome unit (λ t. IsMadeOf t.names t.statements p) → text ≡ report_of_run name (run_of p quantum) → IsSomeAnd given (λ job. IsAnswered job (p ∷ []) text)
 answered None quantum name unit p text is made told = is
-answered (Some job) quantum name unit p text is made told =
-    (subst (λ (o : Option u.Unit). IfSome o (λ t. IsMadeOf t.names t.statements p)) is.2 made,
-     told ∙ ap (λ (n : List ℕ). report_of_run n (run_of p quantum)) (sym is.1) ∙ ap (λ (q : ℕ). report_of_run job.name (run_of p q)) (sym is.0))
+answered (Some job) quantum name unit p text is made told = (
+  subst (λ (o : Option u.Unit). IfSome o (λ t. IsMadeOf t.names t.statements p)) is.2 made,
+  told ∙ ap (λ (n : List ℕ). report_of_run n (run_of p quantum)) (sym is.1) ∙ ap (λ (q : ℕ). report_of_run job.name (run_of p q)) (sym is.0),
+)

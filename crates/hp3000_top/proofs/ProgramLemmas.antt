@@ -25,7 +25,7 @@ pub made_of : (r : Result Program Unread) (unit : SplUnit) (first : Decl) (decls
 unfolding thin_of
 made_of (Ok p) unit first decls items sts d f v s h =
     let there : Some (names_of items) ≡ option_and_then variables_of (slice_get unit.items.items 0) =
-      v ∙ ap (option_and_then variables_of) (f ∙ ap (λ (l : List Decl). slice_get l 0) d) in
+    v ∙ ap (option_and_then variables_of) (f ∙ ap (λ (l : List Decl). slice_get l 0) d) in
     by_names _ (option_and_then intrinsics_of (slice_get unit.items.items 1)) (names_of items) (statements_of unit.statements.items) p there
-      (subst (λ (l : List Stmt). IsMadeOf (names_of items) (statements_of l) p) s h)
+    (subst (λ (l : List Stmt). IsMadeOf (names_of items) (statements_of l) p) s h)
 made_of (Err e) unit first decls items sts d f v s h = tt

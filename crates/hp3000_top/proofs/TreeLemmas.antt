@@ -36,7 +36,6 @@ named_other name args at h =
 pub named_sum : (name : Name) (args : Vec e.Expr Global) (at : At) → args.items ≡ [] → sum_of (e.Named name args at) ≡ u.one (u.variable name.text.items)
 named_sum name args at h = ap u.one (named_atom name args at h)
 
-
 -- a list of no length is empty
 pub no_items : {X : Type 0} (xs : List X) → length xs ≡ 0 → xs ≡ []
 no_items [] h = refl

@@ -58,14 +58,14 @@ expecting b s = if b then s else None
 unfoldable pub with_name : List ℕ → State → Option State
 with_name name s =
     expecting (u.is_free_name name && not (u.is_declared s.names name) && nat_lt (length s.names) 100)
-      (Some (record s { names = s.names ++ name ∷ []; place = name_read }))
+    (Some (record s { names = s.names ++ name ∷ []; place = name_read }))
 
 -- an intrinsic is declared
 unfoldable pub with_gate : List ℕ → State → Option State
 with_gate name s =
     if is_text name "QUIT" then adding u.quit_gate else if is_text name "TERMINATE" then adding u.terminate_gate else None where
-  adding : u.Gate → Option State
-  adding g = expecting (not (u.has_gate s.gates g)) (Some (record s { gates = s.gates ++ g ∷ []; place = gate_read }))
+      adding : u.Gate → Option State
+      adding g = expecting (not (u.has_gate s.gates g)) (Some (record s { gates = s.gates ++ g ∷ []; place = gate_read }))
 
 -- a statement was read whole, and this comes next
 abbrev pub with_statement : u.Statement → Place → State → Option State

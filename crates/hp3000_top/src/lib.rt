@@ -6,6 +6,8 @@ mod names;
 mod report;
 mod reserved;
 mod session;
+#[cfg(test)]
+mod tests;
 mod thin_code;
 mod thin_job;
 mod thin_lines;

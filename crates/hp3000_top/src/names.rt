@@ -4,9 +4,8 @@ ghost use Rattle.std.specs.List.{list_any};
 ghost use Rattle.hp3000_top.specs.ThinUnits.{same_name, is_declared, is_reserved, is_free_name, has_gate, quit_gate, terminate_gate};
 ghost use Rattle.hp3000_top.specs.ThinTrees.{names_of, gates_of};
 
-use spl_tree::{At, Item, Name};
-
 use crate::reserved::RESERVED;
+use spl_tree::{At, Item, Name};
 
 /// Two names are equal.
 pub fn same(a: &[u8], b: &[u8]) -> bool

@@ -3,9 +3,8 @@ ghost use Rattle.std.specs.Prelude.{◌≡◌, ◌++◌, ◌∷◌, [], IfOk, On
 ghost use Rattle.std.specs.Fmt.{decimal};
 ghost use Rattle.hp3000_top.specs.Reports.{trap_number, trap_text, end_text, line_end, session_line, report_of};
 
-use std::alloc::{AllocError, Global};
-
 use hp_word::{Ending, Trap};
+use std::alloc::{AllocError, Global};
 
 /// A trap's number.
 fn trap_number(trap: Trap) -> u8
@@ -84,7 +83,12 @@ fn end_line(alloc: Global, end: &str) -> Result<String, AllocError>
 
 /// The report of one session: its line, what it printed, and its end line.
 #[tactic(auto, unfolding(crate::specs::Reports::report_of))]
-pub fn report(alloc: Global, name: &[u8], printed: &[u8], ending: Ending) -> Result<Vec<u8>, AllocError>
+pub fn report(
+    alloc: Global,
+    name: &[u8],
+    printed: &[u8],
+    ending: Ending,
+) -> Result<Vec<u8>, AllocError>
     ensures { IfOk result (λ text. text.items ≡ report_of name.now printed.now ending) }
 {
     let end = end_text(alloc, ending)?;

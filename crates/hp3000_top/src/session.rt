@@ -5,12 +5,10 @@ ghost use Rattle.hp_flat.specs.Step.{after, is_running};
 ghost use Rattle.hp_flat.specs.Views.{segments_of};
 ghost use Rattle.hp3000_top.specs.Runs.{run_of};
 
-use std::alloc::Global;
-
+use crate::unread::Unread;
 use hp_flat::{Flat, OpenFlat, Program};
 use hp_word::Ending;
-
-use crate::unread::Unread;
+use std::alloc::Global;
 
 /// The words of a session's stack, unless its job sets another number.
 const STACK: u16 = 1024;

@@ -4,11 +4,9 @@ ghost use Rattle.hp3000_top.specs.ThinCode.{place, atom_words, sum_words};
 ghost use Rattle.hp3000_top.specs.OperandViews.{operand_view, EndsWith};
 ghost use Rattle.hp3000_top.specs.ThinTrees.{names_of, atom_of, sum_of, statement_of, statements_of};
 
-use std::alloc::{AllocError, Global};
-
-use spl_tree::{Expr, Item, Name, binary};
-
 use crate::names::is_named;
+use spl_tree::{Expr, Item, Name, binary};
+use std::alloc::{AllocError, Global};
 
 /// LOAD DB+.
 const LOAD: u16 = 0o041000;
@@ -97,7 +95,10 @@ pub fn last_of(expr: &Expr) -> Last<'_>
 {
     match expr {
         Expr::Binary {
-            op, left, right, ..
+            op,
+            left,
+            right,
+            ..
         } => match *op {
             binary::PLUS => Last::Plus(left, right),
             binary::MINUS => Last::Minus(left, right),
@@ -130,4 +131,3 @@ pub fn sum(code: &mut Vec<u16>, items: &[Item], expr: &Expr) -> Result<(), Alloc
         Last::Other => Ok(()),
     }
 }
-

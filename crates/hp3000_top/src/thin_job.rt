@@ -7,16 +7,14 @@ ghost use Rattle.hp3000_top.specs.ThinTokens.{begins_with, is_name_byte};
 ghost use Rattle.hp3000_top.specs.ThinJobs.{job_lines, is_blank, words, digits_after, quantum_in, is_program_name, name_in, is_text, command_of_one, command_of_two, command_of_words, command_of};
 ghost use Rattle.hp3000_top.specs.CommandViews.{command_view};
 
-use std::alloc::{AllocError, Global};
-
-use bstr::ByteSlice;
-use spl_tree::{Name, SplUnit};
-
 use crate::names::{is_word, same};
 use crate::thin_reader::name_of;
 use crate::thin_tokens::{capital, digit, name_byte};
 use crate::thin_unit::read_unit;
 use crate::unread::Unread;
+use bstr::ByteSlice;
+use spl_tree::{Name, SplUnit};
+use std::alloc::{AllocError, Global};
 
 /// A command of a thin job.
 #[derive(Debug, Drop)]
@@ -88,7 +86,11 @@ fn quantum(word: &[u8]) -> Option<u32>
         return None;
     }
     let value = number(word)?;
-    if 0 < value && value <= 500 { Some(value as u32) } else { None }
+    if 0 < value && value <= 500 {
+        Some(value as u32)
+    } else {
+        None
+    }
 }
 
 fn all_name_bytes(bytes: &[u8]) -> bool
@@ -113,7 +115,11 @@ fn program_name(word: &[u8]) -> bool
 fn name(word: &[u8]) -> Option<Name>
     ensures { option_map (λ n. n.text.items) result ≡ name_in word.now }
 {
-    if program_name(word) { Some(name_of(word)) } else { None }
+    if program_name(word) {
+        Some(name_of(word))
+    } else {
+        None
+    }
 }
 
 /// The command of one word.

@@ -4,14 +4,12 @@ ghost use Rattle.hp3000_top.specs.Gives.{Gives};
 ghost use Rattle.hp3000_top.specs.ThinJobs.{is_in_unit, is_whole, fed_all, start};
 ghost use Rattle.hp3000_top.specs.JobViews.{job_state, place_of};
 
-use std::alloc::{AllocError, Global};
-
-use spl_tree::Name;
-
 use crate::names::same;
 use crate::thin_job::{Command, command_in, lines};
 use crate::thin_reader::name_of;
 use crate::unread::Unread;
+use spl_tree::Name;
+use std::alloc::{AllocError, Global};
 
 /// What comes next. The flag says that the quantum may still be set.
 #[derive(Clone, Copy, Debug, PartialEq, Eq)]
@@ -89,7 +87,8 @@ impl JobReading {
             (Due::Program(true), Command::Quantum(n)) => (n, name, Due::Program(false)),
             (Due::Program(_), Command::Program(name)) => (quantum, name, Due::Unit),
             (Due::Unit, Command::Unit) => (quantum, name, Due::Text),
-            (Due::MoreText, Command::Session(other)) if same(name.text.as_slice(), other.text.as_slice()) => {
+            (Due::MoreText, Command::Session(other))
+                if same(name.text.as_slice(), other.text.as_slice()) => {
                 (quantum, name, Due::End)
             }
             (Due::End, Command::EndOfJob) => (quantum, name, Due::Nothing),

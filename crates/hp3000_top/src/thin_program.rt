@@ -5,14 +5,14 @@ ghost use Rattle.hp3000_top.specs.ThinTrees.{names_of, sum_of, statement_of, sta
 ghost use Rattle.hp3000_top.specs.StepViews.{entries_view};
 ghost use Rattle.hp3000_top.specs.ProgramViews.{IsMadeOf};
 
-use std::alloc::{AllocError, Global};
-
+use crate::thin_code::{Last, last_of};
+use crate::thin_statements::{
+    CALL, First, Step, all, depth, quits_anywhere, quits_at_first, step_of, terminate_entry,
+};
+use crate::unread::Unread;
 use hp_flat::Program;
 use spl_tree::{Decl, Expr, Item, Kind, SplUnit, Stmt};
-
-use crate::thin_code::{Last, last_of};
-use crate::thin_statements::{CALL, First, Step, all, depth, quits_anywhere, quits_at_first, step_of, terminate_entry};
-use crate::unread::Unread;
+use std::alloc::{AllocError, Global};
 
 /// ROOM.
 const ROOM: u16 = 0o033000;
@@ -88,7 +88,11 @@ fn put_table(code: &mut Vec<u16>, first: bool, some: bool) -> Result<(), AllocEr
 fn first_call(statements: &[Stmt]) -> First
     ensures { entries_view result ≡ entries_of (statements_of statements.now) }
 {
-    if quits_at_first(statements) { First::Quit } else { First::Terminate }
+    if quits_at_first(statements) {
+        First::Quit
+    } else {
+        First::Terminate
+    }
 }
 
 /// The words of the segment.
@@ -101,7 +105,11 @@ fn segment(alloc: Global, items: &[Item], statements: &[Stmt]) -> Result<Vec<u16
     code.push(ROOM + depth(statements))?;
     all(&mut code, items, first, statements)?;
     code.push(CALL + terminate_entry(first))?;
-    put_table(&mut code, quits_at_first(statements), quits_anywhere(statements))?;
+    put_table(
+        &mut code,
+        quits_at_first(statements),
+        quits_anywhere(statements),
+    )?;
     Ok(code)
 }
 

@@ -4,13 +4,13 @@ ghost use Rattle.std.specs.Prelude.{◌≡◌, ◌<◌, ◌≤◌, length, codes
 ghost use Rattle.hp3000_top.specs.ThinUnits.{atom_count, one, variable};
 ghost use Rattle.hp3000_top.specs.ThinTrees.{sum_of, atom_of};
 
-use std::alloc::{AllocError, Global};
-
-use arrayvec::ArrayVec;
-use spl_tree::{At, Decl, Expr, Item, Kind, Name, Ref, Shape, SplUnit, Stmt, Target, What, binary, mark};
-
 use crate::names::{declared, free_name, is_word, quit_declared, terminate_declared};
 use crate::unread::Unread;
+use arrayvec::ArrayVec;
+use spl_tree::{
+    At, Decl, Expr, Item, Kind, Name, Ref, Shape, SplUnit, Stmt, Target, What, binary, mark,
+};
+use std::alloc::{AllocError, Global};
 
 /// What a sum is for: a variable's assignment or a call of QUIT, with the place of the statement.
 #[derive(Debug, Drop)]
@@ -100,7 +100,11 @@ impl Reading {
     fn expecting(holds: bool, parts: Parts, place: Place) -> Result<Reading, Unread>
         ensures { Gives state_of result (expecting holds (Some (state_of (record { parts = parts; place = place })))) }
     {
-        if holds { Ok(Reading { parts, place }) } else { Err(Unread::Later) }
+        if holds {
+            Ok(Reading { parts, place })
+        } else {
+            Err(Unread::Later)
+        }
     }
 
     /// A variable is declared.
@@ -194,7 +198,11 @@ impl Reading {
                 return Err(Unread::Later);
             }
             let args = Vec::new(alloc);
-            return Reading::with_statement(parts, Stmt::Call { name, args, at }, Place::StatementRead);
+            return Reading::with_statement(
+                parts,
+                Stmt::Call { name, args, at },
+                Place::StatementRead,
+            );
         }
         if is_word(&name, b"QUIT") {
             let there = quit_declared(&parts.gates);
@@ -205,12 +213,22 @@ impl Reading {
     }
 
     /// The statement of a sum is read whole.
-    fn ended(alloc: Global, parts: Parts, sink: Sink, sum: SumSoFar, place: Place) -> Result<Reading, Unread>
+    fn ended(
+        alloc: Global,
+        parts: Parts,
+        sink: Sink,
+        sum: SumSoFar,
+        place: Place,
+    ) -> Result<Reading, Unread>
         ensures { Gives state_of result (with_statement (ended (sink_of sink) (sum_of sum.expr)) (place_of place) (state_of (record { parts = parts; place = place }))) }
     {
         let statement = match sink {
             Sink::Variable(name, at) => Stmt::Assign {
-                to: Target::Plain(Ref { name, index: None, at }),
+                to: Target::Plain(Ref {
+                    name,
+                    index: None,
+                    at,
+                }),
                 value: sum.expr,
                 at,
             },
@@ -242,7 +260,13 @@ impl Reading {
 
     /// A mark behind a sum.
     #[tactic(auto, unfolding(crate::specs::ThinReading::sum_mark))]
-    fn sum_mark(alloc: Global, parts: Parts, sink: Sink, sum: SumSoFar, m: u8) -> Result<Reading, Unread>
+    fn sum_mark(
+        alloc: Global,
+        parts: Parts,
+        sink: Sink,
+        sum: SumSoFar,
+        m: u8,
+    ) -> Result<Reading, Unread>
         ensures { Gives state_of result (sum_mark (sink_of sink) (sum_of sum.expr) m (state_of (record { parts = parts; place = Place.SumRead sink sum }))) }
     {
         match m {
@@ -254,7 +278,13 @@ impl Reading {
 
     /// The mark that ends a sum.
     #[tactic(auto, unfolding(crate::specs::ThinReading::sum_end))]
-    fn sum_end(alloc: Global, parts: Parts, sink: Sink, sum: SumSoFar, m: u8) -> Result<Reading, Unread>
+    fn sum_end(
+        alloc: Global,
+        parts: Parts,
+        sink: Sink,
+        sum: SumSoFar,
+        m: u8,
+    ) -> Result<Reading, Unread>
         ensures { Gives state_of result (sum_end (sink_of sink) (sum_of sum.expr) m (state_of (record { parts = parts; place = Place.SumRead sink sum }))) }
     {
         let next = match sink {
@@ -267,11 +297,23 @@ impl Reading {
 
     /// END behind the sum of an assignment.
     #[tactic(auto, unfolding(crate::specs::ThinReading::sum_word))]
-    fn sum_word(alloc: Global, parts: Parts, sink: Sink, sum: SumSoFar, word: &Name) -> Result<Reading, Unread>
+    fn sum_word(
+        alloc: Global,
+        parts: Parts,
+        sink: Sink,
+        sum: SumSoFar,
+        word: &Name,
+    ) -> Result<Reading, Unread>
         ensures { Gives state_of result (sum_word (sink_of sink) (sum_of sum.expr) word.now.text.items (state_of (record { parts = parts; place = Place.SumRead sink sum }))) }
     {
         match sink {
-            Sink::Variable(..) if is_word(word, b"END") => Reading::ended(alloc, parts, sink, sum, Place::DotDue),
+            Sink::Variable(..) if is_word(word, b"END") => Reading::ended(
+                alloc,
+                parts,
+                sink,
+                sum,
+                Place::DotDue,
+            ),
             _ => Err(Unread::Later),
         }
     }
@@ -282,7 +324,11 @@ impl Reading {
         ensures { IfOk result (λ s. sum_of s.expr ≡ joined (before_of before) (atom_of operand)) }
     {
         let (op, short) = match before {
-            Before::Nothing => return Ok(SumSoFar { expr: operand, atoms: 1, at }),
+            Before::Nothing => return Ok(SumSoFar {
+                expr: operand,
+                atoms: 1,
+                at,
+            }),
             Before::Plus(short) => (binary::PLUS, short),
             Before::Minus(short) => (binary::MINUS, short),
         };
@@ -309,18 +355,33 @@ impl Reading {
             Place::BeginDue => Reading::expecting(is_word(&word, b"BEGIN"), parts, Place::TypeDue),
             Place::TypeDue => Reading::expecting(is_word(&word, b"INTEGER"), parts, Place::NameDue),
             Place::NameDue => Reading::with_name(parts, word, at),
-            Place::IntrinsicDue => Reading::expecting(is_word(&word, b"INTRINSIC"), parts, Place::GateDue),
+            Place::IntrinsicDue => Reading::expecting(
+                is_word(&word, b"INTRINSIC"),
+                parts,
+                Place::GateDue,
+            ),
             Place::GateDue => Reading::with_gate(parts, word, at),
             Place::StatementDue => Reading::statement_from(alloc, parts, word, at),
             Place::AtomDue(sink, before) => Reading::variable(alloc, parts, sink, before, word, at),
             Place::SumRead(sink, sum) => Reading::sum_word(alloc, parts, sink, sum, &word),
-            Place::StatementRead => Reading::expecting(is_word(&word, b"END"), parts, Place::DotDue),
+            Place::StatementRead => Reading::expecting(
+                is_word(&word, b"END"),
+                parts,
+                Place::DotDue,
+            ),
             _ => Err(Unread::Later),
         }
     }
 
     /// A variable as an operand.
-    fn variable(alloc: Global, parts: Parts, sink: Sink, before: Before, name: Name, at: At) -> Result<Reading, Unread>
+    fn variable(
+        alloc: Global,
+        parts: Parts,
+        sink: Sink,
+        before: Before,
+        name: Name,
+        at: At,
+    ) -> Result<Reading, Unread>
         ensures { Gives state_of result (expecting (is_declared (names_of parts.names.items) name.text.items) (at_place (r.sum_read (sink_of sink) (joined (before_of before) (variable name.text.items))) (state_of (record { parts = parts; place = Place.DotDue })))) }
     {
         if !declared(&parts.names, name.text.as_slice()) {
@@ -356,13 +417,25 @@ impl Reading {
             Place::GateRead => Reading::expecting(m == mark::SEMICOLON, parts, Place::StatementDue),
             Place::AssignDue(name, at) => {
                 let sink = Sink::Variable(name, at);
-                Reading::expecting(m == mark::ASSIGN, parts, Place::AtomDue(sink, Before::Nothing))
+                Reading::expecting(
+                    m == mark::ASSIGN,
+                    parts,
+                    Place::AtomDue(sink, Before::Nothing),
+                )
             }
             Place::OpenDue(at) => {
-                Reading::expecting(m == mark::OPEN, parts, Place::AtomDue(Sink::Quit(at), Before::Nothing))
+                Reading::expecting(
+                    m == mark::OPEN,
+                    parts,
+                    Place::AtomDue(Sink::Quit(at), Before::Nothing),
+                )
             }
             Place::SumRead(sink, sum) => Reading::sum_mark(alloc, parts, sink, sum, m),
-            Place::StatementRead => Reading::expecting(m == mark::SEMICOLON, parts, Place::StatementDue),
+            Place::StatementRead => Reading::expecting(
+                m == mark::SEMICOLON,
+                parts,
+                Place::StatementDue,
+            ),
             Place::DotDue => Reading::expecting(m == mark::DOT, parts, Place::Whole),
             _ => Err(Unread::Later),
         }

@@ -5,12 +5,10 @@ ghost use Rattle.hp3000_top.specs.ThinCode.{place, sum_words, statement_words, s
 ghost use Rattle.hp3000_top.specs.ThinTrees.{names_of, sum_of, call, statement_of, statements_of};
 ghost use Rattle.hp3000_top.specs.StepViews.{step_view, entries_view};
 
-use std::alloc::AllocError;
-
-use spl_tree::{Expr, Item, Name, Ref, Stmt, Target};
-
 use crate::names::is_word;
 use crate::thin_code::{Last, last_of, place_in, sum};
+use spl_tree::{Expr, Item, Name, Ref, Stmt, Target};
+use std::alloc::AllocError;
 
 /// STOR DB+.
 const STORE: u16 = 0o051000;
@@ -73,9 +71,13 @@ pub fn step_of(statement: &Stmt) -> Step<'_>
 {
     match statement {
         Stmt::Assign {
-            to: Target::Plain(Ref {
-                name, index: None, ..
-            }),
+            to: Target::Plain(
+                Ref {
+                    name,
+                    index: None,
+                    ..
+                },
+            ),
             value,
             ..
         } => Step::Assign(name, value),
@@ -86,7 +88,12 @@ pub fn step_of(statement: &Stmt) -> Step<'_>
 
 /// Appends the code of a statement.
 #[tactic(auto, using(crate::proofs::CodeLemmas::statement_parts))]
-pub fn statement(code: &mut Vec<u16>, items: &[Item], first: First, statement: &Stmt) -> Result<(), AllocError>
+pub fn statement(
+    code: &mut Vec<u16>,
+    items: &[Item],
+    first: First,
+    statement: &Stmt,
+) -> Result<(), AllocError>
     requires { length items.now ≤ 256 }
     ensures { OnOk result (code.new.items ≡ code.old.items ++ statement_words (names_of items.now) (entries_view first) (statement_of statement.now)) }
 {
@@ -107,7 +114,12 @@ pub fn statement(code: &mut Vec<u16>, items: &[Item], first: First, statement: &
 
 /// Appends the code of statements.
 #[tactic(auto, using(crate::proofs::CodeLemmas::statement_steps))]
-pub fn all(code: &mut Vec<u16>, items: &[Item], first: First, statements: &[Stmt]) -> Result<(), AllocError>
+pub fn all(
+    code: &mut Vec<u16>,
+    items: &[Item],
+    first: First,
+    statements: &[Stmt],
+) -> Result<(), AllocError>
     requires { length items.now ≤ 256 }
     ensures { OnOk result (code.new.items ≡ code.old.items ++ statements_words (names_of items.now) (entries_view first) (statements_of statements.now)) }
 {

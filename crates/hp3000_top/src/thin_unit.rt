@@ -7,13 +7,11 @@ ghost use Rattle.hp3000_top.specs.ThinTrees.{thin_of, names_of, gates_of, statem
 ghost use Rattle.hp3000_top.specs.ThinViews.{state_of, place_of};
 ghost use Rattle.hp3000_top.specs.UnitViews.{ReadsUnit};
 
-use std::alloc::Global;
-
-use spl_tree::{At, Decl, Kind, SplUnit};
-
 use crate::thin_reader::{Parts, Place, Reading, name_of};
 use crate::thin_tokens::{next_piece, past_all};
 use crate::unread::Unread;
+use spl_tree::{At, Decl, Kind, SplUnit};
+use std::alloc::Global;
 
 /// The place of a text's first byte.
 const FIRST: At = At {

@@ -9,13 +9,6 @@ ghost use Rattle.hp3000_top.specs.Answers.{is_run, IsJobOf, IsAnswered, IsWhole,
 ghost use Rattle.hp3000_top.specs.ThinTrees.{thin_of};
 ghost use Rattle.hp3000_top.specs.Runs.{run_of};
 
-use std::alloc::Global;
-
-use hp_flat::Program;
-use hp_outside::{ReadAll, Sink, Source, read_all, write_all};
-
-use spl_tree::{Name, SplUnit};
-
 use crate::exit::Exit;
 use crate::report::report;
 use crate::session::run;
@@ -24,6 +17,10 @@ use crate::thin_lines::{read_lines, whole};
 use crate::thin_program::make;
 use crate::thin_unit::read_unit;
 use crate::unread::Unread;
+use hp_flat::Program;
+use hp_outside::{ReadAll, Sink, Source, read_all, write_all};
+use spl_tree::{Name, SplUnit};
+use std::alloc::Global;
 
 /// The greatest number of bytes of an input.
 const LIMIT: usize = 1_048_576;
@@ -67,11 +64,21 @@ fn job_in(alloc: Global, bytes: &[u8]) -> Result<ThinJob, Unread>
 }
 
 /// The report of a program's session.
-fn session_report(alloc: Global, name: &Name, program: &Program, quantum: u32) -> Result<Vec<u8>, Unread>
+fn session_report(
+    alloc: Global,
+    name: &Name,
+    program: &Program,
+    quantum: u32,
+) -> Result<Vec<u8>, Unread>
     ensures { IfOk result (λ text. text.items ≡ report_of_run name.now.text.items (run_of program.now quantum)) }
 {
     let session = run(alloc, program, quantum)?;
-    let text = report(alloc, name.text.as_slice(), &session.printed, session.ending)?;
+    let text = report(
+        alloc,
+        name.text.as_slice(),
+        &session.printed,
+        session.ending,
+    )?;
     Ok(text)
 }
 

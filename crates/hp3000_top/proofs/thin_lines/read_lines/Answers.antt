@@ -10,14 +10,14 @@ use Rattle.hp3000_top.proofs.thin_lines.read_lines.Goals as goal
 pub loop-line-preserved : goal.loop-line-preserved
 loop-line-preserved c =
     line_read c.args.lines.now c.loop-line.line-index (get_or c.args.lines.now c.loop-line.line-index (record { ref_ptr = (0, 0); now = [] })) (job_state c.loop-line.reading) (job_state c.in-Ok.next)
-      c.loop-line-test.true (any_item c.args.lines.now c.loop-line.line-index _ c.loop-line-test.true) c.in-Ok.ensures
+    c.loop-line-test.true (any_item c.args.lines.now c.loop-line.line-index _ c.loop-line-test.true) c.in-Ok.ensures
     ∙ c.loop-line.invariant
 
 pub returns-in-Err : goal.returns-in-Err
 returns-in-Err c =
     let line = get_or c.args.lines.now c.loop-line.line-index (record { ref_ptr = (0, 0); now = [] }) in
     refused job_state job_state c.in-Err.fault (fed line.now (job_state c.loop-line.reading)) (fed_all (map (λ l. l.now) c.args.lines.now) start) c.in-Err.ensures
-      (λ h. sym c.loop-line.invariant ∙ line_refused c.args.lines.now c.loop-line.line-index line (job_state c.loop-line.reading) c.loop-line-test.true (any_item c.args.lines.now c.loop-line.line-index _ c.loop-line-test.true) h)
+    (λ h. sym c.loop-line.invariant ∙ line_refused c.args.lines.now c.loop-line.line-index line (job_state c.loop-line.reading) c.loop-line-test.true (any_item c.args.lines.now c.loop-line.line-index _ c.loop-line-test.true) h)
 
 pub returns : goal.returns
 returns c = sym c.loop-line.invariant ∙ lines_end c.args.lines.now c.loop-line.line-index (job_state c.loop-line.reading) c.loop-line-test.false

@@ -14,8 +14,8 @@ returns c =
     let first = entries_view c.first_call-first.result in
     let whole : ℕ → Entries → Bool → Bool → List ℕ = λ d e q a. (0o033000 + d) ∷ (statements_words names e sts ++ (0o030000 + e.terminate) ∷ table q a) in
     segment_parts c.new-code.result.items c.push.new.self.items c.all.new.code.items c.push-2.new.self.items c.put_table.new.code.items
-      (statements_words names first sts) (table c.quits_at_first.result c.quits_anywhere.result) (0o033000 + c.depth.result) (0o030000 + c.terminate_entry.result)
-      c.new-code.ensures.items c.in_ok-push.ensures.items c.in_ok-all.ensures c.in_ok-push-2.ensures.items c.in_ok-put_table.ensures
+    (statements_words names first sts) (table c.quits_at_first.result c.quits_anywhere.result) (0o033000 + c.depth.result) (0o030000 + c.terminate_entry.result)
+    c.new-code.ensures.items c.in_ok-push.ensures.items c.in_ok-all.ensures c.in_ok-push-2.ensures.items c.in_ok-put_table.ensures
     ∙ ap (λ (t : ℕ). (0o033000 + c.depth.result) ∷ (statements_words names first sts ++ (0o030000 + t) ∷ table c.quits_at_first.result c.quits_anywhere.result)) c.terminate_entry.ensures.value
     ∙ ap (λ (d : ℕ). whole d first c.quits_at_first.result c.quits_anywhere.result) c.depth.ensures.value
     ∙ ap (λ (e : Entries). whole (depth_of sts) e c.quits_at_first.result c.quits_anywhere.result) c.first_call-first.ensures

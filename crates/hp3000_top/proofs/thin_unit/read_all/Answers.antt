@@ -18,4 +18,4 @@ pub returns-in-Err : goal.returns-in-Err
 returns-in-Err c =
     let piece = piece_of c.in-Some.piece in
     refused state_of state_of c.in-Err.fault (fed_piece piece.tok (state_of c.loop-rest.reading)) (fed_text start c.args.text.now) c.in-Err.ensures
-      (λ h. sym c.loop-rest.invariant ∙ text_stuck (state_of c.loop-rest.reading) c.loop-rest.rest.now piece (sym c.in-Some.ensures.value) c.in-Some.ensures.size.0 h)
+    (λ h. sym c.loop-rest.invariant ∙ text_stuck (state_of c.loop-rest.reading) c.loop-rest.rest.now piece (sym c.in-Some.ensures.value) c.in-Some.ensures.size.0 h)

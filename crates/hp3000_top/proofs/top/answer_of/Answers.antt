@@ -11,6 +11,6 @@ use Rattle.hp3000_top.proofs.top.answer_of.Goals as goal
 pub returns : goal.returns
 returns c =
     let fact : IsSomeAnd (thin_job c.args.bytes.now) (λ job. IsAnswered job (c.in_ok-program.program ∷ []) c.in_ok-text.text.items) =
-      answered (thin_job c.args.bytes.now) c.in_ok-job.job.quantum c.in_ok-job.job.name.text.items (thin_of c.in_ok-job.job.unit) c.in_ok-program.program c.in_ok-text.text.items
-        c.in_ok-job.ensures c.in_ok-program.ensures c.in_ok-text.ensures in
+    answered (thin_job c.args.bytes.now) c.in_ok-job.job.quantum c.in_ok-job.job.name.text.items (thin_of c.in_ok-job.job.unit) c.in_ok-program.program c.in_ok-text.text.items
+    c.in_ok-job.ensures c.in_ok-program.ensures c.in_ok-text.ensures in
     subst (λ (made : List Program). IsSomeAnd (thin_job c.args.bytes.now) (λ job. IsAnswered job made c.in_ok-text.text.items)) (sym c.in_ok-made.ensures.items) fact

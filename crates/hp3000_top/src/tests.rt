@@ -1,0 +1,201 @@
+//! The top call over sources and sinks in memory.
+use crate::{Exit, hp3000_main};
+use hp_flat::Program;
+use hp_outside::{MemorySink, MemorySource, SteadySink, SteadySource};
+use std::alloc::Global;
+use std::test::Fail;
+
+/// The first job: a sum, and a QUIT with it.
+const FIRST: &[u8] =
+    b"!JOB\n!QUANTUM 1\n!PROGRAM A\n!UNIT\nBEGIN INTEGER I; INTRINSIC QUIT; I:=2; I:=I+3; QUIT(I) END.\n!SESSION A\n!EOJ\n";
+
+const FIRST_REPORT: &[u8] = b"SESSION 1 A BYTES 0\nEND 1 QUIT 5\n";
+
+/// A source in memory.
+fn source(alloc: Global, bytes: &[u8], fails: &[u32]) -> Result<MemorySource, Fail> {
+    Ok(MemorySource {
+        bytes: Vec::from_slice(alloc, bytes)?,
+        at: 0,
+        fails: Vec::from_slice(alloc, fails)?,
+        calls: 0,
+        faults: 0,
+    })
+}
+
+/// What the top call answers, writes and makes of these words, this input and this sink.
+fn call(
+    alloc: Global,
+    words: &[&str],
+    mut input: MemorySource,
+    mut output: MemorySink,
+) -> Result<(Exit, MemorySource, MemorySink, usize), Fail> {
+    let mut list = Vec::new(alloc);
+    for word in words {
+        list.push(String::from_str(alloc, word)?)?;
+    }
+    let mut made: Vec<Program> = Vec::new(alloc);
+    let exit = hp3000_main(alloc, &list, &mut input, &mut output, &mut made);
+    Ok((exit, input, output, made.len()))
+}
+
+/// What `run` writes of an input, with ample room.
+fn run(alloc: Global, bytes: &[u8]) -> Result<(Exit, Vec<u8>), Fail> {
+    let output = MemorySink::make(alloc, 4096, Vec::new(alloc))?;
+    let (exit, _, output, _) = call(alloc, &["run"], source(alloc, bytes, &[])?, output)?;
+    Ok((exit, Vec::from_slice(alloc, &output.bytes)?))
+}
+
+#[test]
+fn the_first_job_quits_with_five(rt: HostRuntime) -> Result<(), Fail> {
+    let alloc = rt.alloc();
+    let output = MemorySink::make(alloc, 4096, Vec::new(alloc))?;
+    let (exit, _, output, made) = call(alloc, &["run"], source(alloc, FIRST, &[])?, output)?;
+    assert_eq!(rt; exit, Exit::Done);
+    assert_eq!(rt; output.bytes.as_slice(), FIRST_REPORT);
+    assert_eq!(rt; made, 1);
+
+    let mut steady = SteadySource {
+        bytes: Vec::from_slice(alloc, FIRST)?,
+        at: 0,
+    };
+    let mut sink = SteadySink { taken: 0 };
+    let words = vec![in alloc; String::from_str(alloc, "run")?]?;
+    let mut programs: Vec<Program> = Vec::new(alloc);
+    let exit = hp3000_main(alloc, &words, &mut steady, &mut sink, &mut programs);
+    assert_eq!(rt; exit.status(), 0);
+    assert_eq!(rt; sink.taken, FIRST_REPORT.len() as u64);
+    Ok(())
+}
+
+#[test]
+fn words_that_are_no_verb_read_and_write_nothing(rt: HostRuntime) -> Result<(), Fail> {
+    let alloc = rt.alloc();
+    let lists: [&[&str]; 6] = [
+        &["run", "x"],
+        &["RUN"],
+        &["gen", "70000"],
+        &["prep"],
+        &[""],
+        &[],
+    ];
+    for words in lists {
+        let output = MemorySink::make(alloc, 4096, Vec::new(alloc))?;
+        let (exit, input, output, made) = call(alloc, words, source(alloc, FIRST, &[])?, output)?;
+        assert_eq!(rt; exit.status(), 2);
+        assert_eq!(rt; (input.calls, output.calls, made), (0, 0, 0));
+    }
+    Ok(())
+}
+
+#[test]
+fn faults_of_the_outside_are_told(rt: HostRuntime) -> Result<(), Fail> {
+    let alloc = rt.alloc();
+    // the sink's first call fails
+    let output = MemorySink::make(alloc, 4096, vec![in alloc; 0]?)?;
+    let (exit, _, output, made) = call(alloc, &["run"], source(alloc, FIRST, &[])?, output)?;
+    assert_eq!(rt; (exit.status(), output.bytes.len(), made), (4, 0, 0));
+    // the sink takes ten bytes, the last a blank
+    let output = MemorySink::make(alloc, 10, Vec::new(alloc))?;
+    let (exit, _, output, _) = call(alloc, &["run"], source(alloc, FIRST, &[])?, output)?;
+    assert_eq!(rt; exit.status(), 4);
+    assert_eq!(rt; output.bytes.as_slice(), b"SESSION 1 ".as_slice());
+    // the source's first read fails
+    let output = MemorySink::make(alloc, 4096, Vec::new(alloc))?;
+    let (exit, _, output, _) = call(alloc, &["run"], source(alloc, FIRST, &[0])?, output)?;
+    assert_eq!(rt; (exit.status(), output.calls), (3, 0));
+    // one byte more than an input may have
+    let long = vec![in alloc; b' '; 1_048_577]?;
+    let output = MemorySink::make(alloc, 4096, Vec::new(alloc))?;
+    let (exit, _, output, _) = call(alloc, &["run"], source(alloc, &long, &[])?, output)?;
+    assert_eq!(rt; (exit.status(), output.calls), (6, 0));
+    Ok(())
+}
+
+#[test]
+fn jobs_and_their_reports(rt: HostRuntime) -> Result<(), Fail> {
+    let alloc = rt.alloc();
+    let cases: [(&[u8], &[u8]); 12] = [
+        (
+            b"INTEGER A,B; INTRINSIC QUIT; A:=32767; B:=A+1; QUIT(B)",
+            b"TRAP 1 INTEGER OVERFLOW",
+        ),
+        (b"INTEGER A; INTRINSIC TERMINATE; A:=1-2", b"TERMINATED"),
+        (b"INTEGER A; INTRINSIC QUIT; A:=1-2; QUIT(A-3)", b"QUIT -4"),
+        (
+            b"INTEGER A; INTRINSIC QUIT; A:=255+256; QUIT(A+32000)",
+            b"QUIT 32511",
+        ),
+        (
+            b"INTEGER A; INTRINSIC QUIT,TERMINATE; TERMINATE; QUIT(1)",
+            b"TERMINATED",
+        ),
+        (
+            b"INTEGER A; INTRINSIC TERMINATE,QUIT; QUIT(7); TERMINATE",
+            b"QUIT 7",
+        ),
+        (
+            b"INTEGER ABCDEFGHIJKLMN1; INTRINSIC QUIT; QUIT(ABCDEFGHIJKLMN1)",
+            b"QUIT 0",
+        ),
+        (
+            b"INTEGER A,B,C; INTRINSIC QUIT; C:=9;B:=4;A:=B-C-B; QUIT(A)",
+            b"QUIT -9",
+        ),
+        (
+            b"INTEGER\n\tA ; INTRINSIC\n QUIT ;\nQUIT ( A + 0007 - 1 )\n",
+            b"QUIT 6",
+        ),
+        (
+            b"INTEGER A; INTRINSIC QUIT; A:=0-32767-1; A:=A-1; QUIT(A)",
+            b"TRAP 1 INTEGER OVERFLOW",
+        ),
+        (
+            b"INTEGER A; INTRINSIC QUIT; A:=0-32767-1; QUIT(A)",
+            b"QUIT -32768",
+        ),
+        (b"INTEGER A; INTRINSIC QUIT; QUIT(32767)", b"QUIT 32767"),
+    ];
+    for (unit, end) in cases {
+        let mut job = Vec::from_slice(alloc, b"!JOB\n!PROGRAM A\n!UNIT\nBEGIN ")?;
+        job.extend_from_slice(unit)?;
+        job.extend_from_slice(b" END.\n!SESSION A\n!EOJ\n")?;
+        let mut report = Vec::from_slice(alloc, b"SESSION 1 A BYTES 0\nEND 1 ")?;
+        report.extend_from_slice(end)?;
+        report.push(b'\n')?;
+        let (exit, text) = run(alloc, &job)?;
+        assert_eq!(rt; text.as_slice(), report.as_slice());
+        assert_eq!(rt; exit, Exit::Done);
+    }
+    Ok(())
+}
+
+#[test]
+fn inputs_that_are_no_thin_job(rt: HostRuntime) -> Result<(), Fail> {
+    let alloc = rt.alloc();
+    let cases: [&[u8]; 14] = [
+        b"",
+        b"!JOB\n!PROGRAM A\n!UNIT\nBEGIN INTEGER A; INTRINSIC QUIT; QUIT(A) END.\n!SESSION B\n!EOJ\n",
+        b"!JOB\n!PROGRAM A\n!UNIT\nBEGIN INTEGER A; INTRINSIC QUIT; QUIT(A) END.\n!SESSION A\n!EOJ\nX\n",
+        b"!JOB\n!PROGRAM A\n!UNIT\nBEGIN INTEGER A; INTRINSIC QUIT; QUIT(A) END.\n!SESSION A\n",
+        b"!JOB\n!QUANTUM 501\n!PROGRAM A\n!UNIT\nBEGIN INTEGER A; INTRINSIC QUIT; QUIT(A) END.\n!SESSION A\n!EOJ\n",
+        b"!JOB\n!QUANTUM 0\n!PROGRAM A\n!UNIT\nBEGIN INTEGER A; INTRINSIC QUIT; QUIT(A) END.\n!SESSION A\n!EOJ\n",
+        b"!JOB\n!PROGRAM A23456789\n!UNIT\nBEGIN INTEGER A; INTRINSIC QUIT; QUIT(A) END.\n!SESSION A23456789\n!EOJ\n",
+        b"!JOB\n!PROGRAM A\n!UNIT\nBEGIN INTEGER A; INTRINSIC QUIT; QUIT(B) END.\n!SESSION A\n!EOJ\n",
+        b"!JOB\n!PROGRAM A\n!UNIT\nBEGIN INTEGER A,A; INTRINSIC QUIT; QUIT(A) END.\n!SESSION A\n!EOJ\n",
+        b"!JOB\n!PROGRAM A\n!UNIT\nBEGIN INTEGER A; INTRINSIC QUIT,QUIT; QUIT(A) END.\n!SESSION A\n!EOJ\n",
+        b"!JOB\n!PROGRAM A\n!UNIT\nBEGIN INTEGER A; INTRINSIC QUIT; TERMINATE END.\n!SESSION A\n!EOJ\n",
+        b"!JOB\n!PROGRAM A\n!UNIT\nBEGIN INTEGER A; INTRINSIC QUIT; A:=32768 END.\n!SESSION A\n!EOJ\n",
+        b"!JOB\n!PROGRAM A\n!UNIT\nBEGIN INTEGER ABCDEFGHIJKLMNO1; INTRINSIC QUIT; QUIT(1) END.\n!SESSION A\n!EOJ\n",
+        b"!JOB\n!PROGRAM A\n!UNIT\nBEGIN INTEGER STEP; INTRINSIC QUIT; QUIT(STEP) END.\n!SESSION A\n!EOJ\n",
+    ];
+    for job in cases {
+        let (exit, text) = run(alloc, job)?;
+        assert_eq!(rt; text.as_slice(), b"REFUSED LATER\n".as_slice());
+        assert_eq!(rt; exit, Exit::Refused);
+    }
+    for end in 0..FIRST.len() - 1 {
+        let (exit, _) = run(alloc, &FIRST[..end])?;
+        assert_eq!(rt; exit, Exit::Refused);
+    }
+    Ok(())
+}
