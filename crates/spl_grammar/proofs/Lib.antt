@@ -1,2 +1,6 @@
 pub mod LocalReaders
 pub mod LocalExpressions
+pub mod NearReaders
+pub mod PartTokens
+pub mod FirstTokens
+pub mod FollowLemmas
