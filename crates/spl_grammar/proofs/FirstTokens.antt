@@ -15,7 +15,7 @@ use Rattle.spl_grammar.specs.Readers.{same_symbol, symbol_number, kind_number, t
 pub data Begins (test : Symbol → Bool) (b : Bool) : List Lexeme → Type 0 where
   with_first : {t : Lexeme} {ts : List Lexeme} → test t.symbol ≡ b → Begins test b (t ∷ ts)
 
-by_is : (test : Symbol → Bool) (b : Bool) (k : Symbol) (t : Lexeme) (ts : List Lexeme) → Is k t → test k ≡ b → Begins test b (t ∷ ts)
+pub by_is : (test : Symbol → Bool) (b : Bool) (k : Symbol) (t : Lexeme) (ts : List Lexeme) → Is k t → test k ≡ b → Begins test b (t ∷ ts)
 by_is test b k t ts e f = with_first (ap test e ∙ f)
 
 sign_of : Symbol → Bool

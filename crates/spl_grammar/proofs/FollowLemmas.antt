@@ -7,7 +7,7 @@ use Rattle.spl_tree.specs.declared.symbols.Symbol.TheVariants as s
 use Rattle.spl_tree.specs.Symbols.{Lexeme, Is}
 use Rattle.spl_tree.specs.Operators.{Form, binds}
 use Rattle.spl_tree.specs.Trees as tree
-use Rattle.spl_grammar.specs.Readers.{Parser, Outcome, Got, same_symbol, symbol_number, by_symbol, pure, repeat}
+use Rattle.spl_grammar.specs.Readers.{Parser, Outcome, Got, same_symbol, symbol_number, by_symbol, pure, repeat, turns, followed, and_then}
 use Rattle.spl_grammar.specs.ReadExpressions.{Found, is, operator_of, turn, turn_by, join, shifted, bytes, is_comparison}
 use Rattle.spl_grammar.specs.Following.{Stops, Follow, behind}
 use Rattle.spl_grammar.proofs.NearReaders.{Near, near_last, near_symbol, near_else, near_pure, near_head}
@@ -97,3 +97,13 @@ module _ (u : ℕ → Option At → Parser Found) (count : ℕ → Parser tree.T
   unfolding turn turn_by
   repeat_stops _ (behind st) = near_last _ (near_head _ (near_else _ (not_operator h _ st.operator)
       (near_else _ (not_mark h _ st.mark) (near_else _ (not_bytes c h _ _ st.comma) (near_pure _ _)))))
+
+  pub turn_stops : (ts : List Lexeme) → Follow c (suc h) ts → turn u count room c taken below h at r ts ≡ Got (false, r) ts
+  unfolding turn turn_by by_symbol pure
+  turn_stops _ (behind {t = t} {ts = ts} st) = rw (not_operator h (binds (operator_of t.symbol)) st.operator,
+      not_mark h (is s.Ampersand t.symbol) st.mark, not_bytes c h (is s.Comma t.symbol) (is_comparison r.form) st.comma) refl
+
+  -- the loop answers what was read so far
+  pub repeat_is : (ts : List Lexeme) → Follow c (suc h) ts → repeat (turn u count room c taken below h at) r ts ≡ Got r ts
+  unfolding repeat turns followed and_then pure
+  repeat_is ts w = rw (turn_stops ts w) refl

@@ -4,3 +4,4 @@ pub mod NearReaders
 pub mod PartTokens
 pub mod FirstTokens
 pub mod FollowLemmas
+pub mod CompleteExpressions
