@@ -280,6 +280,9 @@ related_case {c = c} {f = f} {h = h} {m = m} {n = n} {op = op} {x = x} {y = y} {
                 (related_same _ _ _ _ _ _ _ _ _ _ q i (omega arith)))))))))
         (sym (repeat_is (unary room) (counts c room) room c taken (part c room taken h) h (g.start f ts) _ _ (rw (seen_four h q) at w))))
 
+is_zero : (h : ℕ) → (suc h == 1) ≡ true → h ≡ 0
+is_zero h e = grind (arith, nat_tests, e)
+
 -- a shift
 shifted_case : {c : Bool} {f : Option At} {h n k : ℕ} {x : Form} {e : tree.Tree} {v : tree.Constant} {a w o z : Lexeme} {ts mid rest : List Lexeme}
     → (suc h == 1) ≡ true → PartRead c f (suc h) n x e ts (a ∷ w ∷ o ∷ mid) → Is s.Ampersand a → Is s.Name w
@@ -287,7 +290,7 @@ shifted_case : {c : Bool} {f : Option At} {h n k : ℕ} {x : Form} {e : tree.Tre
     → PartRead c f (suc h) (suc n) other (tree.Tree.shift k e v (g.start f ts)) ts rest
 unfolding turn turn_by shifted counted operator_of binds same_symbol symbol_number
 shifted_case {c = c} {f = f} {h = h} {n = n} {k = kind} {x = x} {e = e} {v = v} {ts = ts} {mid = mid} {rest = rest} q p i j t o u z = looped (λ w room taken k.
-    let zero_level : h ≡ 0 = grind (arith, nat_tests, q) in
+    let zero_level = is_zero h q in
     near_on (loop_of p (follow_is i (rw (zero_level) (stops_mark c))) room taken k)
     (near_turn {v = found (k + suc n) other (tree.Tree.shift kind e v (g.start f ts))} {m = rest}
         (takes_turn _ _ room c taken (local_unary room) (local_counts c room) _ (local_level _ _ room c taken (local_unary room) (local_counts c room) h) h _) (let a = u.within in omega arith)
@@ -458,6 +461,9 @@ bits_case b p i o m k n z = record { reads = λ c w room taken. near_front _ b r
     (near_symbol _ i (near_if _ (same_self s.Dot) (near_then _ (near_expect i) (near_then _ (near_expect o) (near_then _ m (near_then _ (near_expect k)
     (near_then _ n (near_then _ (near_expect z) (near_pure _ _))))))))) }
 
+form_to : {c : Bool} {f : Option At} {h n : ℕ} {x y : Form} {e : tree.Tree} {ts rest : List Lexeme} → x ≡ y → PartRead c f h n x e ts rest → PartRead c f h n y e ts rest
+form_to q p = rw (← q) p
+
 below_sum : (h : ℕ) → (suc h == 3) ≡ true → h ≤ 2
 below_sum h e = grind (arith, nat_tests, e)
 
@@ -474,7 +480,7 @@ mutual
   complete (g.Level.signed q i b z l) = signed_case q i b z (complete l) (pt.shorter l)
   complete (g.Level.negative q i l) = negative_case q i (complete l) (pt.shorter l) (ft.number_first l)
   complete (g.Level.joined q l i e r) = joined_case q (complete l) i e (complete r) (pt.shorter r)
-  complete (g.Level.related q l i e r) = related_case q (complete l) (pt.shorter l) i e (complete r) (pt.shorter r)
+  complete (g.Level.related q l i e r z) = form_to z (related_case q (complete l) (pt.shorter l) i e (complete r) (pt.shorter r))
   complete (g.Level.shifted q l i j t o v z) = shifted_case q (complete l) i j t o (complete_constant v) z
   complete (g.Level.bytes q l i o r z) = bytes_case q (complete l) (pt.shorter l) i o (complete r) (pt.shorter r) z
 

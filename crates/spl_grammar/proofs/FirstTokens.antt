@@ -55,7 +55,7 @@ no_sign (g.Level.unsigned e d) l = absurd (below_sum _ l e)
 no_sign (g.Level.signed e _ _ _ d) l = absurd (below_sum _ l e)
 no_sign (g.Level.negative e _ d) l = absurd (below_sum _ l e)
 no_sign (g.Level.joined _ d _ _ r) l = no_sign d l
-no_sign (g.Level.related _ d _ _ r) l = no_sign d (omega arith)
+no_sign (g.Level.related _ d _ _ r _) l = no_sign d (omega arith)
 no_sign (g.Level.shifted _ d _ _ _ _ v _) l = no_sign d l
 no_sign (g.Level.bytes _ d _ _ r _) l = no_sign d (omega arith)
 
@@ -70,7 +70,7 @@ number_first (g.Level.operand (g.Unary.plain p)) = primary_number p
 number_first (g.Level.operand (g.Unary.bits p _ _ _ _ _ _)) = primary_number p
 number_first (g.Level.up _ d) = number_first d
 number_first (g.Level.joined _ d _ _ r) = number_first d
-number_first (g.Level.related _ d _ _ r) = number_first d
+number_first (g.Level.related _ d _ _ r _) = number_first d
 number_first (g.Level.shifted _ d _ _ _ _ v _) = number_first d
 number_first (g.Level.bytes _ d _ _ r _) = number_first d
 

@@ -5,3 +5,6 @@ pub mod PartTokens
 pub mod FirstTokens
 pub mod FollowLemmas
 pub mod CompleteExpressions
+pub mod SameSymbol
+pub mod ExplainReaders
+pub mod SoundOperands

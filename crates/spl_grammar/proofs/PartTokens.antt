@@ -26,7 +26,7 @@ mutual
   shorter (g.Level.signed _ _ _ _ l) = let a = shorter l in omega arith
   shorter (g.Level.negative _ _ l) = let a = shorter l in omega arith
   shorter (g.Level.joined _ l _ _ r) = let a = shorter l in let b = shorter r in omega arith
-  shorter (g.Level.related _ l _ _ r) = let a = shorter l in let b = shorter r in omega arith
+  shorter (g.Level.related _ l _ _ r _) = let a = shorter l in let b = shorter r in omega arith
   shorter (g.Level.shifted _ l _ _ _ _ v _) = let a = shorter l in let b = shorter_constant v in omega arith
   shorter (g.Level.bytes _ l _ _ r _) = let a = shorter l in let b = shorter r in omega arith
 

@@ -59,10 +59,10 @@ mutual
         → Level c None h n y b mid rest
         → Level c f (suc h) (suc (m + n)) other (tree.Tree.binary op a b (start f ts)) ts rest
     -- rel = sum relop sum: relations do not follow one another
-    related : {c : Bool} {f : Option At} {h m n op : ℕ} {x y : Form} {a b : tree.Tree} {o : Lexeme} {ts mid rest : List Lexeme}
+    related : {c : Bool} {f : Option At} {h m n op : ℕ} {x y z : Form} {a b : tree.Tree} {o : Lexeme} {ts mid rest : List Lexeme}
         → (suc h == 4) ≡ true → Level c f h m x a ts (o ∷ mid) → Is (s.Operator op) o → (binds op == suc h) ≡ true
-        → Level c None h n y b mid rest
-        → Level c f (suc h) (suc (m + n)) (compared x y) (tree.Tree.binary op a b (start f ts)) ts rest
+        → Level c None h n y b mid rest → compared x y ≡ z
+        → Level c f (suc h) (suc (m + n)) z (tree.Tree.binary op a b (start f ts)) ts rest
     -- shift = shift "&" (ASL|ASR|LSL|LSR|CSL|CSR) "(" const ")"
     shifted : {c : Bool} {f : Option At} {h n k : ℕ} {x : Form} {e : tree.Tree} {v : tree.Constant} {a w o z : Lexeme} {ts mid rest : List Lexeme}
         → (suc h == 1) ≡ true → Level c f (suc h) n x e ts (a ∷ w ∷ o ∷ mid) → Is s.Ampersand a → Is s.Name w
