@@ -141,3 +141,10 @@ pub followed_assoc : {A B C : Type 0} (r : Parser A) (f : A → Parser B) (h : B
     → followed r (λ a. followed (f a) h) ts ≡ followed (followed r f) h ts
 unfolding followed
 followed_assoc r f h ts = assoc_go f h (r ts)
+
+-- what explains an open part, said of the production around it
+pub recast : {A : Type 0} {V W : A → List Lexeme → Type 0} {p q : Part} {d n j k : ℕ} {ts mid : List Lexeme} → Step p d n ts q j k mid → (o : Outcome A) → Explains V q j k mid o
+    → ((a : A) (rest : List Lexeme) → V a rest → W a rest) → Explains W p d n ts o
+recast step _ (got v) h = got (h _ _ v)
+recast step _ (bad o l) h = bad (stepped step o) l
+recast step _ (deep o l) h = deep (stepped step o) l

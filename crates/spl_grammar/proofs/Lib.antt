@@ -8,3 +8,4 @@ pub mod CompleteExpressions
 pub mod SameSymbol
 pub mod ExplainReaders
 pub mod SoundOperands
+pub mod SoundExpressions

@@ -88,7 +88,7 @@ pub both_true : (x y : Bool) → (x && y) ≡ true → (x ≡ true) × (y ≡ tr
 both_true true y e = (refl, e)
 both_true false y e = cc
 
-same_number : (a b : ℕ) → (a == b) ≡ true → a ≡ b
+pub same_number : (a b : ℕ) → (a == b) ≡ true → a ≡ b
 same_number a b e = grind (arith, nat_tests, e)
 
 equal_numbers : (a b c d : ℕ) → (a == c && b == d) ≡ true → (a ≡ c) × (b ≡ d)

@@ -66,17 +66,17 @@ record Before (es : List tree.Tree) (ts mid : List Lexeme) : Type 0 where
   pub opens : (d : ℕ) → Opens op.arguments d 0 ts op.arguments d 0 mid
 
 -- `is` of a symbol
-is_it : (k : Symbol) (t : Lexeme) → is k t.symbol ≡ true → Is k t
+pub is_it : (k : Symbol) (t : Lexeme) → is k t.symbol ≡ true → Is k t
 is_it k t e = same_is t.symbol k e
 
 -- too many are open: no more may be, so one more is too many
-one_more : (d room taken : ℕ) → d + room ≡ limit + taken → nat_lt taken room ≡ false → limit < nesting (suc d) 0
+pub one_more : (d room taken : ℕ) → d + room ≡ limit + taken → nat_lt taken room ≡ false → limit < nesting (suc d) 0
 one_more d room taken e f = let l : room ≤ taken = grind (arith, nat_tests, f) in omega arith
 
-few : (d room taken : ℕ) → d + room ≡ limit + taken → taken ≤ room → nesting d 0 ≤ limit
+pub few : (d room taken : ℕ) → d + room ≡ limit + taken → taken ≤ room → nesting d 0 ≤ limit
 few d room taken e l = omega arith
 
-few_more : (d room taken : ℕ) → d + room ≡ limit + taken → nat_lt taken room ≡ true → nesting (suc d) 0 ≤ limit
+pub few_more : (d room taken : ℕ) → d + room ≡ limit + taken → nat_lt taken room ≡ true → nesting (suc d) 0 ≤ limit
 few_more d room taken e f = let l : taken < room = grind (arith, nat_tests, f) in omega arith
 
 -- a chain with too many open
@@ -88,7 +88,7 @@ pub record TooMany (p : Part) (d n : ℕ) (ts rest : List Lexeme) : Type 0 where
 pub too_many : {p q : Part} {d n j k : ℕ} {ts rest : List Lexeme} → Step p d n ts q j k rest → limit < nesting j k → TooMany p d n ts rest
 too_many step l = record { at = stepped step (at_here _ _ _ _); over = l }
 
-deep_of : {A : Type 0} {W : A → List Lexeme → Type 0} {p : Part} {d n : ℕ} {ts rest : List Lexeme} (t : Lexeme) → TooMany p d n ts rest → Explains W p d n ts (Deep (t ∷ rest))
+pub deep_of : {A : Type 0} {W : A → List Lexeme → Type 0} {p : Part} {d n : ℕ} {ts rest : List Lexeme} (t : Lexeme) → TooMany p d n ts rest → Explains W p d n ts (Deep (t ∷ rest))
 deep_of t m = deep m.at m.over
 
 pub explain_enter : {B : Type 0} {W : B → List Lexeme → Type 0} {p : Part} {d n : ℕ} {ts : List Lexeme} (b : Bool) (f : Lexeme → Parser B) (t : Lexeme) (us : List Lexeme)
@@ -268,10 +268,10 @@ negative_explained_by d at t us (s.Wide v) i l = got (g.Primary.negative_wide i)
 negative_explained_by d at t us _ i l = explain_bad _ (at_here _ _ _ _) l
 
 -- the same behind an equal list
-primary_at : {f : Option At} {x : Form} {e : tree.Tree} {ts us vs : List Lexeme} → us ≡ vs → g.Primary f x e ts us → g.Primary f x e ts vs
+pub primary_at : {f : Option At} {x : Form} {e : tree.Tree} {ts us vs : List Lexeme} → us ≡ vs → g.Primary f x e ts us → g.Primary f x e ts vs
 primary_at q p = rw (← q) p
 
-constant_at : {v : tree.Constant} {ts us vs : List Lexeme} → us ≡ vs → g.Constant v ts us → g.Constant v ts vs
+pub constant_at : {v : tree.Constant} {ts us vs : List Lexeme} → us ≡ vs → g.Constant v ts us → g.Constant v ts vs
 constant_at q p = rw (← q) p
 
 -- a bit field, from its dot on
