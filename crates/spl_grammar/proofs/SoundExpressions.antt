@@ -134,25 +134,25 @@ record TurnGot (room taken : ℕ) (c : Bool) (f : Option At) (h n : ℕ) (ts now
   pub less : r.0 ≡ true → length rest < length now
 
 -- The readers of the levels, where d constructs are open around the expression.
-module _ (u : ℕ → Option At → Parser Found) (count : ℕ → Parser tree.Tree) (room : ℕ) (c : Bool) (taken d : ℕ) (sum : d + room ≡ limit + taken)
-    (operand : (f : Option At) (k j : ℕ) (ts : List Lexeme) → j + room ≡ limit + k → k ≤ room → Explains (λ r rest. g.Unary f r.form r.tree ts rest) (op.unary f) j 0 ts (u k f ts))
-    (bytes_count : (k j : ℕ) (ts : List Lexeme) → c ≡ true → j + room ≡ limit + k → nat_lt k room ≡ true
-        → Explains (λ e rest. Spelled e ts rest) (op.level false None 10) (suc j) 0 ts (count k ts)) where
+module _ (most : ℕ) (u : ℕ → Option At → Parser Found) (count : ℕ → Parser tree.Tree) (room : ℕ) (c : Bool) (taken d : ℕ) (sum : d + room ≡ most + taken)
+    (operand : (f : Option At) (k j : ℕ) (ts : List Lexeme) → j + room ≡ most + k → k ≤ room → Explains most (λ r rest. g.Unary f r.form r.tree ts rest) (op.unary f) j 0 ts (u k f ts))
+    (bytes_count : (k j : ℕ) (ts : List Lexeme) → c ≡ true → j + room ≡ most + k → nat_lt k room ≡ true
+        → Explains most (λ e rest. Spelled e ts rest) (op.level false None 10) (suc j) 0 ts (count k ts)) where
   -- what is claimed of a level
   abbrev pub LevelExplained : ℕ → (ℕ → Option At → Parser Found) → Type 0
   LevelExplained h below = (f : Option At) (n : ℕ) (ts : List Lexeme) → Front f h → taken + n / 8 ≤ room
-      → Explains (LevelGot room taken c f h n ts) (op.level c f h) d n ts (below n f ts)
+      → Explains most (LevelGot room taken c f h n ts) (op.level c f h) d n ts (below n f ts)
 
-  fits_nesting : (n : ℕ) → taken + n / 8 ≤ room → nesting d n ≤ limit
+  fits_nesting : (n : ℕ) → taken + n / 8 ≤ room → nesting d n ≤ most
   fits_nesting n l = omega arith
 
-  state_fits : (n own count : ℕ) → count ≡ n + own → taken + count / 8 ≤ room → nesting d (n + own) ≤ limit
+  state_fits : (n own count : ℕ) → count ≡ n + own → taken + count / 8 ≤ room → nesting d (n + own) ≤ most
   state_fits n own count e l = rw (← e) (omega arith)
 
   -- what is read behind a sign
   signed_explained : (h : ℕ) (below : ℕ → Option At → Parser Found) → LevelExplained h below → (n : ℕ) (t v : Lexeme) (us : List Lexeme) → taken + n / 8 ≤ room → (suc h == 3) ≡ true
       → is_sign (operator_of t.symbol) ≡ true
-      → Explains (LoopGot room taken c None h n (t ∷ v ∷ us)) (op.level c None (suc h)) d n (t ∷ v ∷ us) (signed_by_next u count room c taken below n t v.symbol (v ∷ us))
+      → Explains most (LoopGot room taken c None h n (t ∷ v ∷ us)) (op.level c None (suc h)) d n (t ∷ v ∷ us) (signed_by_next u count room c taken below n t v.symbol (v ∷ us))
   unfolding signed_by_next
   signed_explained h below b n t v us l e j = explain_if ((operator_of t.symbol == 12) && is_number v.symbol) _ _ (v ∷ us)
       (λ x. let y = both_true (operator_of t.symbol == 12) (is_number v.symbol) x in
@@ -169,7 +169,7 @@ module _ (u : ℕ → Option At → Parser Found) (count : ℕ → Parser tree.T
       minus_is x = sign_is t.symbol j ∙ ap s.Operator (same_number _ _ x)
 
   sum_explained : (h : ℕ) (below : ℕ → Option At → Parser Found) → LevelExplained h below → (n : ℕ) (ts : List Lexeme) → taken + n / 8 ≤ room → (suc h == 3) ≡ true
-      → Explains (LoopGot room taken c None h n ts) (op.level c None (suc h)) d n ts
+      → Explains most (LoopGot room taken c None h n ts) (op.level c None (suc h)) d n ts
           (by_symbol (λ k. if is_sign (operator_of k) then (take >>= λ t. by_symbol (signed_by_next u count room c taken below n t)) else below n None) ts)
   unfolding by_symbol followed take and_then
   sum_explained h below b n [] l e = bad (at_here _ _ _ _) (fits_nesting n l)
@@ -184,13 +184,13 @@ module _ (u : ℕ → Option At → Parser Found) (count : ℕ → Parser tree.T
 
   -- the first part of a level
   first_explained : (h : ℕ) (below : ℕ → Option At → Parser Found) → LevelExplained h below → (f : Option At) (n : ℕ) (ts : List Lexeme) → Front f (suc h) → taken + n / 8 ≤ room
-      → Explains (LoopGot room taken c f h n ts) (op.level c f (suc h)) d n ts (first u count room c taken below h n f ts)
+      → Explains most (LoopGot room taken c f h n ts) (op.level c f (suc h)) d n ts (first u count room c taken below h n f ts)
   unfolding first
   first_explained h below b f n ts w l = go f w (suc h == 3) refl
     where
       up : (f : Option At) → (suc h == 3) ≡ false → (r : Found) (rest : List Lexeme) → LevelGot room taken c f h n ts r rest → LoopGot room taken c f h n ts r rest
       up f e r rest v = record { state = record { own = v.own; counts = v.counts; fits = v.fits; spelled = g.Level.up e v.spelled }; relation = λ _. v.spelled }
-      go : (f : Option At) → Front f (suc h) → (t : Bool) → (suc h == 3) ≡ t → Explains (LoopGot room taken c f h n ts) (op.level c f (suc h)) d n ts ((if t
+      go : (f : Option At) → Front f (suc h) → (t : Bool) → (suc h == 3) ≡ t → Explains most (LoopGot room taken c f h n ts) (op.level c f (suc h)) d n ts ((if t
           then by_symbol (λ k. if is_sign (operator_of k) then (take >>= λ t. by_symbol (signed_by_next u count room c taken below n t)) else below n None)
           else below n f) ts)
       go f w false e = recast (op.below e) (below n f ts) (b f n ts (front_below w) l) (up f e)
@@ -200,7 +200,7 @@ module _ (u : ℕ → Option At → Parser Found) (count : ℕ → Parser tree.T
   -- an operator and its right operand
   join_explained : (h : ℕ) (below : ℕ → Option At → Parser Found) → LevelExplained h below → (f : Option At) (n : ℕ) (ts : List Lexeme) (r : Found) (t : Lexeme) (us : List Lexeme)
       → LoopGot room taken c f h n ts r (t ∷ us) → (binds (operator_of t.symbol) == suc h) ≡ true
-      → Explains (TurnGot room taken c f h n ts (t ∷ us)) (op.level c f (suc h)) d n ts (join u count room c taken below h (g.start f ts) r (t ∷ us))
+      → Explains most (TurnGot room taken c f h n ts (t ∷ us)) (op.level c f (suc h)) d n ts (join u count room c taken below h (g.start f ts) r (t ∷ us))
   unfolding join counted
   join_explained h below b f n ts r t us x e = explain_enter (nat_le (taken + suc r.count / 8) room) _ t us
       (λ ok. explain_then {V = LevelGot room taken c None h (suc (n + x.state.own)) us} (below (suc r.count) None) _ (step (suc h == 4) refl)
@@ -229,15 +229,15 @@ module _ (u : ℕ → Option At → Parser Found) (count : ℕ → Parser tree.T
 
   -- the number of a shift, by its name
   shift_explained : {B : Type 0} {W : B → List Lexeme → Type 0} {part : Part} {j n : ℕ} {ts : List Lexeme} (f : ℕ → Parser B) (us : List Lexeme) (o : OpensAt part j n ts us)
-      → nesting o.constructs o.operators ≤ limit
-      → ((k : ℕ) (t : Lexeme) (rest : List Lexeme) → us ≡ t ∷ rest → Is s.Name t → shift_of t.letters ≡ Some k → Explains W part j n ts (f k rest))
-      → Explains W part j n ts (followed (named_number shift_of) f us)
+      → nesting o.constructs o.operators ≤ most
+      → ((k : ℕ) (t : Lexeme) (rest : List Lexeme) → us ≡ t ∷ rest → Is s.Name t → shift_of t.letters ≡ Some k → Explains most W part j n ts (f k rest))
+      → Explains most W part j n ts (followed (named_number shift_of) f us)
   unfolding followed named_number numbered and_then take pure refuse
   shift_explained f [] o l h = bad o l
   shift_explained {W = W} {part = part} {j = j} {n = n} {ts = ts} f (t ∷ us) o l h = go (same_symbol t.symbol s.Name) refl (shift_of t.letters) refl
     where
       go : (b : Bool) → same_symbol t.symbol s.Name ≡ b → (v : Option ℕ) → shift_of t.letters ≡ v
-          → Explains W part j n ts (and_then (if b then numbered v (t ∷ us) else Bad (t ∷ us)) f)
+          → Explains most W part j n ts (and_then (if b then numbered v (t ∷ us) else Bad (t ∷ us)) f)
       go true e (Some k) q = h k t us refl (same_is t.symbol s.Name e) q
       go true e None q = bad o l
       go false e v q = bad o l
@@ -245,10 +245,10 @@ module _ (u : ℕ → Option At → Parser Found) (count : ℕ → Parser tree.T
   -- a shift
   shifted_explained : (h : ℕ) (f : Option At) (n : ℕ) (ts : List Lexeme) (r : Found) (t : Lexeme) (us : List Lexeme)
       → LoopGot room taken c f h n ts r (t ∷ us) → (suc h == 1) ≡ true → Is s.Ampersand t
-      → Explains (TurnGot room taken c f h n ts (t ∷ us)) (op.level c f (suc h)) d n ts (shifted u count room c taken (g.start f ts) r (t ∷ us))
+      → Explains most (TurnGot room taken c f h n ts (t ∷ us)) (op.level c f (suc h)) d n ts (shifted u count room c taken (g.start f ts) r (t ∷ us))
   unfolding shifted counted
   shifted_explained h f n ts r t us x e i = explain_enter (nat_le (taken + suc r.count / 8) room) _ t us
-      (λ ok. let l : nesting d (suc (n + x.state.own)) ≤ limit = rw (← x.state.counts) (fitting ok) in let p = x.state.spelled in
+      (λ ok. let l : nesting d (suc (n + x.state.own)) ≤ most = rw (← x.state.counts) (fitting ok) in let p = x.state.spelled in
         shift_explained _ us (stepped (op.shift_mark e p i) (at_here op.mark d (suc (n + x.state.own)) us)) l (λ k w after_name q j y. let p1 = level_at (ap (λ vs. t ∷ vs) q) p in
         explain_expect s.Open _ after_name (stepped (op.shift_name e p1 i j y) (at_here op.mark d (suc (n + x.state.own)) after_name)) l (λ o after_open q2 j2.
         let p2 = level_at (ap (λ vs. t ∷ w ∷ vs) q2) p1 in
@@ -264,7 +264,7 @@ module _ (u : ℕ → Option At → Parser Found) (count : ℕ → Parser tree.T
       less_equal a b e = grind (arith, nat_tests, e)
       greater : (a b : ℕ) → nat_le a b ≡ false → b < a
       greater a b e = grind (arith, nat_tests, e)
-      fitting : nat_le (taken + suc r.count / 8) room ≡ true → nesting d (suc r.count) ≤ limit
+      fitting : nat_le (taken + suc r.count / 8) room ≡ true → nesting d (suc r.count) ≤ most
       fitting ok = let m = less_equal _ _ ok in omega arith
       shorter_behind : {w o z : Lexeme} {after_name after_open after_count rest : List Lexeme} {v : tree.Constant} → us ≡ w ∷ after_name → after_name ≡ o ∷ after_open
           → after_count ≡ z ∷ rest → g.Constant v after_open after_count → length rest < length (t ∷ us)
@@ -273,7 +273,7 @@ module _ (u : ℕ → Option At → Parser Found) (count : ℕ → Parser tree.T
   -- a comparison of bytes
   bytes_explained : (h : ℕ) (f : Option At) (n : ℕ) (ts : List Lexeme) (r : Found) (t : Lexeme) (us : List Lexeme)
       → LoopGot room taken c f h n ts r (t ∷ us) → c ≡ true → (suc h == 8) ≡ true → r.form ≡ comparison → Is s.Comma t
-      → Explains (TurnGot room taken c f h n ts (t ∷ us)) (op.level c f (suc h)) d n ts (bytes u count room c taken r (t ∷ us))
+      → Explains most (TurnGot room taken c f h n ts (t ∷ us)) (op.level c f (suc h)) d n ts (bytes u count room c taken r (t ∷ us))
   unfolding bytes followed take and_then
   bytes_explained h f n ts r t us x ct e y i = explain_opening room (taken + r.count / 8) _ us (stepped (comma_step c ct e left i) (at_here op.mark d (n + x.state.own) us))
       (state_fits n x.state.own r.count x.state.counts x.state.fits)
@@ -288,7 +288,7 @@ module _ (u : ℕ → Option At → Parser Found) (count : ℕ → Parser tree.T
       (λ o rest q j no. too_many (count_step c ct e (level_at (ap (λ vs. t ∷ vs) q) left) i j)
           (rw (← x.state.counts) (one_more (d + r.count / 8) room (taken + r.count / 8) inside no)))
     where
-      inside : d + r.count / 8 + room ≡ limit + (taken + r.count / 8)
+      inside : d + r.count / 8 + room ≡ most + (taken + r.count / 8)
       inside = omega arith
       fewer : {o z : Lexeme} {rest after final : List Lexeme} {v : tree.Tree} → us ≡ o ∷ rest → after ≡ z ∷ final → Spelled v rest after → length final < length (t ∷ us)
       fewer q k v = let a = ap length q in let b = ap length k in let m = pt.shorter v.spelled in omega arith
@@ -298,12 +298,12 @@ module _ (u : ℕ → Option At → Parser Found) (count : ℕ → Parser tree.T
   -- one turn of a level
   turn_explained : (h : ℕ) (below : ℕ → Option At → Parser Found) → LevelExplained h below → (f : Option At) (n : ℕ) (ts : List Lexeme) (r : Found) (now : List Lexeme)
       → LoopGot room taken c f h n ts r now
-      → Explains (TurnGot room taken c f h n ts now) (op.level c f (suc h)) d n ts (turn u count room c taken below h (g.start f ts) r now)
+      → Explains most (TurnGot room taken c f h n ts now) (op.level c f (suc h)) d n ts (turn u count room c taken below h (g.start f ts) r now)
   unfolding turn turn_by
   turn_explained h below b f n ts r now x = explain_symbol _ now (stepped (op.whole x.state.spelled) (at_here op.mark d (n + x.state.own) now))
       (state_fits n x.state.own r.count x.state.counts x.state.fits) (λ t us q. rw q (go t us (rw q at x)))
     where
-      go : (t : Lexeme) (us : List Lexeme) → LoopGot room taken c f h n ts r (t ∷ us) → Explains (TurnGot room taken c f h n ts (t ∷ us)) (op.level c f (suc h)) d n ts
+      go : (t : Lexeme) (us : List Lexeme) → LoopGot room taken c f h n ts r (t ∷ us) → Explains most (TurnGot room taken c f h n ts (t ∷ us)) (op.level c f (suc h)) d n ts
           (turn_by u count room c taken below h (g.start f ts) r t.symbol (t ∷ us))
       go t us x = explain_if (binds (operator_of t.symbol) == suc h) _ _ (t ∷ us) (λ e. join_explained h below b f n ts r t us x e) (λ _.
           explain_if ((suc h == 1) && is s.Ampersand t.symbol) _ _ (t ∷ us)
@@ -315,7 +315,7 @@ module _ (u : ℕ → Option At → Parser Found) (count : ℕ → Parser tree.T
   -- the loop of a level
   loop_explained : (fuel h : ℕ) (below : ℕ → Option At → Parser Found) → LevelExplained h below → (f : Option At) (n : ℕ) (ts : List Lexeme) (r : Found) (now : List Lexeme)
       → length now < fuel → LoopGot room taken c f h n ts r now
-      → Explains (LevelGot room taken c f (suc h) n ts) (op.level c f (suc h)) d n ts (turns (turn u count room c taken below h (g.start f ts)) fuel r now)
+      → Explains most (LevelGot room taken c f (suc h) n ts) (op.level c f (suc h)) d n ts (turns (turn u count room c taken below h (g.start f ts)) fuel r now)
   unfolding turns
   loop_explained zero h below b f n ts r now l x = absurd (omega arith)
   loop_explained (suc fuel) h below b f n ts r now l x = explain_next _ _ now (turn_explained h below b f n ts r now x) (λ v rest w.
@@ -339,30 +339,30 @@ below_room : (room taken : ℕ) → nat_lt taken (suc room) ≡ true → taken �
 below_room room taken e = grind (arith, nat_tests, e)
 
 -- a whole expression, whose operands are explained
-whole_explained : (u : ℕ → Option At → Parser Found) (room taken d : ℕ) (ts : List Lexeme)
-    → ((f : Option At) (k j : ℕ) (ts : List Lexeme) → j + room ≡ limit + k → k ≤ room → Explains (λ r rest. g.Unary f r.form r.tree ts rest) (op.unary f) j 0 ts (u k f ts))
-    → d + room ≡ limit + taken → taken ≤ room → Explains (λ e rest. Spelled e ts rest) (op.level false None 10) d 0 ts (whole u room taken ts)
+whole_explained : {most : ℕ} (u : ℕ → Option At → Parser Found) (room taken d : ℕ) (ts : List Lexeme)
+    → ((f : Option At) (k j : ℕ) (ts : List Lexeme) → j + room ≡ most + k → k ≤ room → Explains most (λ r rest. g.Unary f r.form r.tree ts rest) (op.unary f) j 0 ts (u k f ts))
+    → d + room ≡ most + taken → taken ≤ room → Explains most (λ e rest. Spelled e ts rest) (op.level false None 10) d 0 ts (whole u room taken ts)
 unfolding whole
-whole_explained u room taken d ts b sum l = explain_next _ _ ts (level_explained u (λ _. refuse) room false taken d sum b (λ k j us q. cc) 10 None 0 ts free (omega arith))
+whole_explained {most = most} u room taken d ts b sum l = explain_next _ _ ts (level_explained most u (λ _. refuse) room false taken d sum b (λ k j us q. cc) 10 None 0 ts free (omega arith))
     (λ r rest v. explain_pure r.tree rest (record { operators = v.own; form = r.form; spelled = v.spelled }))
 
 -- an operand, where d constructs are open around it
-pub unary_explained : (room : ℕ) (f : Option At) (taken d : ℕ) (ts : List Lexeme) → d + room ≡ limit + taken → taken ≤ room
-    → Explains (λ r rest. g.Unary f r.form r.tree ts rest) (op.unary f) d 0 ts (unary room taken f ts)
+pub unary_explained : {most : ℕ} (room : ℕ) (f : Option At) (taken d : ℕ) (ts : List Lexeme) → d + room ≡ most + taken → taken ≤ room
+    → Explains most (λ r rest. g.Unary f r.form r.tree ts rest) (op.unary f) d 0 ts (unary room taken f ts)
 unfolding unary
-unary_explained zero f taken d ts sum l = unary_step_explained d zero taken sum l refuse refuse (λ rest ok. no_room taken ok) (λ rest ok. no_room taken ok) f ts
-unary_explained (suc room) f taken d ts sum l = unary_step_explained d (suc room) taken sum l (unary room taken None) (whole (unary room) room taken)
+unary_explained {most = most} zero f taken d ts sum l = unary_step_explained most d zero taken sum l refuse refuse (λ rest ok. no_room taken ok) (λ rest ok. no_room taken ok) f ts
+unary_explained {most = most} (suc room) f taken d ts sum l = unary_step_explained most d (suc room) taken sum l (unary room taken None) (whole (unary room) room taken)
     (λ rest ok. unary_explained room None taken (suc d) rest (omega arith) (below_room room taken ok))
     (λ rest ok. whole_explained (unary room) room taken (suc d) rest (unary_explained room) (omega arith) (below_room room taken ok)) f ts
 
 -- an expression
-pub expression_explained : (room taken d : ℕ) (ts : List Lexeme) → d + room ≡ limit + taken → taken ≤ room
-    → Explains (λ e rest. Spelled e ts rest) (op.level false None 10) d 0 ts (expression room taken ts)
+pub expression_explained : {most : ℕ} (room taken d : ℕ) (ts : List Lexeme) → d + room ≡ most + taken → taken ≤ room
+    → Explains most (λ e rest. Spelled e ts rest) (op.level false None 10) d 0 ts (expression room taken ts)
 unfolding expression
 expression_explained room taken d ts sum l = whole_explained (unary room) room taken d ts (unary_explained room) sum l
 
-pub within_explained : (room taken d : ℕ) (ts : List Lexeme) → d + room ≡ limit + taken → nat_lt taken room ≡ true
-    → Explains (λ e rest. Spelled e ts rest) (op.level false None 10) (suc d) 0 ts (within room taken ts)
+pub within_explained : {most : ℕ} (room taken d : ℕ) (ts : List Lexeme) → d + room ≡ most + taken → nat_lt taken room ≡ true
+    → Explains most (λ e rest. Spelled e ts rest) (op.level false None 10) (suc d) 0 ts (within room taken ts)
 unfolding within
 within_explained zero taken d ts sum ok = no_room taken ok
 within_explained (suc room) taken d ts sum ok = expression_explained room taken (suc d) ts (omega arith) (below_room room taken ok)
@@ -374,9 +374,9 @@ pub record SpelledCondition (e : tree.Tree) (ts rest : List Lexeme) : Type 0 whe
   pub spelled : g.Level true None 10 operators form e ts rest
 
 -- a condition
-pub condition_explained : (room taken d : ℕ) (ts : List Lexeme) → d + room ≡ limit + taken → taken ≤ room
-    → Explains (λ e rest. SpelledCondition e ts rest) (op.level true None 10) d 0 ts (condition room taken ts)
+pub condition_explained : {most : ℕ} (room taken d : ℕ) (ts : List Lexeme) → d + room ≡ most + taken → taken ≤ room
+    → Explains most (λ e rest. SpelledCondition e ts rest) (op.level true None 10) d 0 ts (condition room taken ts)
 unfolding condition
-condition_explained room taken d ts sum l = explain_next _ _ ts
-    (level_explained (unary room) (within room) room true taken d sum (unary_explained room) (λ k j us q s ok. within_explained room k j us s ok) 10 None 0 ts free (omega arith))
+condition_explained {most = most} room taken d ts sum l = explain_next _ _ ts
+    (level_explained most (unary room) (within room) room true taken d sum (unary_explained room) (λ k j us q s ok. within_explained room k j us s ok) 10 None 0 ts free (omega arith))
     (λ r rest v. explain_pure r.tree rest (record { operators = v.own; form = r.form; spelled = v.spelled }))
