@@ -12,10 +12,7 @@ use Rattle.spl_tree.specs.OpenExpressions.{Part, Step, Opens, here, inner, Opens
 use Rattle.spl_grammar.specs.Readers.{Outcome, Got, Bad, Deep, Parser, and_then, followed, pure, refuse, by_symbol, take, at_place, allowed, same_symbol, symbol_number, kind_number, reserved_number, truth_number, expect}
 use Rattle.spl_grammar.proofs.SameSymbol.{same_is}
 
-pub data Explains {A : Type 0} (most : ℕ) (W : A → List Lexeme → Type 0) (p : Part) (d n : ℕ) (ts : List Lexeme) : Outcome A → Type 0 where
-  got : {a : A} {rest : List Lexeme} → W a rest → Explains most W p d n ts (Got a rest)
-  bad : {rest : List Lexeme} (o : OpensAt p d n ts rest) → nesting o.constructs o.operators ≤ most → Explains most W p d n ts (Bad rest)
-  deep : {t : Lexeme} {rest : List Lexeme} (o : OpensAt p d n ts rest) → most < nesting o.constructs o.operators → Explains most W p d n ts (Deep (t ∷ rest))
+pub use Rattle.spl_grammar.specs.Answers.{Explains, got, bad, deep}
 
 -- one step in front of a chain
 abbrev pub stepped : {p q : Part} {d n j k : ℕ} {ts mid rest : List Lexeme} → Step p d n ts q j k mid → OpensAt q j k mid rest → OpensAt p d n ts rest

@@ -9,3 +9,5 @@ pub mod SameSymbol
 pub mod ExplainReaders
 pub mod SoundOperands
 pub mod SoundExpressions
+pub mod ChainBounds
+pub mod ExpressionLaws

@@ -5,10 +5,7 @@ use Rattle.spl_tree.specs.declared.symbols.Symbol.TheVariants as s
 use Rattle.spl_tree.specs.Symbols.{Lexeme, Is}
 use Rattle.spl_grammar.specs.Readers.{Outcome, Got, Bad, Deep, Parser, and_then, followed, pure, refuse, by_symbol, take, at_place, allowed, symbol_number, same_symbol, expect, numbered, named_number, turns, repeat, kind_number, reserved_number, truth_number}
 use Rattle.spl_grammar.proofs.LocalReaders.{Taking, turns_enough}
-
--- too deep where more tokens than these are left
-pub data DeepBefore {A : Type 0} (n : ℕ) : Outcome A → Type 0 where
-  deep : {rest : List Lexeme} → n < length rest → DeepBefore n (Deep rest)
+pub use Rattle.spl_grammar.specs.Answers.{DeepBefore, deep}
 
 -- Reading from ts on comes to the outcome, which goes on at m; or it is too deep before m.
 pub record Near {A : Type 0} (p : Parser A) (ts m : List Lexeme) (y : Outcome A) : Type 0 where

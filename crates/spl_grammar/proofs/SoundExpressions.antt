@@ -14,6 +14,7 @@ use Rattle.spl_tree.specs.Trees as tree
 use Rattle.spl_grammar.proofs.PartTokens as pt
 use Rattle.spl_grammar.specs.Readers.{Outcome, Got, Bad, Deep, Parser, and_then, followed, ◌>>=◌, ◌>>◌, by_symbol, pure, refuse, take, at_place, allowed, repeat, turns, same_symbol, symbol_number, expect, named_number, numbered}
 use Rattle.spl_grammar.specs.ReadExpressions.{Found, plain, is, operator_of, constant, unary_step, begins, is_comparison, counted, signed_by_next, first, join, shifted, bytes, turn_by, turn, level, whole, unary, expression, within, condition, enclosed, opening}
+pub use Rattle.spl_grammar.specs.Answers.{SpelledCondition}
 use Rattle.spl_grammar.proofs.SameSymbol.{same_is, both_true, same_number}
 use Rattle.spl_grammar.proofs.ExplainReaders.{Explains, got, bad, deep, stepped, at_here, lift, explain_then, explain_expect, explain_next, explain_pure, explain_bad, explain_symbol, explain_if, explain_along, reached, along, followed_assoc, recast}
 use Rattle.spl_grammar.proofs.SoundOperands.{Spelled, constant_explained, unary_step_explained, explain_enter, explain_opening, TooMany, too_many, is_it, one_more, few, few_more, constant_at}
@@ -366,12 +367,6 @@ pub within_explained : {most : ℕ} (room taken d : ℕ) (ts : List Lexeme) → 
 unfolding within
 within_explained zero taken d ts sum ok = no_room taken ok
 within_explained (suc room) taken d ts sum ok = expression_explained room taken (suc d) ts (omega arith) (below_room room taken ok)
-
--- a condition that is spelled
-pub record SpelledCondition (e : tree.Tree) (ts rest : List Lexeme) : Type 0 where
-  pub operators : ℕ
-  pub form : Form
-  pub spelled : g.Level true None 10 operators form e ts rest
 
 -- a condition
 pub condition_explained : {most : ℕ} (room taken d : ℕ) (ts : List Lexeme) → d + room ≡ most + taken → taken ≤ room

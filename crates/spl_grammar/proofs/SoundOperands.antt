@@ -15,6 +15,7 @@ use Rattle.spl_grammar.proofs.PartTokens as pt
 use Rattle.spl_grammar.specs.Readers.{Outcome, Got, Bad, Deep, Parser, and_then, followed, ◌>>=◌, ◌>>◌, by_symbol, pure, refuse, take, at_place, allowed, repeat, turns, same_symbol, symbol_number, expect}
 use Rattle.spl_grammar.specs.ReadExpressions.{Found, plain, is, operator_of, constant, constant_by, signed_by, bits, field, negative_by, enter, opening, enclosed, more_arguments, arguments, named, addressed, primary_by, inverse, primary, unary_step}
 use Rattle.spl_grammar.proofs.SameSymbol.{same_is}
+pub use Rattle.spl_grammar.specs.Answers.{Spelled}
 use Rattle.spl_grammar.proofs.LocalReaders.{end_of}
 use Rattle.spl_grammar.proofs.ExplainReaders.{Explains, got, bad, deep, stepped, at_here, lift, explain_then, explain_expect, explain_next, explain_pure, explain_bad, explain_symbol, explain_if, explain_allowed, explain_along, reached, along, followed_assoc}
 
@@ -45,12 +46,6 @@ pub constant_explained : {most : ℕ} (d n : ℕ) (ts : List Lexeme) → nesting
 unfolding constant by_symbol
 constant_explained d n [] l = bad (at_here _ _ _ _) l
 constant_explained d n (t ∷ ts) l = constant_explained_by d n t ts t.symbol refl l
-
--- an expression that is spelled
-pub record Spelled (e : tree.Tree) (ts rest : List Lexeme) : Type 0 where
-  pub operators : ℕ
-  pub form : Form
-  pub spelled : g.Level false None 10 operators form e ts rest
 
 -- "(" expr ")"
 pub data Enclosed (e : tree.Tree) : List Lexeme → List Lexeme → Type 0 where

@@ -1,3 +1,5 @@
 pub mod Readers
 pub mod ReadExpressions
 pub mod Following
+pub mod Answers
+pub mod ExpressionLaws

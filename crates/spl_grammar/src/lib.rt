@@ -1,5 +1,9 @@
 //! Reading by the grammar: what each rule makes of a list of tokens, and the laws that tie it to the grammar.
 #![tactic(auto)]
 
-/// Nothing yet.
-pub fn nothing() {}
+mod expression_laws;
+
+pub use expression_laws::{
+    condition_faults_stand, conditions_are_explained, conditions_are_read, conditions_are_unique,
+    expression_faults_stand, expressions_are_explained, expressions_are_read, expressions_are_unique,
+};
