@@ -3,3 +3,8 @@ pub mod Trees
 pub mod Operators
 pub mod Expressions
 pub mod OpenExpressions
+pub mod StatementTrees
+pub mod Statements
+pub mod DeclarationTrees
+pub mod Declarations
+pub mod Units
