@@ -8,3 +8,5 @@ pub mod Statements
 pub mod DeclarationTrees
 pub mod Declarations
 pub mod Units
+pub mod Views
+pub mod Spells
