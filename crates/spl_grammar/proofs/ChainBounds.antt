@@ -8,6 +8,7 @@ use Rattle.spl_tree.specs.OpenExpressions as op
 use Rattle.spl_tree.specs.OpenExpressions.{Part, Step, Opens, OpensAt}
 use Rattle.spl_tree.specs.Trees as tree
 use Rattle.spl_grammar.proofs.PartTokens as pt
+use Rattle.spl_grammar.proofs.StatementTokens.{statement_step_bound}
 
 -- each operator of a part is a token of it
 pub operators_bound : {c : Bool} {f : Option At} {h n : ℕ} {x : Form} {e : tree.Tree} {ts rest : List Lexeme} → g.Level c f h n x e ts rest → n + length rest < length ts
@@ -59,6 +60,7 @@ step_bound (op.transfer_close _ _ l) = let b = pt.shorter l in omega arith
 step_bound op.argument = omega arith
 step_bound (op.argument_whole l) = let b = pt.shorter l in omega arith
 step_bound (op.next_argument l _) = let b = pt.shorter l in omega arith
+step_bound (op.of_statement step) = let a = statement_step_bound step in omega arith
 
 pub chain_bound : {p q : Part} {d n j k : ℕ} {ts mid : List Lexeme} → Opens p d n ts q j k mid → j + k + length mid ≤ d + n + length ts
 chain_bound op.here = omega arith

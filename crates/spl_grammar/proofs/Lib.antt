@@ -9,5 +9,7 @@ pub mod SameSymbol
 pub mod ExplainReaders
 pub mod SoundOperands
 pub mod SoundExpressions
+pub mod StatementTokens
 pub mod ChainBounds
 pub mod ExpressionLaws
+pub mod LocalStatements

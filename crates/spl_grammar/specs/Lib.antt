@@ -3,3 +3,4 @@ pub mod ReadExpressions
 pub mod Following
 pub mod Answers
 pub mod ExpressionLaws
+pub mod ReadStatements

@@ -2,9 +2,11 @@ pub mod Symbols
 pub mod Trees
 pub mod Operators
 pub mod Expressions
-pub mod OpenExpressions
 pub mod StatementTrees
 pub mod Statements
+pub mod Parts
+pub mod OpenStatements
+pub mod OpenExpressions
 pub mod DeclarationTrees
 pub mod Declarations
 pub mod Units

@@ -9,15 +9,8 @@ use Rattle.spl_tree.specs.Symbols.{Lexeme, Is}
 use Rattle.spl_tree.specs.Operators.{Form, comparison, binds, is_sign, shift_of}
 use Rattle.spl_tree.specs.Expressions as g
 use Rattle.spl_tree.specs.Trees as tree
-
--- the parts that can be open; `mark` is a token of the production itself, or one that may go on with a part that is whole
-pub data Part : Type 0 where
-  constant : Part
-  level : Bool → Option At → ℕ → Part
-  unary : Option At → Part
-  primary : Option At → Part
-  arguments : Part
-  mark : Part
+use Rattle.spl_tree.specs.OpenStatements.{StatementStep}
+pub use Rattle.spl_tree.specs.Parts.{Part, constant, level, unary, primary, arguments, mark}
 
 pub data Step : Part → ℕ → ℕ → List Lexeme → Part → ℕ → ℕ → List Lexeme → Type 0 where
   -- behind the sign of a constant
@@ -110,6 +103,9 @@ pub data Step : Part → ℕ → ℕ → List Lexeme → Part → ℕ → ℕ �
   argument_whole : {d n : ℕ} {x : Form} {e : tree.Tree} {ts rest : List Lexeme} → g.Level false None 10 n x e ts rest → Step arguments d 0 ts mark d 0 rest
   next_argument : {d n : ℕ} {x : Form} {e : tree.Tree} {k : Lexeme} {ts mid : List Lexeme} → g.Level false None 10 n x e ts (k ∷ mid) → Is s.Comma k
       → Step arguments d 0 ts arguments d 0 mid
+
+  -- in a statement
+  of_statement : {p q : Part} {d j : ℕ} {ts mid : List Lexeme} → StatementStep p d ts q j mid → Step p d 0 ts q j 0 mid
 
 -- A chain of steps: behind the tokens before the second list, the second part is open, with what is open around it.
 pub data Opens : Part → ℕ → ℕ → List Lexeme → Part → ℕ → ℕ → List Lexeme → Type 0 where
