@@ -338,7 +338,7 @@ no_open : {A : Type 0} (p q : Parser A) {rest : List Lexeme} {y : Outcome A} →
     → Near (by_symbol (λ k. if is s.Open k then p else q)) rest rest y
 no_open p q (ft.with_first b) n = near_head _ (near_else _ b n)
 
-near_arguments : (room taken : ℕ) (inner : Parser Found) {es : List tree.Tree} {o z : Lexeme} {ts rest : List Lexeme} → Is s.Open o → ArgumentsRead es ts (z ∷ rest)
+pub near_arguments : (room taken : ℕ) (inner : Parser Found) {es : List tree.Tree} {o z : Lexeme} {ts rest : List Lexeme} → Is s.Open o → ArgumentsRead es ts (z ∷ rest)
     → Is s.Close z → Near (arguments room inner (within room taken) taken) (o ∷ ts) rest (Got es rest)
 unfolding arguments
 near_arguments room taken inner {rest = rest} i a j = near_opening room taken _ i (let l = a.shorter in omega arith) (λ ok. near_then _ (a.reads.reads room taken ok)
@@ -402,7 +402,7 @@ transfer_case i o r z l = record { reads = λ w room taken. near_symbol _ i (nea
     (near_then _ (near_enclosed room taken _ o r z (omega arith)) (near_pure _ _))) }
 
 -- arguments
-one_case : {e : tree.Tree} {z : Lexeme} {ts rest : List Lexeme} → ExpressionRead e ts (z ∷ rest) → Is s.Close z → length (z ∷ rest) < length ts
+pub one_case : {e : tree.Tree} {z : Lexeme} {ts rest : List Lexeme} → ExpressionRead e ts (z ∷ rest) → Is s.Close z → length (z ∷ rest) < length ts
     → ArgumentsRead (e ∷ []) ts (z ∷ rest)
 unfolding more_arguments same_symbol symbol_number
 one_case {e = e} {z = z} {rest = rest} r i l = record { first = e; middle = z ∷ rest; shorter = l; reads = r;

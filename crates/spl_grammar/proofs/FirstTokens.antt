@@ -7,6 +7,7 @@ use Rattle.spl_tree.specs.declared.symbols.Symbol.TheVariants as s
 use Rattle.spl_tree.specs.Symbols.{Lexeme, Is}
 use Rattle.spl_tree.specs.Operators.{Form, is_sign, is_number, binds}
 use Rattle.spl_tree.specs.Expressions as g
+use Rattle.spl_tree.specs.Statements.{is_relation}
 use Rattle.spl_tree.specs.Trees as tree
 use Rattle.spl_grammar.specs.ReadExpressions.{is, operator_of}
 use Rattle.spl_grammar.specs.Readers.{same_symbol, symbol_number, kind_number, truth_number}
@@ -89,3 +90,68 @@ primary_no_not (g.Primary.address i _) = by_is _ _ _ _ _ i refl
 primary_no_not (g.Primary.address_of i _ _ _ _) = by_is _ _ _ _ _ i refl
 primary_no_not (g.Primary.parens i _ _) = by_is _ _ _ _ _ i refl
 primary_no_not (g.Primary.transfer i _ _ _) = by_is _ _ _ _ _ i refl
+
+-- an expression begins with no reserved word of statements
+abbrev pub is_reserved : Symbol → Bool
+is_reserved (s.Word w) = true
+is_reserved _ = false
+
+primary_no_word : {f : Option At} {x : Form} {e : tree.Tree} {ts rest : List Lexeme} → g.Primary f x e ts rest → Begins is_reserved false ts
+primary_no_word (g.Primary.number i) = by_is _ _ _ _ _ i refl
+primary_no_word (g.Primary.wide i) = by_is _ _ _ _ _ i refl
+primary_no_word (g.Primary.negative_number i) = by_is _ _ _ _ _ i refl
+primary_no_word (g.Primary.negative_wide i) = by_is _ _ _ _ _ i refl
+primary_no_word (g.Primary.text i) = by_is _ _ _ _ _ i refl
+primary_no_word (g.Primary.truth i) = by_is _ _ _ _ _ i refl
+primary_no_word (g.Primary.name i) = by_is _ _ _ _ _ i refl
+primary_no_word (g.Primary.call i _ _ _) = by_is _ _ _ _ _ i refl
+primary_no_word (g.Primary.address i _) = by_is _ _ _ _ _ i refl
+primary_no_word (g.Primary.address_of i _ _ _ _) = by_is _ _ _ _ _ i refl
+primary_no_word (g.Primary.parens i _ _) = by_is _ _ _ _ _ i refl
+primary_no_word (g.Primary.transfer i _ _ _) = by_is _ _ _ _ _ i refl
+
+pub no_word : {c : Bool} {f : Option At} {h n : ℕ} {x : Form} {e : tree.Tree} {ts rest : List Lexeme} → g.Level c f h n x e ts rest → Begins is_reserved false ts
+no_word (g.Level.operand (g.Unary.inverse i u)) = by_is _ _ _ _ _ i refl
+no_word (g.Level.operand (g.Unary.plain p)) = primary_no_word p
+no_word (g.Level.operand (g.Unary.bits p _ _ _ _ _ _)) = primary_no_word p
+no_word (g.Level.up _ d) = no_word d
+no_word (g.Level.unsigned _ d) = no_word d
+no_word (g.Level.signed _ i _ _ d) = by_is _ _ _ _ _ i refl
+no_word (g.Level.negative _ i d) = by_is _ _ _ _ _ i refl
+no_word (g.Level.joined _ d _ _ r) = no_word d
+no_word (g.Level.related _ d _ _ r _) = no_word d
+no_word (g.Level.shifted _ d _ _ _ _ v _) = no_word d
+no_word (g.Level.bytes _ d _ _ r _) = no_word d
+
+primary_no_relation : {f : Option At} {x : Form} {e : tree.Tree} {ts rest : List Lexeme} → g.Primary f x e ts rest → Begins (λ k. is_relation (operator_of k)) false ts
+unfolding operator_of
+primary_no_relation (g.Primary.number i) = by_is _ _ _ _ _ i refl
+primary_no_relation (g.Primary.wide i) = by_is _ _ _ _ _ i refl
+primary_no_relation (g.Primary.negative_number i) = by_is _ _ _ _ _ i refl
+primary_no_relation (g.Primary.negative_wide i) = by_is _ _ _ _ _ i refl
+primary_no_relation (g.Primary.text i) = by_is _ _ _ _ _ i refl
+primary_no_relation (g.Primary.truth i) = by_is _ _ _ _ _ i refl
+primary_no_relation (g.Primary.name i) = by_is _ _ _ _ _ i refl
+primary_no_relation (g.Primary.call i _ _ _) = by_is _ _ _ _ _ i refl
+primary_no_relation (g.Primary.address i _) = by_is _ _ _ _ _ i refl
+primary_no_relation (g.Primary.address_of i _ _ _ _) = by_is _ _ _ _ _ i refl
+primary_no_relation (g.Primary.parens i _ _) = by_is _ _ _ _ _ i refl
+primary_no_relation (g.Primary.transfer i _ _ _) = by_is _ _ _ _ _ i refl
+
+sign_no_relation : (op : ℕ) → is_sign op ≡ true → is_relation op ≡ false
+sign_no_relation op e = grind (arith, nat_tests, e)
+
+-- nor does it begin with a relation
+pub no_relation : {c : Bool} {f : Option At} {h n : ℕ} {x : Form} {e : tree.Tree} {ts rest : List Lexeme} → g.Level c f h n x e ts rest → Begins (λ k. is_relation (operator_of k)) false ts
+unfolding operator_of
+no_relation (g.Level.operand (g.Unary.inverse i u)) = by_is _ _ _ _ _ i refl
+no_relation (g.Level.operand (g.Unary.plain p)) = primary_no_relation p
+no_relation (g.Level.operand (g.Unary.bits p _ _ _ _ _ _)) = primary_no_relation p
+no_relation (g.Level.up _ d) = no_relation d
+no_relation (g.Level.unsigned _ d) = no_relation d
+no_relation (g.Level.signed {op = op} _ i b _ d) = by_is _ _ _ _ _ i (sign_no_relation op b)
+no_relation (g.Level.negative _ i d) = by_is _ _ _ _ _ i refl
+no_relation (g.Level.joined _ d _ _ r) = no_relation d
+no_relation (g.Level.related _ d _ _ r _) = no_relation d
+no_relation (g.Level.shifted _ d _ _ _ _ v _) = no_relation d
+no_relation (g.Level.bytes _ d _ _ r _) = no_relation d

@@ -13,3 +13,4 @@ pub mod StatementTokens
 pub mod ChainBounds
 pub mod ExpressionLaws
 pub mod LocalStatements
+pub mod CompleteStatements
