@@ -9,7 +9,7 @@ use Rattle.spl_tree.specs.declared.expressions.Kind.{Kind}
 use Rattle.spl_tree.specs.declared.expressions.Kind.TheVariants as kind
 use Rattle.spl_tree.specs.Symbols.{Lexeme, Is}
 use Rattle.spl_tree.specs.OpenExpressions.{Part, Step, Opens, here, inner, OpensAt, limit, nesting}
-use Rattle.spl_grammar.specs.Readers.{Outcome, Got, Bad, Deep, Parser, and_then, followed, pure, refuse, by_symbol, take, at_place, allowed, same_symbol, symbol_number, kind_number, reserved_number, truth_number, expect}
+use Rattle.spl_grammar.specs.Readers.{Outcome, Got, Bad, Deep, Parser, and_then, followed, pure, refuse, by_symbol, take, at_place, allowed, same_symbol, symbol_number, kind_number, reserved_number, truth_number, expect, named_number, numbered}
 use Rattle.spl_grammar.proofs.SameSymbol.{same_is}
 
 pub use Rattle.spl_grammar.specs.Answers.{Explains, got, bad, deep}
@@ -145,3 +145,31 @@ pub recast : {most : ℕ} {A : Type 0} {V W : A → List Lexeme → Type 0} {p q
 recast step _ (got v) h = got (h _ _ v)
 recast step _ (bad o l) h = bad (stepped step o) l
 recast step _ (deep o l) h = deep (stepped step o) l
+
+-- a name that a table has a number for
+pub explain_named : {most : ℕ} {B : Type 0} {W : B → List Lexeme → Type 0} {part : Part} {j n : ℕ} {ts : List Lexeme} (table : List ℕ → Option ℕ) (f : ℕ → Parser B) (us : List Lexeme)
+    (o : OpensAt part j n ts us) → nesting o.constructs o.operators ≤ most
+    → ((k : ℕ) (t : Lexeme) (rest : List Lexeme) → us ≡ t ∷ rest → Is s.Name t → table t.letters ≡ Some k → Explains most W part j n ts (f k rest))
+    → Explains most W part j n ts (followed (named_number table) f us)
+unfolding followed named_number numbered and_then take pure refuse
+explain_named table f [] o l h = bad o l
+explain_named {most = most} {W = W} {part = part} {j = j} {n = n} {ts = ts} table f (t ∷ us) o l h = go (same_symbol t.symbol s.Name) refl (table t.letters) refl
+  where
+    go : (b : Bool) → same_symbol t.symbol s.Name ≡ b → (v : Option ℕ) → table t.letters ≡ v
+        → Explains most W part j n ts (and_then (if b then numbered v (t ∷ us) else Bad (t ∷ us)) f)
+    go true e (Some k) q = h k t us refl (same_is t.symbol s.Name e) q
+    go true e None q = bad o l
+    go false e v q = bad o l
+
+-- what is read, said otherwise
+pub explain_as : {most : ℕ} {A : Type 0} {V W : A → List Lexeme → Type 0} {p : Part} {d n : ℕ} {ts : List Lexeme} (o : Outcome A) → Explains most V p d n ts o
+    → ((a : A) (rest : List Lexeme) → V a rest → W a rest) → Explains most W p d n ts o
+explain_as _ (got v) h = got (h _ _ v)
+explain_as _ (bad o l) h = bad o l
+explain_as _ (deep o l) h = deep o l
+
+-- behind a token that is taken in any case
+pub taken_explained : {most : ℕ} {A : Type 0} {W : A → List Lexeme → Type 0} {p : Part} {d n : ℕ} {ts rest : List Lexeme} {t : Lexeme} (f : Lexeme → Parser A)
+    → Explains most W p d n ts (f t rest) → Explains most W p d n ts (followed take f (t ∷ rest))
+unfolding followed take and_then
+taken_explained f h = h

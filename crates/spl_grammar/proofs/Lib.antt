@@ -14,3 +14,4 @@ pub mod ChainBounds
 pub mod ExpressionLaws
 pub mod LocalStatements
 pub mod CompleteStatements
+pub mod SoundStatements
