@@ -33,12 +33,12 @@ unfolding condition
 condition_read l w room taken = near_then _ (part_of (complete l) w room taken 0) (near_pure _ _)
 
 -- nothing is too deep where as many constructs may be open as there are tokens
-never_deep : {A : Type 0} {W : A → List Lexeme → Type 0} {p : Part} (ts : List Lexeme) (o : Outcome A) (n : ℕ) → Explains (length ts) W p 0 0 ts o → DeepBefore n o → ⊥
+pub never_deep : {A : Type 0} {W : A → List Lexeme → Type 0} {p : Part} (ts : List Lexeme) (o : Outcome A) (n : ℕ) → Explains (length ts) W p 0 0 ts o → DeepBefore n o → ⊥
 never_deep ts _ n (er.got _) h = elim h [ ]
 never_deep ts _ n (er.bad o _) h = elim h [ ]
 never_deep ts _ n (er.deep o l) (deep h) = let b = chain_bound o.chain in omega arith
 
-read_whole : {A : Type 0} {W : A → List Lexeme → Type 0} {p : Part} {r : Parser A} {ts rest : List Lexeme} {y : Outcome A} → Near r ts rest y → Explains (length ts) W p 0 0 ts (r ts) → r ts ≡ y
+pub read_whole : {A : Type 0} {W : A → List Lexeme → Type 0} {p : Part} {r : Parser A} {ts rest : List Lexeme} {y : Outcome A} → Near r ts rest y → Explains (length ts) W p 0 0 ts (r ts) → r ts ≡ y
 read_whole {r = r} {ts = ts} {rest = rest} {y = y} n e = go n.outcome
   where
     go : (r ts ≡ y) ⊎ DeepBefore (length rest) (r ts) → r ts ≡ y
@@ -46,12 +46,12 @@ read_whole {r = r} {ts = ts} {rest = rest} {y = y} n e = go n.outcome
     go (inr d) = absurd (never_deep ts (r ts) _ e d)
 
 -- the part that was read, or else this one
-part_or : {A : Type 0} → A → Outcome A → A
+pub part_or : {A : Type 0} → A → Outcome A → A
 part_or a (Got b rest) = b
 part_or a (Bad rest) = a
 part_or a (Deep rest) = a
 
-same_got : {A : Type 0} (a b : A) (r q : List Lexeme) → Got a r ≡ Got b q → (a ≡ b) × (r ≡ q)
+pub same_got : {A : Type 0} (a b : A) (r q : List Lexeme) → Got a r ≡ Got b q → (a ≡ b) × (r ≡ q)
 unfolding part_or
 same_got a b r q e = (ap (part_or a) e, ap end_of e)
 
@@ -77,7 +77,7 @@ first_or u [] = u
 first_or u (t ∷ ts) = t
 
 -- a fault stays where it is, whatever follows its token
-like_bad : {A : Type 0} (us vs : List Lexeme) (t : Lexeme) (o p : Outcome A) → Like us vs o p → o ≡ Bad (t ∷ us) → p ≡ Bad (t ∷ vs)
+pub like_bad : {A : Type 0} (us vs : List Lexeme) (t : Lexeme) (o p : Outcome A) → Like us vs o p → o ≡ Bad (t ∷ us) → p ≡ Bad (t ∷ vs)
 unfolding first_or
 like_bad us vs t _ _ (lr.got a) e = cc
 like_bad us vs t _ _ (lr.bad (lr.here {t = u})) e = ap (λ v. Bad (v ∷ vs)) (ap (λ o. first_or t (end_of o)) e)
@@ -85,7 +85,7 @@ like_bad us vs t _ _ (lr.bad (lr.there a)) e = let l = agrees_longer a in let k 
 like_bad us vs t _ _ (lr.deep a) e = cc
 like_bad us vs t o p (past l) e = let k = ap (λ o. length (end_of o)) e in absurd (omega arith)
 
-not_near : {A : Type 0} {r : Parser A} {ts rest us : List Lexeme} {a : A} → Near r ts rest (Got a rest) → r ts ≡ Bad us → ⊥
+pub not_near : {A : Type 0} {r : Parser A} {ts rest us : List Lexeme} {a : A} → Near r ts rest (Got a rest) → r ts ≡ Bad us → ⊥
 not_near {r = r} {ts = ts} {rest = rest} {us = us} {a = a} n e = go (r ts) n.outcome e
   where
     go : (o : Outcome _) → (o ≡ Got a rest) ⊎ DeepBefore (length rest) o → o ≡ Bad us → ⊥

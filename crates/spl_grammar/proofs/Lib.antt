@@ -15,3 +15,4 @@ pub mod ExpressionLaws
 pub mod LocalStatements
 pub mod CompleteStatements
 pub mod SoundStatements
+pub mod StatementLaws

@@ -4,3 +4,4 @@ pub mod Following
 pub mod Answers
 pub mod ExpressionLaws
 pub mod ReadStatements
+pub mod StatementLaws
