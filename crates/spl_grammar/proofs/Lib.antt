@@ -16,3 +16,4 @@ pub mod LocalStatements
 pub mod CompleteStatements
 pub mod SoundStatements
 pub mod StatementLaws
+pub mod KnownParts
