@@ -5,3 +5,4 @@ pub mod Answers
 pub mod ExpressionLaws
 pub mod ReadStatements
 pub mod StatementLaws
+pub mod ReadDeclarations

@@ -14,17 +14,22 @@ use Rattle.spl_tree.specs.Statements as st
 use Rattle.spl_tree.specs.DeclarationTrees as decl
 use Rattle.spl_tree.specs.DeclarationTrees.{Placed, declarations}
 
+-- P { "," P }
+pub data Separated {A : Type 0} (P : A → List Lexeme → List Lexeme → Type 0) : List A → List Lexeme → List Lexeme → Type 0 where
+  one : {a : A} {ts rest : List Lexeme} → P a ts rest → Separated P (a ∷ []) ts rest
+  more : {a : A} {bs : List A} {k : Lexeme} {ts mid rest : List Lexeme} → P a ts (k ∷ mid) → Is s.Comma k → Separated P bs mid rest
+      → Separated P (a ∷ bs) ts rest
+
+pub data Name : Placed → List Lexeme → List Lexeme → Type 0 where
+  name : {t : Lexeme} {rest : List Lexeme} → Is s.Name t → Name (record { letters = t.letters; at = t.at }) (t ∷ rest) rest
+
 -- name { "," name }
-pub data Names : List Placed → List Lexeme → List Lexeme → Type 0 where
-  one : {t : Lexeme} {rest : List Lexeme} → Is s.Name t → Names (record { letters = t.letters; at = t.at } ∷ []) (t ∷ rest) rest
-  more : {ns : List Placed} {t k : Lexeme} {ts rest : List Lexeme} → Is s.Name t → Is s.Comma k → Names ns ts rest
-      → Names (record { letters = t.letters; at = t.at } ∷ ns) (t ∷ k ∷ ts) rest
+abbrev pub Names : List Placed → List Lexeme → List Lexeme → Type 0
+Names = Separated Name
 
 -- const { "," const }
-pub data Constants : List tree.Constant → List Lexeme → List Lexeme → Type 0 where
-  one : {v : tree.Constant} {ts rest : List Lexeme} → g.Constant v ts rest → Constants (v ∷ []) ts rest
-  more : {v : tree.Constant} {vs : List tree.Constant} {k : Lexeme} {ts mid rest : List Lexeme} → g.Constant v ts (k ∷ mid) → Is s.Comma k
-      → Constants vs mid rest → Constants (v ∷ vs) ts rest
+abbrev pub Constants : List tree.Constant → List Lexeme → List Lexeme → Type 0
+Constants = Separated g.Constant
 
 -- [type], which is LOGICAL where it is not given
 pub data OptionalKind : Kind → List Lexeme → List Lexeme → Type 0 where
@@ -49,10 +54,8 @@ pub data Item : decl.Item → List Lexeme → List Lexeme → Type 0 where
       → Item (record { name = t.letters; at = t.at; shape = decl.Shape.simple; first = v ∷ [] }) (t ∷ k ∷ ts) rest
 
 -- item { "," item }
-pub data Items : List decl.Item → List Lexeme → List Lexeme → Type 0 where
-  one : {i : decl.Item} {ts rest : List Lexeme} → Item i ts rest → Items (i ∷ []) ts rest
-  more : {i : decl.Item} {is : List decl.Item} {k : Lexeme} {ts mid rest : List Lexeme} → Item i ts (k ∷ mid) → Is s.Comma k → Items is mid rest
-      → Items (i ∷ is) ts rest
+abbrev pub Items : List decl.Item → List Lexeme → List Lexeme → Type 0
+Items = Separated Item
 
 -- array = name "(" const ":" const ")" | name "(" "*" ")" "=" name, with these initial values
 pub data Array : List tree.Constant → decl.Item → List Lexeme → List Lexeme → Type 0 where
@@ -84,10 +87,8 @@ pub data Equal : decl.Equal → List Lexeme → List Lexeme → Type 0 where
       → Equal (record { name = t.letters; at = t.at; terms = record { minus = false; value = v } ∷ vs }) (t ∷ e ∷ ts) rest
 
 -- name "=" sumc { "," name "=" sumc }
-pub data Equals : List decl.Equal → List Lexeme → List Lexeme → Type 0 where
-  one : {e : decl.Equal} {ts rest : List Lexeme} → Equal e ts rest → Equals (e ∷ []) ts rest
-  more : {e : decl.Equal} {es : List decl.Equal} {k : Lexeme} {ts mid rest : List Lexeme} → Equal e ts (k ∷ mid) → Is s.Comma k → Equals es mid rest
-      → Equals (e ∷ es) ts rest
+abbrev pub Equals : List decl.Equal → List Lexeme → List Lexeme → Type 0
+Equals = Separated Equal
 
 -- [ "(" name { "," name } ")" ]
 pub data Parameters : List Placed → List Lexeme → List Lexeme → Type 0 where
