@@ -17,3 +17,4 @@ pub mod CompleteStatements
 pub mod SoundStatements
 pub mod StatementLaws
 pub mod KnownParts
+pub mod LocalDeclarations

@@ -273,5 +273,14 @@ unfolding by_symbol
 taking_symbol h [] = bad
 taking_symbol h (t ∷ ts) = h t.symbol (t ∷ ts)
 
+pub takes_if : {A : Type 0} {p q : Parser A} (b : Bool) → Takes p → Takes q → Takes (if b then p else q)
+takes_if true h g = h
+takes_if false h g = g
+
+-- a refusal reads nothing
+pub takes_refuse : {A : Type 0} → Takes (refuse {A = A})
+unfolding refuse
+takes_refuse ts = bad
+
 -- how the readers are put together
 pub ruleset locals = (local_pure, local_refuse, local_take, local_place, local_then, local_symbol, local_if, local_allowed, local_expect, local_named)

@@ -87,14 +87,18 @@ equal = do
     ts ← repeat more_terms (record { minus = false; value = v } ∷ [])
     pure (record { name = t.letters; at = t.at; terms = ts })
 
+-- what is read depends on the first token
+unfoldable pub by_token : {A : Type 0} → (Lexeme → Parser A) → Parser A
+by_token f [] = Bad []
+by_token f (t ∷ ts) = f t (t ∷ ts)
+
 -- option by option: FORWARD and EXTERNAL exclude each other
+unfoldable pub option_among : Options → Option Options → Parser Options
+option_among a None = refuse
+option_among a (Some b) = if fit (both a b) then (take >>= λ _. pure (both a b)) else refuse
+
 unfoldable pub option_behind : Options → Parser Options
-option_behind a [] = Bad []
-option_behind a (t ∷ ts) = if same_symbol t.symbol s.Name then option_among a (option_of t.letters) (t ∷ ts) else Bad (t ∷ ts)
-  where
-    option_among : Options → Option Options → Parser Options
-    option_among a None = refuse
-    option_among a (Some b) = if fit (both a b) then (take >>= λ _. pure (both a b)) else refuse
+option_behind a = by_token (λ t. if is s.Name t.symbol then option_among a (option_of t.letters) else refuse)
 
 unfoldable pub more_options : Options → Parser (Bool × Options)
 more_options a = by_symbol (λ k. if is s.Comma k then (take >>= λ _. option_behind a >>= λ b. pure (true, b)) else pure (false, a))
@@ -166,11 +170,14 @@ module _ (room : ℕ) (body : ℕ → Parser BodyRead) (u : Bool) where
   owned_by k = if is (s.Word w.Array) k then array_data true kind.Logical else refuse
 
   -- behind the word of a kind; behind subroutines, where `after` says so, only subroutines stand
-  unfoldable pub typed : Bool → ℕ → Kind → Parser decl.Declaration
-  typed after segment c = by_symbol (λ k. if is (s.Word w.Subroutine) k then subroutine segment (Some c) else if after then refuse
+  unfoldable pub typed_by : Bool → ℕ → Kind → Symbol → Parser decl.Declaration
+  typed_by after segment c k = if is (s.Word w.Subroutine) k then subroutine segment (Some c) else if after then refuse
       else if is (s.Word w.Array) k then array_data false c
       else if is (s.Word w.Pointer) k then (take >>= λ _. names >>= λ ns. pure (decl.Declaration.data_items false c (pointers ns)))
-      else if is (s.Word w.Procedure) k then (if u then procedure (Some c) else refuse) else item_data false c)
+      else if is (s.Word w.Procedure) k then (if u then procedure (Some c) else refuse) else item_data false c
+
+  unfoldable pub typed : Bool → ℕ → Kind → Parser decl.Declaration
+  typed after segment c = by_symbol (typed_by after segment c)
 
   unfoldable pub by_word : Bool → ℕ → Reserved → Parser decl.Declaration
   by_word after segment w.Subroutine = subroutine segment None
