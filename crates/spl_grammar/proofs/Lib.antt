@@ -18,3 +18,4 @@ pub mod SoundStatements
 pub mod StatementLaws
 pub mod KnownParts
 pub mod LocalDeclarations
+pub mod KnownUnits

@@ -6,3 +6,4 @@ pub mod ExpressionLaws
 pub mod ReadStatements
 pub mod StatementLaws
 pub mod ReadDeclarations
+pub mod UnitLaws

@@ -3,6 +3,7 @@
 
 mod expression_laws;
 mod statement_laws;
+mod unit_laws;
 
 pub use expression_laws::{
     condition_faults_stand, conditions_are_explained, conditions_are_read, conditions_are_unique,
@@ -11,3 +12,4 @@ pub use expression_laws::{
 pub use statement_laws::{
     statement_faults_stand, statements_are_explained, statements_are_read, statements_are_unique,
 };
+pub use unit_laws::unit_faults_stand;
