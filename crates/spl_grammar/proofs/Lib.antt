@@ -19,3 +19,4 @@ pub mod StatementLaws
 pub mod KnownParts
 pub mod LocalDeclarations
 pub mod KnownUnits
+pub mod CompleteParts
