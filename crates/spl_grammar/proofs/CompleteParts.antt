@@ -45,7 +45,7 @@ part_test : {test : Symbol → Bool} {b : Bool} {ts : List Lexeme} → test s.Co
 part_test d e f (comma i) = by_is _ _ _ _ _ i d
 part_test d e f (list_ends a) = ends_test e f a
 
-no_comma : {ts : List Lexeme} → Ends ts → Begins (is s.Comma) false ts
+pub no_comma : {ts : List Lexeme} → Ends ts → Begins (is s.Comma) false ts
 unfolding same_symbol symbol_number
 no_comma a = ends_test refl refl a
 
@@ -57,7 +57,7 @@ no_sign : {ts : List Lexeme} → PartEnds ts → Begins (λ k. is_sign (operator
 unfolding operator_of
 no_sign a = part_test refl refl refl a
 
-choose_else : {A : Type 0} (test : Symbol → Bool) (p : Parser A) {q : Parser A} {ts m : List Lexeme} {y : Outcome A} → Begins test false ts → Near q ts m y
+pub choose_else : {A : Type 0} (test : Symbol → Bool) (p : Parser A) {q : Parser A} {ts m : List Lexeme} {y : Outcome A} → Begins test false ts → Near q ts m y
     → Near (by_symbol (λ k. if test k then p else q)) ts m y
 choose_else test p (with_first b) n = near_head _ (near_else _ b n)
 
@@ -109,7 +109,7 @@ pub items_read : {is : List decl.Item} {ts rest : List Lexeme} → dl.Items is t
 items_read l e = separated_read dl.Item item local_item item_claim l e
 
 -- what a turn answers
-abbrev turned : {S : Type 0} → Bool → S → Bool × S
+abbrev pub turned : {S : Type 0} → Bool → S → Bool × S
 turned b x = (b, x)
 
 abbrev going : {S : Type 0} → S → Bool × S
@@ -118,7 +118,7 @@ going x = (true, x)
 abbrev stopped : {S : Type 0} → S → Bool × S
 stopped x = (false, x)
 
-head_is : {test : Symbol → Bool} {b : Bool} {t : Lexeme} {ts : List Lexeme} → Begins test b (t ∷ ts) → test t.symbol ≡ b
+pub head_is : {test : Symbol → Bool} {b : Bool} {t : Lexeme} {ts : List Lexeme} → Begins test b (t ∷ ts) → test t.symbol ≡ b
 head_is (with_first e) = e
 
 sign_no_star : (op : ℕ) → is_sign op ≡ true → (op == 13) ≡ false
@@ -169,7 +169,7 @@ values_back : {vs : List tree.Constant} {i : decl.Item} {ts rest : List Lexeme} 
 values_back (dl.Array.bounds i o a k b z) = refl
 values_back (dl.Array.view i o m z e b) = refl
 
-shorter_array : {vs : List tree.Constant} {i : decl.Item} {ts rest : List Lexeme} → dl.Array vs i ts rest → length rest < length ts
+pub shorter_array : {vs : List tree.Constant} {i : decl.Item} {ts rest : List Lexeme} → dl.Array vs i ts rest → length rest < length ts
 shorter_array (dl.Array.bounds i o a k b z) = let m = pt.shorter_constant a in let n = pt.shorter_constant b in omega arith
 shorter_array (dl.Array.view i o m z e b) = omega arith
 
@@ -192,7 +192,7 @@ arrays_state so_far i = (so_far, i)
 no_assign_end : {ts : List Lexeme} → Ends ts → Begins (is s.Assign) false ts
 no_assign_end e = no_assign (list_ends e)
 
-two_else : {A : Type 0} (test other : Symbol → Bool) (p q : Parser A) {r : Parser A} {ts m : List Lexeme} {y : Outcome A} → Begins test false ts → Begins other false ts → Near r ts m y
+pub two_else : {A : Type 0} (test other : Symbol → Bool) (p q : Parser A) {r : Parser A} {ts m : List Lexeme} {y : Outcome A} → Begins test false ts → Begins other false ts → Near r ts m y
     → Near (by_symbol (λ k. if test k then p else if other k then q else r)) ts m y
 two_else test other p q (with_first a) b n = near_head _ (near_else _ a (near_else _ (head_is b) n))
 

@@ -20,3 +20,4 @@ pub mod KnownParts
 pub mod LocalDeclarations
 pub mod KnownUnits
 pub mod CompleteParts
+pub mod CompleteHeadings
