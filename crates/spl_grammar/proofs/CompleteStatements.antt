@@ -315,7 +315,7 @@ unfolding inside
 inside_read n zero e = absurd (grind (arith, nat_tests, e))
 inside_read n (suc room) e = n.reads room
 
-list_read : {xs : List stat.Statement} {ts rest : List Lexeme} → ListRead xs ts rest → (room : ℕ) → Near (statement_list (statement room)) ts rest (Got xs rest)
+pub list_read : {xs : List stat.Statement} {ts rest : List Lexeme} → ListRead xs ts rest → (room : ℕ) → Near (statement_list (statement room)) ts rest (Got xs rest)
 unfolding statement_list
 list_read n room = near_then _ (n.reads room) (n.others room [])
 

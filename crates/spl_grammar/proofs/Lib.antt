@@ -21,3 +21,4 @@ pub mod LocalDeclarations
 pub mod KnownUnits
 pub mod CompleteParts
 pub mod CompleteHeadings
+pub mod CompleteUnits

@@ -1,0 +1,360 @@
+-- What is spelled as a declaration, a body or a unit is read, unless it is too deep before its end.
+use Rattle.std.proofs.Common.{ℕ, zero, suc, ◌+◌, ◌≡◌, ◌==◌, ◌&&◌, ◌||◌, not, ◌<◌, ◌≤◌, Bool, true, false, if◌then◌else◌, List, [], ◌∷◌, ◌++◌, length, Option, Some, None, refl, arith, ap, sym, ◌∙◌, rules, append_assoc, append-nil}
+use Rattle.std.proofs.lemmas.Bool.Decides.{nat_tests}
+use Rattle.spl_tree.specs.declared.names_and_places.At.{At}
+use Rattle.spl_tree.specs.declared.expressions.Kind.{Kind}
+use Rattle.spl_tree.specs.declared.expressions.Kind.TheVariants as kind
+use Rattle.spl_tree.specs.declared.symbols.Symbol.{Symbol}
+use Rattle.spl_tree.specs.declared.symbols.Symbol.TheVariants as s
+use Rattle.spl_tree.specs.declared.symbols.Reserved.{Reserved}
+use Rattle.spl_tree.specs.declared.symbols.Reserved.TheVariants as w
+use Rattle.spl_tree.specs.Symbols.{Lexeme, Is}
+use Rattle.spl_tree.specs.Operators.{is_sign}
+use Rattle.spl_tree.specs.Expressions as g
+use Rattle.spl_tree.specs.Trees as tree
+use Rattle.spl_tree.specs.DeclarationTrees as decl
+use Rattle.spl_tree.specs.DeclarationTrees.{Placed}
+use Rattle.spl_tree.specs.Declarations as dl
+use Rattle.spl_tree.specs.Declarations.{Separated, one, more, Options, both, fit, option_of, no_options, can_be_body, is_subroutine, pointers}
+use Rattle.spl_grammar.specs.Readers.{Outcome, Got, Parser, and_then, followed, ◌>>=◌, by_symbol, pure, refuse, take, repeat, same_symbol, symbol_number, reserved_number, expect}
+use Rattle.spl_grammar.specs.ReadExpressions.{is, operator_of, constant}
+use Rattle.spl_grammar.specs.ReadDeclarations.{more_parts, separated, name, names, item, shape, array, with_values, more_arrays, arrays, more_terms, equal, by_token, option_among, option_behind, more_options, options, parameters, spec_names, spec_behind, spec_by, more_specs, heading_tail, heading, BodyRead, array_data, item_data, behind_heading, procedure, subroutine, owned_by, typed_by, typed, by_word, declaration_by, declaration, declares, more_declarations, declaration_list, body, next_segment, of_segment}
+use Rattle.spl_grammar.specs.ReadDeclarations as rd
+use Rattle.spl_grammar.proofs.LocalExpressions.{local_constant}
+use Rattle.spl_grammar.proofs.LocalDeclarations.{takes_more_parts, takes_more_arrays, takes_more_terms, takes_more_options, takes_more_specs, local_name, local_item, local_equal}
+use Rattle.spl_grammar.proofs.NearReaders.{Near, near_same, near_to, near_from, near_then, near_pure, near_take, near_symbol, near_head, near_if, near_else, near_expect, near_turn, near_last, same_self}
+use Rattle.spl_grammar.proofs.CompleteExpressions.{complete_constant}
+use Rattle.spl_grammar.proofs.CompleteParts.{Ends, semicolon, close, PartEnds, no_comma, choose_else, two_else, head_is, names_read, items_read, equals_read, arrays_read}
+use Rattle.spl_grammar.proofs.CompleteHeadings.{goes_on, heading_tail_read, tail_pair, options_read, parameters_read}
+use Rattle.spl_grammar.proofs.CompleteStatements.{complete_statement, complete_list, list_read, StatementRead, ListRead}
+use Rattle.spl_grammar.proofs.StatementTokens as tk
+use Rattle.spl_grammar.proofs.LocalDeclarations.{takes_more_declarations, local_body}
+use Rattle.spl_grammar.proofs.LocalReaders.{local_refuse, IsLocal}
+use Rattle.spl_grammar.specs.Following as af
+use Rattle.spl_grammar.specs.ReadStatements.{statement, statement_list}
+use Rattle.spl_tree.specs.StatementTrees as stat
+use Rattle.spl_tree.specs.Statements as st
+use Rattle.spl_tree.specs.Units.{segment_at, Unit_of, unit}
+use Rattle.spl_tree.specs.DeclarationTrees.{declarations, UnitTree}
+use Rattle.spl_grammar.proofs.PartTokens as pt
+use Rattle.spl_grammar.proofs.FirstTokens.{Begins, with_first, by_is}
+
+
+-- the first token is this symbol
+data FirstIs (k : Symbol) : List Lexeme → Type 0 where
+  first_is : {t : Lexeme} {ts : List Lexeme} → Is k t → FirstIs k (t ∷ ts)
+
+by_first : {A : Type 0} {k : Symbol} (f : Symbol → Parser A) {ts m : List Lexeme} {y : Outcome A} → FirstIs k ts → Near (f k) ts m y → Near (by_symbol f) ts m y
+by_first f (first_is i) n = near_symbol f i n
+
+items_first : {is : List decl.Item} {ts rest : List Lexeme} → dl.Items is ts rest → FirstIs s.Name ts
+items_first (one (dl.Item.plain i)) = first_is i
+items_first (one (dl.Item.valued i k v)) = first_is i
+items_first (more (dl.Item.plain i) j l) = first_is i
+items_first (more (dl.Item.valued i k v) j l) = first_is i
+
+-- what a heading comes to
+abbrev heading_of : Option Kind → Lexeme → List Placed → List Placed → List decl.Spec → ℕ → Bool → decl.Heading
+heading_of r t ns vs ss segment = λ split. record { result = r; name = t.letters; names = ns; values = vs; specs = ss; split = split; at = t.at; segment = segment }
+
+specs_no_open : {ss : List decl.Spec} {k : Lexeme} {ts rest : List Lexeme} → dl.Specs ss ts (k ∷ rest) → Is s.Semicolon k → Begins (is s.Open) false ts
+unfolding same_symbol symbol_number
+specs_no_open dl.Specs.none i = by_is _ _ _ _ _ i refl
+specs_no_open (dl.Specs.words j u l x) i = by_is _ _ _ _ _ j refl
+specs_no_open (dl.Specs.arrays j o u l x) i = by_is _ _ _ _ _ j refl
+
+values_no_open : {vs : List Placed} {ss : List decl.Spec} {k : Lexeme} {ts mid rest : List Lexeme} → dl.Values vs ts mid → dl.Specs ss mid (k ∷ rest) → Is s.Semicolon k → Begins (is s.Open) false ts
+unfolding same_symbol symbol_number
+values_no_open dl.Values.absent x i = specs_no_open x i
+values_no_open (dl.Values.given k v l) x i = by_is _ _ _ _ _ k refl
+
+heading_read : {r : Option Kind} (segment : Lexeme → ℕ) {ns vs : List Placed} {ss : List decl.Spec} {p t k : Lexeme} {ts after_names after_values rest : List Lexeme} → Is s.Name t
+    → dl.Parameters ns ts after_names → dl.Values vs after_names after_values → dl.Specs ss after_values (k ∷ rest) → Is s.Semicolon k → Begins goes_on false rest
+    → Near (heading r segment) (p ∷ t ∷ ts) rest (Got (heading_of r t ns vs ss (segment p)) rest)
+unfolding heading
+heading_read segment i ns vs ss k b = near_then _ near_take (near_then _ (near_expect i) (near_then _ (parameters_read ns (values_no_open vs ss k)) (near_then _ (heading_tail_read vs ss k b) (near_pure _ _))))
+
+-- what can't begin the body of a procedure without BEGIN
+abbrev no_start : Symbol → Bool
+no_start k = goes_on k || is (s.Word w.Options) k
+
+both_false : (a b : Bool) → (a || b) ≡ false → (a ≡ false) × (b ≡ false)
+both_false false false e = (refl, refl)
+both_false true b e = cc
+both_false false true e = cc
+
+reference_first : {test : Symbol → Bool} {r : tree.Tree} {ts rest : List Lexeme} → test s.Name ≡ false → st.Reference r ts rest → Begins test false ts
+reference_first e (st.Reference.name i) = by_is _ _ _ _ _ i e
+reference_first e (st.Reference.element i _ _ _) = by_is _ _ _ _ _ i e
+
+target_first : {test : Symbol → Bool} {x : stat.Target} {ts rest : List Lexeme} → test s.Name ≡ false → test s.AtSign ≡ false → st.Target x ts rest → Begins test false ts
+target_first a b (st.Target.plain r) = reference_first a r
+target_first a b (st.Target.field r _ _ _ _ _ _) = reference_first a r
+target_first a b (st.Target.address i _) = by_is _ _ _ _ _ i b
+
+effect_first : {test : Symbol → Bool} {x : stat.Effect} {ts rest : List Lexeme} → test (s.Word w.Move) ≡ false → test (s.Word w.Scan) ≡ false → st.Effect x ts rest → Begins test false ts
+effect_first a b (st.Effect.move i _ _ _) = by_is _ _ _ _ _ i a
+effect_first a b (st.Effect.scan_while i _ _ _) = by_is _ _ _ _ _ i b
+effect_first a b (st.Effect.scan_until i _ _ _) = by_is _ _ _ _ _ i b
+
+-- the first token of a statement that can be a body
+statement_first : {test : Symbol → Bool} {x : stat.Statement} {ts rest : List Lexeme} → test s.Name ≡ false → test s.AtSign ≡ false → test (s.Word w.If) ≡ false → test (s.Word w.While) ≡ false
+    → test (s.Word w.Do) ≡ false → test (s.Word w.For) ≡ false → test (s.Word w.Case) ≡ false → test (s.Word w.Go) ≡ false → test (s.Word w.Goto) ≡ false → test (s.Word w.Return) ≡ false
+    → test (s.Word w.Move) ≡ false → test (s.Word w.Scan) ≡ false → st.Statement x ts rest → can_be_body x ≡ true → Begins test false ts
+statement_first a b c d e f g h j k l m st.Statement.empty v = cc
+statement_first a b c d e f g h j k l m (st.Statement.block i x z) v = cc
+statement_first a b c d e f g h j k l m (st.Statement.labelled i _ x) v = by_is _ _ _ _ _ i a
+statement_first a b c d e f g h j k l m (st.Statement.if_then i _ _ x) v = by_is _ _ _ _ _ i c
+statement_first a b c d e f g h j k l m (st.Statement.if_else i _ _ x _ _ y) v = by_is _ _ _ _ _ i c
+statement_first a b c d e f g h j k l m (st.Statement.while_do i _ _ x) v = by_is _ _ _ _ _ i d
+statement_first a b c d e f g h j k l m (st.Statement.do_until i x _ _) v = by_is _ _ _ _ _ i e
+statement_first a b c d e f g h j k l m (st.Statement.for_do i _ _ _ _ _ _ _ x) v = by_is _ _ _ _ _ i f
+statement_first a b c d e f g h j k l m (st.Statement.case_of i _ _ _ x _) v = by_is _ _ _ _ _ i g
+statement_first a b c d e f g h j k l m (st.Statement.go i _) v = by_is _ _ _ _ _ i h
+statement_first a b c d e f g h j k l m (st.Statement.go_to i _ _) v = by_is _ _ _ _ _ i h
+statement_first a b c d e f g h j k l m (st.Statement.goto i _) v = by_is _ _ _ _ _ i j
+statement_first a b c d e f g h j k l m (st.Statement.return i) v = by_is _ _ _ _ _ i k
+statement_first a b c d e f g h j k l m (st.Statement.assign t _ x) v = target_first a b t
+statement_first a b c d e f g h j k l m (st.Statement.assign_effect t _ x) v = target_first a b t
+statement_first a b c d e f g h j k l m (st.Statement.effect x) v = effect_first l m x
+statement_first a b c d e f g h j k l m (st.Statement.call i) v = by_is _ _ _ _ _ i a
+statement_first a b c d e f g h j k l m (st.Statement.call_with i _ x _) v = by_is _ _ _ _ _ i a
+
+body_first : {segment : ℕ} {ds : List decl.Declaration} {xs : List stat.Statement} {ts rest : List Lexeme} → dl.Body segment ds xs ts rest → Begins no_start false ts
+unfolding same_symbol symbol_number reserved_number
+body_first (dl.Body.block i ds xs z) = by_is _ _ _ _ _ i refl
+body_first (dl.Body.single x c) = statement_first refl refl refl refl refl refl refl refl refl refl refl refl x c
+
+single_no_begin : {x : stat.Statement} {ts rest : List Lexeme} → st.Statement x ts rest → can_be_body x ≡ true → Begins (is (s.Word w.Begin)) false ts
+unfolding same_symbol symbol_number reserved_number
+single_no_begin x c = statement_first refl refl refl refl refl refl refl refl refl refl refl refl x c
+
+start_goes : {ts : List Lexeme} → Begins no_start false ts → Begins goes_on false ts
+start_goes (with_first {t = t} b) = with_first (both_false (goes_on t.symbol) (is (s.Word w.Options) t.symbol) b).0
+
+start_option : {ts : List Lexeme} → Begins no_start false ts → Begins (is (s.Word w.Options)) false ts
+start_option (with_first {t = t} b) = with_first (both_false (goes_on t.symbol) (is (s.Word w.Options) t.symbol) b).1
+
+-- statements up to an END begin with no declaration
+statement_declares : {test : Symbol → Bool} {x : stat.Statement} {ts rest : List Lexeme} → test s.Name ≡ false → test s.AtSign ≡ false → test (s.Word w.If) ≡ false → test (s.Word w.While) ≡ false
+    → test (s.Word w.Do) ≡ false → test (s.Word w.For) ≡ false → test (s.Word w.Case) ≡ false → test (s.Word w.Go) ≡ false → test (s.Word w.Goto) ≡ false → test (s.Word w.Return) ≡ false
+    → test (s.Word w.Move) ≡ false → test (s.Word w.Scan) ≡ false → test (s.Word w.Begin) ≡ false → st.Statement x ts rest → Begins test false rest → Begins test false ts
+statement_declares a b c d e f g h j k l m n st.Statement.empty v = v
+statement_declares a b c d e f g h j k l m n (st.Statement.block i x z) v = by_is _ _ _ _ _ i n
+statement_declares a b c d e f g h j k l m n (st.Statement.labelled i _ x) v = by_is _ _ _ _ _ i a
+statement_declares a b c d e f g h j k l m n (st.Statement.if_then i _ _ x) v = by_is _ _ _ _ _ i c
+statement_declares a b c d e f g h j k l m n (st.Statement.if_else i _ _ x _ _ y) v = by_is _ _ _ _ _ i c
+statement_declares a b c d e f g h j k l m n (st.Statement.while_do i _ _ x) v = by_is _ _ _ _ _ i d
+statement_declares a b c d e f g h j k l m n (st.Statement.do_until i x _ _) v = by_is _ _ _ _ _ i e
+statement_declares a b c d e f g h j k l m n (st.Statement.for_do i _ _ _ _ _ _ _ x) v = by_is _ _ _ _ _ i f
+statement_declares a b c d e f g h j k l m n (st.Statement.case_of i _ _ _ x _) v = by_is _ _ _ _ _ i g
+statement_declares a b c d e f g h j k l m n (st.Statement.go i _) v = by_is _ _ _ _ _ i h
+statement_declares a b c d e f g h j k l m n (st.Statement.go_to i _ _) v = by_is _ _ _ _ _ i h
+statement_declares a b c d e f g h j k l m n (st.Statement.goto i _) v = by_is _ _ _ _ _ i j
+statement_declares a b c d e f g h j k l m n (st.Statement.return i) v = by_is _ _ _ _ _ i k
+statement_declares a b c d e f g h j k l m n (st.Statement.assign t _ x) v = target_first a b t
+statement_declares a b c d e f g h j k l m n (st.Statement.assign_effect t _ x) v = target_first a b t
+statement_declares a b c d e f g h j k l m n (st.Statement.effect x) v = effect_first l m x
+statement_declares a b c d e f g h j k l m n (st.Statement.call i) v = by_is _ _ _ _ _ i a
+statement_declares a b c d e f g h j k l m n (st.Statement.call_with i _ x _) v = by_is _ _ _ _ _ i a
+
+list_first : {xs : List stat.Statement} {z : Lexeme} {ts rest : List Lexeme} (room : ℕ) (body_of : ℕ → Parser BodyRead) (u : Bool) → st.Statements xs ts (z ∷ rest) → Is (s.Word w.End) z
+    → Begins (declares room body_of u) false ts
+unfolding declares
+list_first room body_of u (st.Statements.one x) z = statement_declares refl refl refl refl refl refl refl refl refl refl refl refl refl x (by_is _ _ _ _ _ z refl)
+list_first room body_of u (st.Statements.more x k l) z = statement_declares refl refl refl refl refl refl refl refl refl refl refl refl refl x (by_is _ _ _ _ _ k refl)
+
+-- behind no subroutine
+not_after : (a : Bool) → (false || not a) ≡ true → a ≡ false
+not_after false e = refl
+not_after true e = cc
+
+ends_of : {k : Lexeme} {ts : List Lexeme} → Is s.Semicolon k → Ends (k ∷ ts)
+ends_of i = semicolon i
+
+-- a body
+abbrev pub body_pair : List decl.Declaration → List stat.Statement → BodyRead
+body_pair ds xs = (ds, xs)
+
+option_goes : {t : Lexeme} {ts : List Lexeme} → Is (s.Word w.Options) t → Begins goes_on false (t ∷ ts)
+unfolding same_symbol symbol_number reserved_number
+option_goes i = by_is _ _ _ _ _ i refl
+
+-- FORWARD and EXTERNAL exclude each other
+fit_list : {a c : Options} {ts rest : List Lexeme} → dl.OptionList a c ts rest → fit c ≡ true
+fit_list (dl.OptionList.one i e f) = f
+fit_list (dl.OptionList.more i e f k l) = fit_list l
+
+fit_one : (f x : Bool) → not (f && x) ≡ true → x ≡ true → f ≡ false
+fit_one false x e q = refl
+fit_one true true e q = cc
+fit_one true false e q = cc
+
+no_forward : {a c : Options} {ts rest : List Lexeme} → dl.OptionList a c ts rest → c.external ≡ true → c.forward ≡ false
+no_forward {c = c} l e = fit_one c.forward c.external (fit_list l) e
+
+heading_first : {split : Bool} {h : decl.Heading} {test : Symbol → Bool} {ts rest : List Lexeme} → dl.Heading split h ts rest → ((c : Kind) → test (s.Type c) ≡ true) → test (s.Word w.Procedure) ≡ true → Begins test true ts
+heading_first (dl.Heading.heading dl.Result.absent p i ns vs ss k) e f = by_is _ _ _ _ _ p f
+heading_first (dl.Heading.heading (dl.Result.given r) p i ns vs ss k) e f = by_is _ _ _ _ _ r (e _)
+
+choose_then : {A : Type 0} (test : Symbol → Bool) {p : Parser A} (q : Parser A) {ts m : List Lexeme} {y : Outcome A} → Begins test true ts → Near p ts m y
+    → Near (by_symbol (λ k. if test k then p else q)) ts m y
+choose_then test q (with_first b) n = near_head _ (near_if _ b n)
+
+-- the state of the loop over declarations, and whether a subroutine came last
+abbrev decl_state : Bool → List decl.Declaration → Bool × List decl.Declaration
+decl_state after ds = (after, ds)
+
+after_all : Bool → List decl.Declaration → Bool
+after_all after [] = after
+after_all after (d ∷ ds) = after_all (is_subroutine d) ds
+
+-- Declarations, where bodies are read by their claim.
+module _ (room : ℕ) (body_of : ℕ → Parser BodyRead) where
+  module _ (u : Bool) (segment : ℕ) where
+    item_data_read : {own : Bool} {c : Kind} {is : List decl.Item} {ts rest : List Lexeme} → dl.Items is ts rest → Ends rest
+        → Near (item_data room body_of u own c) ts rest (Got (decl.Declaration.data_items own c is) rest)
+    unfolding item_data
+    item_data_read l e = near_then _ (items_read l e) (near_pure _ _)
+
+    array_data_read : {own : Bool} {c : Kind} {is : List decl.Item} {t : Lexeme} {ts rest : List Lexeme} → dl.Arrays is ts rest → Ends rest
+        → Near (array_data room body_of u own c) (t ∷ ts) rest (Got (decl.Declaration.data_items own c is) rest)
+    unfolding array_data
+    array_data_read l e = near_then _ near_take (near_then _ (arrays_read l e) (near_pure _ _))
+
+    simple_read : {own : Bool} {c : Kind} {is : List decl.Item} {t : Lexeme} {ts mid rest : List Lexeme} → dl.Own own ts (t ∷ mid) → Is (s.Type c) t → dl.Items is mid rest → Ends rest
+        → Near (declaration room body_of u false segment) ts rest (Got (decl.Declaration.data_items own c is) rest)
+    unfolding declaration declaration_by typed typed_by by_word owned_by same_symbol symbol_number reserved_number
+    simple_read dl.Own.absent i l e = near_symbol _ i (near_then _ near_take (by_first _ (items_first l) (item_data_read l e)))
+    simple_read (dl.Own.given o) i l e = near_symbol _ o (near_then _ near_take (near_symbol _ i (near_then _ near_take (by_first _ (items_first l) (item_data_read l e)))))
+
+    array_decl_read : {own : Bool} {c : Kind} {is : List decl.Item} {a : Lexeme} {ts mid next rest : List Lexeme} → dl.Own own ts mid → dl.OptionalKind c mid (a ∷ next) → Is (s.Word w.Array) a
+        → dl.Arrays is next rest → Ends rest → Near (declaration room body_of u false segment) ts rest (Got (decl.Declaration.data_items own c is) rest)
+    unfolding declaration declaration_by typed typed_by by_word owned_by same_symbol symbol_number reserved_number
+    array_decl_read dl.Own.absent dl.OptionalKind.absent i l e = near_symbol _ i (array_data_read l e)
+    array_decl_read dl.Own.absent (dl.OptionalKind.given k) i l e = near_symbol _ k (near_then _ near_take (near_symbol _ i (array_data_read l e)))
+    array_decl_read (dl.Own.given o) dl.OptionalKind.absent i l e = near_symbol _ o (near_then _ near_take (near_symbol _ i (array_data_read l e)))
+    array_decl_read (dl.Own.given o) (dl.OptionalKind.given k) i l e = near_symbol _ o (near_then _ near_take (near_symbol _ k (near_then _ near_take (near_symbol _ i (array_data_read l e)))))
+
+    pointers_read : {c : Kind} {ns : List Placed} {t p : Lexeme} {ts rest : List Lexeme} → Is (s.Type c) t → Is (s.Word w.Pointer) p → dl.Names ns ts rest → Ends rest
+        → Near (declaration room body_of u false segment) (t ∷ p ∷ ts) rest (Got (decl.Declaration.data_items false c (pointers ns)) rest)
+    unfolding declaration declaration_by typed typed_by same_symbol symbol_number reserved_number
+    pointers_read i p l e = near_symbol _ i (near_then _ near_take (near_symbol _ p (near_then _ near_take (near_then _ (names_read l e) (near_pure _ _)))))
+
+    equate_read : {es : List decl.Equal} {t : Lexeme} {ts rest : List Lexeme} → Is (s.Word w.Equate) t → dl.Equals es ts rest → Ends rest
+        → Near (declaration room body_of u false segment) (t ∷ ts) rest (Got (decl.Declaration.equate es) rest)
+    unfolding declaration declaration_by by_word
+    equate_read i l e = near_symbol _ i (near_then _ near_take (near_then _ (equals_read l e) (near_pure _ _)))
+
+    intrinsic_read : {ns : List Placed} {t : Lexeme} {ts rest : List Lexeme} → Is (s.Word w.Intrinsic) t → dl.Names ns ts rest → Ends rest
+        → Near (declaration room body_of u false segment) (t ∷ ts) rest (Got (decl.Declaration.intrinsic ns) rest)
+    unfolding declaration declaration_by by_word
+    intrinsic_read i l e = near_symbol _ i (near_then _ near_take (near_then _ (names_read l e) (near_pure _ _)))
+
+    label_read : {ns : List Placed} {t : Lexeme} {ts rest : List Lexeme} → Is (s.Word w.Label) t → dl.Names ns ts rest → Ends rest
+        → Near (declaration room body_of u false segment) (t ∷ ts) rest (Got (decl.Declaration.label ns) rest)
+    unfolding declaration declaration_by by_word
+    label_read i l e = near_symbol _ i (near_then _ near_take (near_then _ (names_read l e) (near_pure _ _)))
+
+    -- [type] SUBROUTINE, from its word on
+    subroutine_read : {r : Option Kind} {ns vs : List Placed} {ss : List decl.Spec} {x : stat.Statement} {p t k z : Lexeme} {ts after_names after_values mid rest : List Lexeme} → Is s.Name t
+        → dl.Parameters ns ts after_names → dl.Values vs after_names after_values → dl.Specs ss after_values (k ∷ mid) → Is s.Semicolon k → st.Statement x mid (z ∷ rest) → Is s.Semicolon z
+        → Near (subroutine room body_of u segment r) (p ∷ t ∷ ts) (z ∷ rest) (Got (decl.Declaration.subroutine (heading_of r t ns vs ss segment false) x) (z ∷ rest))
+    unfolding subroutine same_symbol symbol_number reserved_number
+    subroutine_read i ns vs ss k x z = near_then _ (heading_read (λ _. segment) i ns vs ss k (statement_declares refl refl refl refl refl refl refl refl refl refl refl refl refl x (by_is _ _ _ _ _ z refl)))
+        (near_then _ ((complete_statement x (af.semicolon z)).reads room) (near_pure _ _))
+
+    subroutine_decl : (after : Bool) {h : decl.Heading} {x : stat.Statement} {z : Lexeme} {ts mid rest : List Lexeme} → dl.SubroutineHeading segment h ts mid → st.Statement x mid (z ∷ rest) → Is s.Semicolon z
+        → Near (declaration room body_of u after segment) ts (z ∷ rest) (Got (decl.Declaration.subroutine h x) (z ∷ rest))
+    unfolding declaration declaration_by typed typed_by by_word same_symbol symbol_number reserved_number
+    subroutine_decl after (dl.SubroutineHeading.heading dl.Result.absent p i ns vs ss k) x z = near_symbol _ p (subroutine_read i ns vs ss k x z)
+    subroutine_decl after (dl.SubroutineHeading.heading (dl.Result.given r) p i ns vs ss k) x z = near_symbol _ r (near_then _ near_take (near_symbol _ p (subroutine_read i ns vs ss k x z)))
+
+  module _ (segment : ℕ) (claim : (n : ℕ) (ds : List decl.Declaration) (xs : List stat.Statement) (k : Lexeme) (ts rest : List Lexeme) → dl.Body n ds xs ts (k ∷ rest) → Is s.Semicolon k
+      → Near (body_of n) ts (k ∷ rest) (Got (body_pair ds xs) (k ∷ rest))) where
+    -- a heading and what stands behind it, at its word PROCEDURE
+    procedure_at : {split : Bool} {h : decl.Heading} {ts mid rest : List Lexeme} {y : Outcome decl.Declaration} → dl.Heading split h ts mid → Begins goes_on false mid
+        → ((f : Bool → decl.Heading) → f split ≡ h → Near (behind_heading room body_of true f) mid rest y) → Near (declaration room body_of true false segment) ts rest y
+    unfolding declaration declaration_by typed typed_by by_word procedure same_symbol symbol_number reserved_number
+    procedure_at (dl.Heading.heading dl.Result.absent p i ns vs ss k) b n = near_symbol _ p (near_then _ (heading_read (λ p. p.segment) i ns vs ss k b) (n _ refl))
+    procedure_at (dl.Heading.heading (dl.Result.given r) p i ns vs ss k) b n = near_symbol _ r (near_then _ near_take (near_symbol _ p (near_then _ (heading_read (λ p. p.segment) i ns vs ss k b) (n _ refl))))
+
+    body_behind : {h : decl.Heading} {ds : List decl.Declaration} {xs : List stat.Statement} {k : Lexeme} {mid rest : List Lexeme} (g : decl.Heading) → g ≡ h → dl.Body h.segment ds xs mid (k ∷ rest)
+        → Is s.Semicolon k → Near (body_of g.segment >>= (λ b. pure (decl.Declaration.procedure g (declarations b.0) b.1))) mid (k ∷ rest) (Got (decl.Declaration.procedure h (declarations ds) xs) (k ∷ rest))
+    body_behind {h = h} {ds = ds} {xs = xs} {k = k} {mid = mid} {rest = rest} g q b i = near_then _ (claim g.segment ds xs k mid rest (rw q b) i)
+        (near_to (near_pure _ _) (ap (λ g. Got (decl.Declaration.procedure g (declarations ds) xs) (k ∷ rest)) q))
+
+    plain_procedure : {h : decl.Heading} {ds : List decl.Declaration} {xs : List stat.Statement} {k : Lexeme} {ts mid rest : List Lexeme} → dl.Heading false h ts mid → dl.Body h.segment ds xs mid (k ∷ rest)
+        → Is s.Semicolon k → Near (declaration room body_of true false segment) ts (k ∷ rest) (Got (decl.Declaration.procedure h (declarations ds) xs) (k ∷ rest))
+    unfolding behind_heading
+    plain_procedure h b k = procedure_at h (start_goes (body_first b)) (λ f q. choose_else (is (s.Word w.Options)) _ (start_option (body_first b)) (body_behind (f false) q b k))
+
+    with_options : {a : Options} {h : decl.Heading} {ds : List decl.Declaration} {xs : List stat.Statement} {p j k : Lexeme} {ts mid next rest : List Lexeme} → dl.Heading a.split h ts (p ∷ mid)
+        → Is (s.Word w.Options) p → dl.OptionList no_options a mid (j ∷ next) → a.forward ≡ false → a.external ≡ false → Is s.Semicolon j → dl.Body h.segment ds xs next (k ∷ rest) → Is s.Semicolon k
+        → Near (declaration room body_of true false segment) ts (k ∷ rest) (Got (decl.Declaration.procedure h (declarations ds) xs) (k ∷ rest))
+    unfolding behind_heading
+    with_options {a = a} h p o e g j b k = procedure_at h (option_goes p) (λ f q. near_symbol _ p (near_if _ (same_self (s.Word w.Options)) (near_then _ near_take (near_then _ (options_read o (semicolon j))
+        (near_else _ e (near_else _ g (near_then _ (near_expect j) (body_behind (f a.split) q b k))))))))
+
+    forward_read : {a : Options} {h : decl.Heading} {p k : Lexeme} {ts mid rest : List Lexeme} → dl.Heading a.split h ts (p ∷ mid) → Is (s.Word w.Options) p → dl.OptionList no_options a mid (k ∷ rest)
+        → a.forward ≡ true → Is s.Semicolon k → Near (declaration room body_of true false segment) ts (k ∷ rest) (Got (decl.Declaration.forward h) (k ∷ rest))
+    unfolding behind_heading
+    forward_read {a = a} {k = k} {rest = rest} h p o e i = procedure_at h (option_goes p) (λ f q. near_symbol _ p (near_if _ (same_self (s.Word w.Options)) (near_then _ near_take (near_then _ (options_read o (semicolon i))
+        (near_if _ e (near_to (near_pure _ _) (ap (λ g. Got (decl.Declaration.forward g) (k ∷ rest)) q)))))))
+
+    external_read : {a : Options} {h : decl.Heading} {p k : Lexeme} {ts mid rest : List Lexeme} → dl.Heading a.split h ts (p ∷ mid) → Is (s.Word w.Options) p → dl.OptionList no_options a mid (k ∷ rest)
+        → a.external ≡ true → Is s.Semicolon k → Near (declaration room body_of true false segment) ts (k ∷ rest) (Got (decl.Declaration.external h) (k ∷ rest))
+    unfolding behind_heading
+    external_read {a = a} {k = k} {rest = rest} h p o e i = procedure_at h (option_goes p) (λ f q. near_symbol _ p (near_if _ (same_self (s.Word w.Options)) (near_then _ near_take (near_then _ (options_read o (semicolon i))
+        (near_else _ (no_forward o e) (near_if _ e (near_to (near_pure _ _) (ap (λ g. Got (decl.Declaration.external g) (k ∷ rest)) q))))))))
+
+    -- a declaration that fits its place
+    declaration_read : {u : Bool} {d : decl.Declaration} {k : Lexeme} {ts rest : List Lexeme} (after : Bool) → dl.Declaration u segment d ts (k ∷ rest) → Is s.Semicolon k
+        → (is_subroutine d || not after) ≡ true → Near (declaration room body_of u after segment) ts (k ∷ rest) (Got d (k ∷ rest))
+    declaration_read after (dl.Declaration.simple o i l) k e = rw (not_after after e) (simple_read _ segment o i l (semicolon k))
+    declaration_read after (dl.Declaration.array o c i l) k e = rw (not_after after e) (array_decl_read _ segment o c i l (semicolon k))
+    declaration_read after (dl.Declaration.pointers_of i p l) k e = rw (not_after after e) (pointers_read _ segment i p l (semicolon k))
+    declaration_read after (dl.Declaration.equate i l) k e = rw (not_after after e) (equate_read _ segment i l (semicolon k))
+    declaration_read after (dl.Declaration.intrinsic i l) k e = rw (not_after after e) (intrinsic_read _ segment i l (semicolon k))
+    declaration_read after (dl.Declaration.label i l) k e = rw (not_after after e) (label_read _ segment i l (semicolon k))
+    declaration_read after (dl.Declaration.procedure h b) k e = rw (not_after after e) (plain_procedure h b k)
+    declaration_read after (dl.Declaration.procedure_with h p o f g j b) k e = rw (not_after after e) (with_options h p o f g j b k)
+    declaration_read after (dl.Declaration.forward h p o f) k e = rw (not_after after e) (forward_read h p o f k)
+    declaration_read after (dl.Declaration.external h p o f) k e = rw (not_after after e) (external_read h p o f k)
+    declaration_read after (dl.Declaration.subroutine h x) k e = subroutine_decl _ segment after h x k
+
+    declaration_first : {u : Bool} {d : decl.Declaration} {ts rest : List Lexeme} → dl.Declaration u segment d ts rest → Begins (declares room body_of u) true ts
+    unfolding declares
+    declaration_first (dl.Declaration.simple dl.Own.absent i l) = by_is _ _ _ _ _ i refl
+    declaration_first (dl.Declaration.simple (dl.Own.given o) i l) = by_is _ _ _ _ _ o refl
+    declaration_first (dl.Declaration.array dl.Own.absent dl.OptionalKind.absent i l) = by_is _ _ _ _ _ i refl
+    declaration_first (dl.Declaration.array dl.Own.absent (dl.OptionalKind.given c) i l) = by_is _ _ _ _ _ c refl
+    declaration_first (dl.Declaration.array (dl.Own.given o) c i l) = by_is _ _ _ _ _ o refl
+    declaration_first (dl.Declaration.pointers_of i p l) = by_is _ _ _ _ _ i refl
+    declaration_first (dl.Declaration.equate i l) = by_is _ _ _ _ _ i refl
+    declaration_first (dl.Declaration.intrinsic i l) = by_is _ _ _ _ _ i refl
+    declaration_first (dl.Declaration.label i l) = by_is _ _ _ _ _ i refl
+    declaration_first (dl.Declaration.procedure h b) = heading_first h (λ c. refl) refl
+    declaration_first (dl.Declaration.procedure_with h p o f g j b) = heading_first h (λ c. refl) refl
+    declaration_first (dl.Declaration.forward h p o f) = heading_first h (λ c. refl) refl
+    declaration_first (dl.Declaration.external h p o f) = heading_first h (λ c. refl) refl
+    declaration_first (dl.Declaration.subroutine (dl.SubroutineHeading.heading dl.Result.absent p i ns vs ss k) x) = by_is _ _ _ _ _ p refl
+    declaration_first (dl.Declaration.subroutine (dl.SubroutineHeading.heading (dl.Result.given r) p i ns vs ss k) x) = by_is _ _ _ _ _ r refl
+
+    -- the declarations of a unit or a body
+    declarations_read : {u after : Bool} {ds : List decl.Declaration} {ts rest : List Lexeme} → (lb : (n : ℕ) → IsLocal (body_of n)) → dl.Declarations u after segment ds ts rest
+        → Begins (declares room body_of u) false rest → (so_far : List decl.Declaration)
+        → Near (repeat (more_declarations room body_of u segment) (decl_state after so_far)) ts rest (Got (decl_state (after_all after ds) (so_far ++ ds)) rest)
+    unfolding more_declarations after_all
+    declarations_read {after = after} {rest = rest} lb dl.Declarations.none b so_far = near_to (near_last _ (choose_else (declares room body_of _) _ b (near_pure _ _)))
+        (ap (λ xs. Got (decl_state after xs) rest) (sym (append-nil so_far)))
+    declarations_read {u = u} {after = after} {rest = rest} lb (dl.Declarations.more {d = d} {ds = ds} {mid = mid} x e k l) b so_far =
+        let r = declaration_read after x k e in
+        near_turn {v = decl_state (is_subroutine d) (so_far ++ d ∷ [])} {m = mid} (takes_more_declarations room body_of u lb segment) (let n = r.within in omega arith)
+            (choose_then (declares room body_of u) _ (declaration_first x) (near_then _ r (near_then _ (near_expect k) (near_pure _ _))))
+            (near_to (declarations_read lb l b (so_far ++ d ∷ [])) (ap (λ xs. Got (decl_state (after_all (is_subroutine d) ds) xs) rest) (append_assoc so_far (d ∷ []) ds)))
+
+    declaration_list_read : {u : Bool} {ds : List decl.Declaration} {ts rest : List Lexeme} → (lb : (n : ℕ) → IsLocal (body_of n)) → dl.Declarations u false segment ds ts rest
+        → Begins (declares room body_of u) false rest → Near (declaration_list room body_of u segment) ts rest (Got ds rest)
+    unfolding declaration_list
+    declaration_list_read lb l b = near_then _ (declarations_read lb l b []) (near_pure _ _)
