@@ -1,5 +1,5 @@
 -- What is spelled as a declaration, a body or a unit is read, unless it is too deep before its end.
-use Rattle.std.proofs.Common.{ℕ, zero, suc, ◌+◌, ◌≡◌, ◌==◌, ◌&&◌, ◌||◌, not, ◌<◌, ◌≤◌, Bool, true, false, if◌then◌else◌, List, [], ◌∷◌, ◌++◌, length, Option, Some, None, refl, arith, ap, sym, ◌∙◌, rules, append_assoc, append-nil}
+use Rattle.std.proofs.Common.{ℕ, zero, suc, ◌+◌, ◌≡◌, ◌==◌, ◌&&◌, ◌||◌, not, ◌<◌, ◌≤◌, Bool, true, false, if◌then◌else◌, List, [], ◌∷◌, ◌++◌, length, Option, Some, None, refl, arith, ap, sym, ◌∙◌, rules, append_assoc, append-nil, map, ◌≢◌}
 use Rattle.std.proofs.lemmas.Bool.Decides.{nat_tests}
 use Rattle.spl_tree.specs.declared.names_and_places.At.{At}
 use Rattle.spl_tree.specs.declared.expressions.Kind.{Kind}
@@ -209,6 +209,9 @@ after_all : Bool → List decl.Declaration → Bool
 after_all after [] = after
 after_all after (d ∷ ds) = after_all (is_subroutine d) ds
 
+abbrev unit_tree_of : List decl.Declaration → List stat.Statement → ℕ → At → UnitTree
+unit_tree_of ds xs segment at = record { items = ds; statements = xs; segment = segment; at = at }
+
 -- Declarations, where bodies are read by their claim.
 module _ (room : ℕ) (body_of : ℕ → Parser BodyRead) where
   module _ (u : Bool) (segment : ℕ) where
@@ -354,7 +357,121 @@ module _ (room : ℕ) (body_of : ℕ → Parser BodyRead) where
             (choose_then (declares room body_of u) _ (declaration_first x) (near_then _ r (near_then _ (near_expect k) (near_pure _ _))))
             (near_to (declarations_read lb l b (so_far ++ d ∷ [])) (ap (λ xs. Got (decl_state (after_all (is_subroutine d) ds) xs) rest) (append_assoc so_far (d ∷ []) ds)))
 
-    declaration_list_read : {u : Bool} {ds : List decl.Declaration} {ts rest : List Lexeme} → (lb : (n : ℕ) → IsLocal (body_of n)) → dl.Declarations u false segment ds ts rest
+    pub declaration_list_read : {u : Bool} {ds : List decl.Declaration} {ts rest : List Lexeme} → (lb : (n : ℕ) → IsLocal (body_of n)) → dl.Declarations u false segment ds ts rest
         → Begins (declares room body_of u) false rest → Near (declaration_list room body_of u segment) ts rest (Got ds rest)
     unfolding declaration_list
     declaration_list_read lb l b = near_then _ (declarations_read lb l b []) (near_pure _ _)
+
+-- no body, where no procedure may stand: nothing is claimed
+no_body : (n : ℕ) → IsLocal (refuse {A = BodyRead})
+no_body n = local_refuse
+
+-- The declarations of a body hold no procedure, so that no claim about bodies is wanted.
+module _ (room : ℕ) (segment : ℕ) where
+  inner_read : {d : decl.Declaration} {k : Lexeme} {ts rest : List Lexeme} (after : Bool) → dl.Declaration false segment d ts (k ∷ rest) → Is s.Semicolon k
+      → (is_subroutine d || not after) ≡ true → Near (declaration room (λ _. refuse) false after segment) ts (k ∷ rest) (Got d (k ∷ rest))
+  inner_read after (dl.Declaration.simple o i l) k e = rw (not_after after e) (simple_read room _ _ segment o i l (semicolon k))
+  inner_read after (dl.Declaration.array o c i l) k e = rw (not_after after e) (array_decl_read room _ _ segment o c i l (semicolon k))
+  inner_read after (dl.Declaration.pointers_of i p l) k e = rw (not_after after e) (pointers_read room _ _ segment i p l (semicolon k))
+  inner_read after (dl.Declaration.equate i l) k e = rw (not_after after e) (equate_read room _ _ segment i l (semicolon k))
+  inner_read after (dl.Declaration.intrinsic i l) k e = rw (not_after after e) (intrinsic_read room _ _ segment i l (semicolon k))
+  inner_read after (dl.Declaration.label i l) k e = rw (not_after after e) (label_read room _ _ segment i l (semicolon k))
+  inner_read after (dl.Declaration.subroutine h x) k e = subroutine_decl room _ _ segment after h x k
+
+  inner_first : {d : decl.Declaration} {ts rest : List Lexeme} → dl.Declaration false segment d ts rest → Begins (declares room (λ _. refuse) false) true ts
+  unfolding declares
+  inner_first (dl.Declaration.simple dl.Own.absent i l) = by_is _ _ _ _ _ i refl
+  inner_first (dl.Declaration.simple (dl.Own.given o) i l) = by_is _ _ _ _ _ o refl
+  inner_first (dl.Declaration.array dl.Own.absent dl.OptionalKind.absent i l) = by_is _ _ _ _ _ i refl
+  inner_first (dl.Declaration.array dl.Own.absent (dl.OptionalKind.given c) i l) = by_is _ _ _ _ _ c refl
+  inner_first (dl.Declaration.array (dl.Own.given o) c i l) = by_is _ _ _ _ _ o refl
+  inner_first (dl.Declaration.pointers_of i p l) = by_is _ _ _ _ _ i refl
+  inner_first (dl.Declaration.equate i l) = by_is _ _ _ _ _ i refl
+  inner_first (dl.Declaration.intrinsic i l) = by_is _ _ _ _ _ i refl
+  inner_first (dl.Declaration.label i l) = by_is _ _ _ _ _ i refl
+  inner_first (dl.Declaration.subroutine (dl.SubroutineHeading.heading dl.Result.absent p i ns vs ss k) x) = by_is _ _ _ _ _ p refl
+  inner_first (dl.Declaration.subroutine (dl.SubroutineHeading.heading (dl.Result.given r) p i ns vs ss k) x) = by_is _ _ _ _ _ r refl
+
+  inners_read : {after : Bool} {ds : List decl.Declaration} {ts rest : List Lexeme} → dl.Declarations false after segment ds ts rest
+      → Begins (declares room (λ _. refuse) false) false rest → (so_far : List decl.Declaration)
+      → Near (repeat (more_declarations room (λ _. refuse) false segment) (decl_state after so_far)) ts rest (Got (decl_state (after_all after ds) (so_far ++ ds)) rest)
+  unfolding more_declarations after_all
+  inners_read {after = after} {rest = rest} dl.Declarations.none b so_far = near_to (near_last _ (choose_else (declares room (λ _. refuse) false) _ b (near_pure _ _)))
+      (ap (λ xs. Got (decl_state after xs) rest) (sym (append-nil so_far)))
+  inners_read {after = after} {rest = rest} (dl.Declarations.more {d = d} {ds = ds} {mid = mid} x e k l) b so_far =
+      let r = inner_read after x k e in
+      near_turn {v = decl_state (is_subroutine d) (so_far ++ d ∷ [])} {m = mid} (takes_more_declarations room (λ _. refuse) false no_body segment) (let n = r.within in omega arith)
+          (choose_then (declares room (λ _. refuse) false) _ (inner_first x) (near_then _ r (near_then _ (near_expect k) (near_pure _ _))))
+          (near_to (inners_read l b (so_far ++ d ∷ [])) (ap (λ xs. Got (decl_state (after_all (is_subroutine d) ds) xs) rest) (append_assoc so_far (d ∷ []) ds)))
+
+  inner_list_read : {ds : List decl.Declaration} {ts rest : List Lexeme} → dl.Declarations false false segment ds ts rest → Begins (declares room (λ _. refuse) false) false rest
+      → Near (declaration_list room (λ _. refuse) false segment) ts rest (Got ds rest)
+  unfolding declaration_list
+  inner_list_read l b = near_then _ (inners_read l b []) (near_pure _ _)
+
+-- the body of a procedure
+body_read : (room n : ℕ) (ds : List decl.Declaration) (xs : List stat.Statement) (k : Lexeme) (ts rest : List Lexeme) → dl.Body n ds xs ts (k ∷ rest) → Is s.Semicolon k
+    → Near (body room n) ts (k ∷ rest) (Got (body_pair ds xs) (k ∷ rest))
+unfolding body
+body_read room n ds xs k ts rest (dl.Body.block i l x z) j = near_symbol _ i (near_if _ (same_self (s.Word w.Begin)) (near_then _ near_take (near_then _ (inner_list_read room n l (list_first room _ _ x z))
+    (near_then _ (list_read (complete_list x z) room) (near_then _ (near_expect z) (near_pure _ _))))))
+body_read room n ds xs k ts rest (dl.Body.single x c) j = choose_else (is (s.Word w.Begin)) _ (single_no_begin x c) (near_then _ ((complete_statement x (af.semicolon j)).reads room)
+    (near_if _ c (near_pure _ _)))
+
+-- A declaration of a unit, said of another segment.
+of_unit : {u : Bool} {m n : ℕ} {d : decl.Declaration} {ts rest : List Lexeme} → dl.Declaration u m d ts rest → dl.Declaration u n (of_segment n d) ts rest
+of_unit (dl.Declaration.simple o i l) = dl.Declaration.simple o i l
+of_unit (dl.Declaration.array o c i l) = dl.Declaration.array o c i l
+of_unit (dl.Declaration.pointers_of i p l) = dl.Declaration.pointers_of i p l
+of_unit (dl.Declaration.equate i l) = dl.Declaration.equate i l
+of_unit (dl.Declaration.intrinsic i l) = dl.Declaration.intrinsic i l
+of_unit (dl.Declaration.label i l) = dl.Declaration.label i l
+of_unit (dl.Declaration.procedure h b) = dl.Declaration.procedure h b
+of_unit (dl.Declaration.procedure_with h p o f g j b) = dl.Declaration.procedure_with h p o f g j b
+of_unit (dl.Declaration.forward h p o f) = dl.Declaration.forward h p o f
+of_unit (dl.Declaration.external h p o f) = dl.Declaration.external h p o f
+of_unit (dl.Declaration.subroutine (dl.SubroutineHeading.heading r p i ns vs ss k) x) = dl.Declaration.subroutine (dl.SubroutineHeading.heading r p i ns vs ss k) x
+
+back_again : {u : Bool} {m : ℕ} (n : ℕ) {d : decl.Declaration} {ts rest : List Lexeme} → dl.Declaration u m d ts rest → of_segment m (of_segment n d) ≡ d
+back_again n (dl.Declaration.simple o i l) = refl
+back_again n (dl.Declaration.array o c i l) = refl
+back_again n (dl.Declaration.pointers_of i p l) = refl
+back_again n (dl.Declaration.equate i l) = refl
+back_again n (dl.Declaration.intrinsic i l) = refl
+back_again n (dl.Declaration.label i l) = refl
+back_again n (dl.Declaration.procedure h b) = refl
+back_again n (dl.Declaration.procedure_with h p o f g j b) = refl
+back_again n (dl.Declaration.forward h p o f) = refl
+back_again n (dl.Declaration.external h p o f) = refl
+back_again n (dl.Declaration.subroutine (dl.SubroutineHeading.heading r p i ns vs ss k) x) = refl
+
+same_sort : (n : ℕ) (d : decl.Declaration) → is_subroutine (of_segment n d) ≡ is_subroutine d
+same_sort n (decl.Declaration.data_items o c is) = refl
+same_sort n (decl.Declaration.equate es) = refl
+same_sort n (decl.Declaration.intrinsic ns) = refl
+same_sort n (decl.Declaration.label ns) = refl
+same_sort n (decl.Declaration.forward h) = refl
+same_sort n (decl.Declaration.external h) = refl
+same_sort n (decl.Declaration.procedure h ds xs) = refl
+same_sort n (decl.Declaration.subroutine h x) = refl
+
+of_units : {u after : Bool} {m : ℕ} (n : ℕ) {ds : List decl.Declaration} {ts rest : List Lexeme} → dl.Declarations u after m ds ts rest → dl.Declarations u after n (map (of_segment n) ds) ts rest
+of_units n dl.Declarations.none = dl.Declarations.none
+of_units {after = after} n (dl.Declarations.more {d = d} x e k l) = dl.Declarations.more (of_unit x) (rw (same_sort n d) e) k (rw (same_sort n d) (of_units n l))
+
+all_back : {u after : Bool} {m : ℕ} (n : ℕ) {ds : List decl.Declaration} {ts rest : List Lexeme} → dl.Declarations u after m ds ts rest → map (of_segment m) (map (of_segment n) ds) ≡ ds
+all_back n dl.Declarations.none = refl
+all_back {m = m} n (dl.Declarations.more {d = d} {ds = ds} x e k l) = rw (back_again n x, all_back n l) refl
+
+-- the segment in force at a token
+segment_read : {ts : List Lexeme} → length ts ≢ 0 → Near next_segment ts ts (Got (segment_at ts) ts)
+unfolding next_segment
+segment_read {ts = []} e = absurd (e refl)
+segment_read {ts = t ∷ us} e = near_same (omega arith) refl
+
+-- a unit
+pub unit_read : {u : UnitTree} {ts : List Lexeme} → Unit_of u ts → (room : ℕ) → Near (rd.unit room) ts [] (Got u [])
+unfolding rd.unit
+unit_read (unit {ds = ds} {xs = xs} {b = b} {mid = mid} i l x z d e) room = near_then _ (near_expect i) (near_then _ (declaration_list_read room (body room) 0 (body_read room) (local_body room) (of_units 0 l) (list_first room _ _ x z))
+    (near_then _ (segment_read (let n = tk.no_longer_list x in omega arith)) (near_then _ (list_read (complete_list x z) room) (near_then _ (near_expect z) (near_then _ (near_expect d) (near_then _ (near_expect e)
+    (near_to (near_pure _ _) (ap (λ ds. Got (unit_tree_of ds xs (segment_at mid) b.at) []) (all_back 0 l)))))))))
