@@ -22,3 +22,6 @@ pub mod KnownUnits
 pub mod CompleteParts
 pub mod CompleteHeadings
 pub mod CompleteUnits
+pub mod CalmReaders
+pub mod CalmDeclarations
+pub mod UnitLaws

@@ -12,4 +12,4 @@ pub use expression_laws::{
 pub use statement_laws::{
     statement_faults_stand, statements_are_explained, statements_are_read, statements_are_unique,
 };
-pub use unit_laws::unit_faults_stand;
+pub use unit_laws::{texts_spell_one_unit, unit_faults_stand, units_are_read, units_are_unique};

@@ -1,7 +1,8 @@
-use Rattle.spl_grammar.proofs.LocalDeclarations.{local_unit}
-use Rattle.spl_grammar.proofs.ExpressionLaws.{like_bad}
+use Rattle.std.proofs.Common.{sym, ◌∙◌}
+use Rattle.spl_grammar.proofs.CompleteUnits.{unit_read}
+use Rattle.spl_grammar.proofs.UnitLaws.{unit_fault, unit_unique}
 use Rattle.spl_grammar.proofs.unit_laws.unit_faults_stand.Goals as goal
 
 -- the reader looks at no token behind the fault
 pub returns : goal.returns
-returns c = λ room t us vs ts more e a. like_bad us vs t _ _ ((local_unit room).alike us vs ts more a) e
+returns c = λ room t us vs ts more e a. unit_fault room e a
