@@ -1,19 +1,19 @@
 -- Where as many constructs may be open as there are tokens, nothing is too deep.
-use Rattle.std.proofs.Common.{ℕ, zero, suc, ◌+◌, ◌≡◌, ◌<◌, ◌≤◌, Bool, true, false, List, [], ◌∷◌, length, Option, Some, None, if◌then◌else◌, refl, arith}
+use Rattle.std.proofs.Common.{ℕ, zero, suc, ◌≤◌, Bool, true, false, List, [], ◌∷◌, length, if◌then◌else◌, arith}
 use Rattle.spl_tree.specs.declared.symbols.Symbol.{Symbol}
 use Rattle.spl_tree.specs.Symbols.{Lexeme}
-use Rattle.spl_tree.specs.OpenExpressions.{Part, OpensAt, nesting}
+use Rattle.spl_tree.specs.OpenExpressions.{Part}
 use Rattle.spl_grammar.specs.Readers.{Outcome, Got, Bad, Deep, Parser, and_then, followed, pure, refuse, by_symbol, take, expect, same_symbol, turns, repeat}
 use Rattle.spl_grammar.specs.Answers.{Explains}
 use Rattle.spl_grammar.specs.Answers as an
 use Rattle.spl_grammar.specs.ReadDeclarations.{by_token, next_segment}
 use Rattle.spl_grammar.specs.ReadExpressions.{constant}
 use Rattle.spl_grammar.specs.ReadStatements.{statement, statement_list}
-use Rattle.spl_grammar.proofs.LocalReaders.{IsLocal, end_of, local_take, local_expect}
+use Rattle.spl_grammar.proofs.LocalReaders.{end_of, local_take}
 use Rattle.spl_grammar.proofs.LocalExpressions.{local_constant}
 use Rattle.spl_grammar.proofs.LocalStatements.{local_statement, local_list}
 use Rattle.spl_grammar.proofs.SoundOperands.{constant_explained}
-use Rattle.spl_grammar.proofs.SoundStatements.{statement_explained, list_explained, StatementGot}
+use Rattle.spl_grammar.proofs.SoundStatements.{statement_explained, list_explained}
 use Rattle.spl_grammar.proofs.ExplainReaders.{explain_as}
 use Rattle.spl_grammar.proofs.ChainBounds.{chain_bound}
 

@@ -1,6 +1,6 @@
 -- What is spelled is read, unless it is too deep before its end. By induction on the spelling: a level above the operands
 -- comes to its loop with what was read so far, so that a rule that begins with its own level goes through.
-use Rattle.std.proofs.Common.{ℕ, zero, suc, ◌+◌, ◌≡◌, ◌==◌, ◌&&◌, ◌/◌, not, ◌<◌, ◌≤◌, Bool, true, false, if◌then◌else◌, List, [], ◌∷◌, ◌++◌, length, Option, Some, None, refl, arith, ap, sym, ◌∙◌, ◌⊎◌, inl, inr, rules, nat_lt, append_assoc, append-nil}
+use Rattle.std.proofs.Common.{ℕ, zero, suc, ◌+◌, ◌≡◌, ◌==◌, ◌&&◌, ◌/◌, not, ◌<◌, ◌≤◌, Bool, true, false, if◌then◌else◌, List, [], ◌∷◌, ◌++◌, length, Option, Some, None, refl, arith, ap, sym, ◌⊎◌, inl, inr, nat_lt, append_assoc}
 use Rattle.std.proofs.lemmas.Bool.Decides.{nat_tests}
 use Rattle.spl_tree.specs.declared.names_and_places.At.{At}
 use Rattle.spl_tree.specs.declared.expressions.Kind.{Kind}
@@ -10,11 +10,11 @@ use Rattle.spl_tree.specs.Symbols.{Lexeme, Is}
 use Rattle.spl_tree.specs.Operators.{Form, reference, comparison, other, compared, form_of_call, bytes_of, binds, is_sign, sign_number, is_number, negated, shift_of}
 use Rattle.spl_tree.specs.Expressions as g
 use Rattle.spl_tree.specs.Trees as tree
-use Rattle.spl_grammar.specs.Readers.{Outcome, Got, Parser, and_then, allowed, followed, by_symbol, pure, refuse, take, at_place, repeat, same_symbol, symbol_number}
-use Rattle.spl_grammar.specs.ReadExpressions.{Found, plain, is, operator_of, constant, constant_by, signed_by, bits, field, negative_by, enter, opening, enclosed, more_arguments, arguments, named, addressed, primary_by, inverse, primary, unary_step, begins, counted, signed_by_next, first, join, shifted, bytes, turn, turn_by, level, whole, unary, expression, within, condition}
-use Rattle.spl_grammar.specs.Following.{Follow, behind, Stops}
-use Rattle.spl_grammar.proofs.LocalReaders.{Taking, taking_symbol, IsLocal, local_refuse}
-use Rattle.spl_grammar.proofs.LocalExpressions.{takes_more, takes_turn, local_level, local_unary, local_expression, local_within}
+use Rattle.spl_grammar.specs.Readers.{Outcome, Got, Parser, and_then, allowed, followed, by_symbol, pure, refuse, repeat, same_symbol, symbol_number}
+use Rattle.spl_grammar.specs.ReadExpressions.{Found, plain, is, operator_of, constant, constant_by, signed_by, bits, field, negative_by, enter, opening, enclosed, more_arguments, arguments, named, addressed, primary_by, inverse, primary, unary_step, counted, signed_by_next, first, join, shifted, bytes, turn, turn_by, level, whole, unary, expression, within}
+use Rattle.spl_grammar.specs.Following.{Follow, behind}
+use Rattle.spl_grammar.proofs.LocalReaders.{IsLocal, local_refuse}
+use Rattle.spl_grammar.proofs.LocalExpressions.{takes_more, takes_turn, local_level, local_unary, local_within}
 use Rattle.spl_grammar.proofs.NearReaders.{DeepBefore, deep, Near, near_same, near_to, near_from, near_then, near_pure, near_take, near_place, near_symbol, near_head, near_if, near_else, near_expect, near_allowed, near_numbered, near_turn, near_last, same_self}
 use Rattle.spl_grammar.proofs.PartTokens as pt
 use Rattle.spl_grammar.proofs.FirstTokens as ft

@@ -1,5 +1,5 @@
 -- What is spelled as a statement is read, unless it is too deep before its end.
-use Rattle.std.proofs.Common.{ℕ, zero, suc, ◌+◌, ◌-◌, ◌≡◌, ◌==◌, ◌&&◌, ◌||◌, not, ◌<◌, ◌≤◌, Bool, true, false, if◌then◌else◌, List, [], ◌∷◌, ◌++◌, length, Option, Some, None, refl, arith, ap, sym, ◌∙◌, ◌⊎◌, inl, inr, rules, nat_lt, append_assoc}
+use Rattle.std.proofs.Common.{ℕ, zero, suc, ◌-◌, ◌≡◌, ◌≤◌, Bool, true, false, if◌then◌else◌, List, [], ◌∷◌, ◌++◌, length, refl, arith, ap, ◌∙◌, inl, inr, nat_lt, append_assoc}
 use Rattle.std.proofs.lemmas.Bool.Decides.{nat_tests}
 use Rattle.spl_tree.specs.declared.names_and_places.At.{At}
 use Rattle.spl_tree.specs.declared.symbols.Symbol.{Symbol}
@@ -15,19 +15,17 @@ use Rattle.spl_tree.specs.StatementTrees as stat
 use Rattle.spl_tree.specs.StatementTrees.{closed, statements}
 use Rattle.spl_tree.specs.Statements as st
 use Rattle.spl_tree.specs.Statements.{class_of, is_relation}
-use Rattle.spl_grammar.specs.Readers.{Outcome, Got, Parser, and_then, followed, ◌>>=◌, by_symbol, pure, refuse, take, at_place, allowed, repeat, same_symbol, symbol_number, reserved_number, expect, named_number}
-use Rattle.spl_grammar.specs.ReadExpressions.{Found, is, operator_of, constant, enter, opening, enclosed, arguments, within, expression, condition}
+use Rattle.spl_grammar.specs.Readers.{Outcome, Got, Parser, by_symbol, pure, refuse, repeat, same_symbol, symbol_number, reserved_number}
+use Rattle.spl_grammar.specs.ReadExpressions.{is, operator_of, enter, enclosed, within, expression, condition}
 use Rattle.spl_grammar.specs.ReadStatements.{indexed, reference, source_behind, source, while_or_until, move, scan, effect, begins_effect, test, value, assigned, field_assigned, behind_reference, is_single, stepped, go_name, more_statements, statement_list, labelled, with_arguments, named_statement, address_assigned, block, else_behind, if_statement, while_statement, do_statement, for_statement, case_statement, go_statement, effect_statement, by_word, statement_by, statement_step, statement}
 use Rattle.spl_grammar.specs.Following.{Follow, behind, Stops, After}
 use Rattle.spl_grammar.specs.Following as af
-use Rattle.spl_grammar.proofs.LocalReaders.{Taking}
 use Rattle.spl_grammar.proofs.LocalStatements.{takes_more_statements, local_statement}
-use Rattle.spl_grammar.proofs.NearReaders.{Near, near_same, near_to, near_from, near_then, near_pure, near_take, near_place, near_symbol, near_head, near_if, near_else, near_expect, near_allowed, near_numbered, near_turn, near_last, same_self, DeepBefore, deep}
-use Rattle.spl_grammar.proofs.PartTokens as pt
+use Rattle.spl_grammar.proofs.NearReaders.{Near, near_to, near_from, near_then, near_pure, near_take, near_place, near_symbol, near_head, near_if, near_else, near_expect, near_allowed, near_numbered, near_turn, near_last, same_self}
 use Rattle.spl_grammar.proofs.StatementTokens as tk
 use Rattle.spl_grammar.proofs.FirstTokens as ft
-use Rattle.spl_grammar.proofs.FollowLemmas.{follow_is, stops_close, stops_comma}
-use Rattle.spl_grammar.proofs.CompleteExpressions.{ExpressionRead, ArgumentsRead, complete, part_of, expression_of, complete_constant, complete_arguments, near_enclosed, near_arguments, one_case, near_on}
+use Rattle.spl_grammar.proofs.FollowLemmas.{follow_is, stops_close}
+use Rattle.spl_grammar.proofs.CompleteExpressions.{ExpressionRead, ArgumentsRead, complete, expression_of, complete_constant, complete_arguments, near_enclosed, near_arguments, one_case}
 use Rattle.spl_grammar.proofs.ExpressionLaws.{expression_read, condition_read}
 
 -- a symbol that stops every expression and condition

@@ -1,42 +1,32 @@
 -- What is spelled as a declaration, a body or a unit is read, unless it is too deep before its end.
-use Rattle.std.proofs.Common.{ℕ, zero, suc, ◌+◌, ◌≡◌, ◌==◌, ◌&&◌, ◌||◌, not, ◌<◌, ◌≤◌, Bool, true, false, if◌then◌else◌, List, [], ◌∷◌, ◌++◌, length, Option, Some, None, refl, arith, ap, sym, ◌∙◌, rules, append_assoc, append-nil, map, ◌≢◌}
-use Rattle.std.proofs.lemmas.Bool.Decides.{nat_tests}
+use Rattle.std.proofs.Common.{ℕ, ◌≡◌, ◌&&◌, ◌||◌, not, Bool, true, false, if◌then◌else◌, List, [], ◌∷◌, ◌++◌, length, Option, refl, arith, ap, sym, append_assoc, append-nil, map, ◌≢◌}
 use Rattle.spl_tree.specs.declared.names_and_places.At.{At}
 use Rattle.spl_tree.specs.declared.expressions.Kind.{Kind}
-use Rattle.spl_tree.specs.declared.expressions.Kind.TheVariants as kind
 use Rattle.spl_tree.specs.declared.symbols.Symbol.{Symbol}
 use Rattle.spl_tree.specs.declared.symbols.Symbol.TheVariants as s
-use Rattle.spl_tree.specs.declared.symbols.Reserved.{Reserved}
 use Rattle.spl_tree.specs.declared.symbols.Reserved.TheVariants as w
 use Rattle.spl_tree.specs.Symbols.{Lexeme, Is}
-use Rattle.spl_tree.specs.Operators.{is_sign}
-use Rattle.spl_tree.specs.Expressions as g
 use Rattle.spl_tree.specs.Trees as tree
 use Rattle.spl_tree.specs.DeclarationTrees as decl
 use Rattle.spl_tree.specs.DeclarationTrees.{Placed}
 use Rattle.spl_tree.specs.Declarations as dl
 use Rattle.spl_tree.specs.Declarations.{Separated, one, more, Options, both, fit, option_of, no_options, can_be_body, is_subroutine, pointers}
-use Rattle.spl_grammar.specs.Readers.{Outcome, Got, Parser, and_then, followed, ◌>>=◌, by_symbol, pure, refuse, take, repeat, same_symbol, symbol_number, reserved_number, expect}
-use Rattle.spl_grammar.specs.ReadExpressions.{is, operator_of, constant}
+use Rattle.spl_grammar.specs.Readers.{Outcome, Got, Parser, ◌>>=◌, by_symbol, pure, refuse, repeat, same_symbol, symbol_number, reserved_number}
+use Rattle.spl_grammar.specs.ReadExpressions.{is}
 use Rattle.spl_grammar.specs.ReadDeclarations.{more_parts, separated, name, names, item, shape, array, with_values, more_arrays, arrays, more_terms, equal, by_token, option_among, option_behind, more_options, options, parameters, spec_names, spec_behind, spec_by, more_specs, heading_tail, heading, BodyRead, array_data, item_data, behind_heading, procedure, subroutine, owned_by, typed_by, typed, by_word, declaration_by, declaration, declares, more_declarations, declaration_list, body, next_segment, of_segment}
 use Rattle.spl_grammar.specs.ReadDeclarations as rd
-use Rattle.spl_grammar.proofs.LocalExpressions.{local_constant}
-use Rattle.spl_grammar.proofs.LocalDeclarations.{takes_more_parts, takes_more_arrays, takes_more_terms, takes_more_options, takes_more_specs, local_name, local_item, local_equal}
-use Rattle.spl_grammar.proofs.NearReaders.{Near, near_same, near_to, near_from, near_then, near_pure, near_take, near_symbol, near_head, near_if, near_else, near_expect, near_turn, near_last, same_self}
-use Rattle.spl_grammar.proofs.CompleteExpressions.{complete_constant}
-use Rattle.spl_grammar.proofs.CompleteParts.{Ends, semicolon, close, PartEnds, no_comma, choose_else, two_else, head_is, names_read, items_read, equals_read, arrays_read}
-use Rattle.spl_grammar.proofs.CompleteHeadings.{goes_on, heading_tail_read, tail_pair, options_read, parameters_read}
-use Rattle.spl_grammar.proofs.CompleteStatements.{complete_statement, complete_list, list_read, StatementRead, ListRead}
+use Rattle.spl_grammar.proofs.NearReaders.{Near, near_same, near_to, near_then, near_pure, near_take, near_symbol, near_head, near_if, near_else, near_expect, near_turn, near_last, same_self}
+use Rattle.spl_grammar.proofs.CompleteParts.{Ends, semicolon, choose_else, names_read, items_read, equals_read, arrays_read}
+use Rattle.spl_grammar.proofs.CompleteHeadings.{goes_on, heading_tail_read, options_read, parameters_read}
+use Rattle.spl_grammar.proofs.CompleteStatements.{complete_statement, complete_list, list_read}
 use Rattle.spl_grammar.proofs.StatementTokens as tk
 use Rattle.spl_grammar.proofs.LocalDeclarations.{takes_more_declarations, local_body}
 use Rattle.spl_grammar.proofs.LocalReaders.{local_refuse, IsLocal}
 use Rattle.spl_grammar.specs.Following as af
-use Rattle.spl_grammar.specs.ReadStatements.{statement, statement_list}
 use Rattle.spl_tree.specs.StatementTrees as stat
 use Rattle.spl_tree.specs.Statements as st
 use Rattle.spl_tree.specs.Units.{segment_at, Unit_of, unit}
 use Rattle.spl_tree.specs.DeclarationTrees.{declarations, UnitTree}
-use Rattle.spl_grammar.proofs.PartTokens as pt
 use Rattle.spl_grammar.proofs.FirstTokens.{Begins, with_first, by_is}
 
 

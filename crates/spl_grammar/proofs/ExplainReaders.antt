@@ -1,15 +1,11 @@
 -- Every answer of a reader is explained: what is read is spelled; a fault comes behind tokens that open the part, with no more
 -- open than may be; and where it is too deep, the tokens up to and with that one open more.
-use Rattle.std.proofs.Common.{ℕ, zero, suc, ◌+◌, ◌/◌, ◌≡◌, ◌==◌, ◌<◌, ◌≤◌, Bool, true, false, if◌then◌else◌, List, [], ◌∷◌, length, Option, Some, None, refl, arith, ap, sym, ◌∙◌, ◌⊎◌, inl, inr, rules, nat_lt}
+use Rattle.std.proofs.Common.{ℕ, ◌≡◌, ◌<◌, ◌≤◌, Bool, true, false, if◌then◌else◌, List, [], ◌∷◌, Option, Some, None, refl}
 use Rattle.spl_tree.specs.declared.symbols.Symbol.{Symbol}
 use Rattle.spl_tree.specs.declared.symbols.Symbol.TheVariants as s
-use Rattle.spl_tree.specs.declared.symbols.Reserved.{Reserved}
-use Rattle.spl_tree.specs.declared.symbols.Reserved.TheVariants as w
-use Rattle.spl_tree.specs.declared.expressions.Kind.{Kind}
-use Rattle.spl_tree.specs.declared.expressions.Kind.TheVariants as kind
 use Rattle.spl_tree.specs.Symbols.{Lexeme, Is}
-use Rattle.spl_tree.specs.OpenExpressions.{Part, Step, Opens, here, inner, OpensAt, limit, nesting}
-use Rattle.spl_grammar.specs.Readers.{Outcome, Got, Bad, Deep, Parser, and_then, followed, pure, refuse, by_symbol, take, at_place, allowed, same_symbol, symbol_number, kind_number, reserved_number, truth_number, expect, named_number, numbered}
+use Rattle.spl_tree.specs.OpenExpressions.{Part, Step, Opens, here, inner, OpensAt, nesting}
+use Rattle.spl_grammar.specs.Readers.{Outcome, Got, Bad, Deep, Parser, and_then, followed, pure, refuse, by_symbol, take, allowed, same_symbol, expect, named_number, numbered}
 use Rattle.spl_grammar.proofs.SameSymbol.{same_is}
 
 pub use Rattle.spl_grammar.specs.Answers.{Explains, got, bad, deep}

@@ -1,13 +1,12 @@
 -- What follows from the laws of the readers: a list spells at most one expression, and a fault is one for every list that agrees
 -- up to its token.
-use Rattle.std.proofs.Common.{ℕ, zero, suc, ◌+◌, ◌/◌, ◌≡◌, ◌==◌, ◌<◌, ◌≤◌, Bool, true, false, List, [], ◌∷◌, length, Option, Some, None, refl, arith, ap, sym, ◌∙◌, ◌⊎◌, inl, inr}
+use Rattle.std.proofs.Common.{ℕ, ◌≡◌, ◌<◌, true, false, List, [], ◌∷◌, length, None, arith, ap, sym, ◌∙◌, ◌⊎◌, inl, inr}
 use Rattle.spl_tree.specs.Symbols.{Lexeme}
 use Rattle.spl_tree.specs.Operators.{Form}
 use Rattle.spl_tree.specs.Expressions as g
-use Rattle.spl_tree.specs.OpenExpressions as op
-use Rattle.spl_tree.specs.OpenExpressions.{Part, Step, Opens, OpensAt, nesting, limit}
+use Rattle.spl_tree.specs.OpenExpressions.{Part}
 use Rattle.spl_tree.specs.Trees as tree
-use Rattle.spl_grammar.specs.Readers.{Outcome, Got, Bad, Deep, Parser, followed, pure}
+use Rattle.spl_grammar.specs.Readers.{Outcome, Got, Bad, Deep, Parser}
 use Rattle.spl_grammar.specs.ReadExpressions.{expression, condition, whole}
 use Rattle.spl_grammar.specs.Following.{Follow}
 use Rattle.spl_grammar.proofs.LocalReaders as lr
@@ -17,8 +16,7 @@ use Rattle.spl_grammar.proofs.NearReaders.{Near, DeepBefore, deep, near_then, ne
 use Rattle.spl_grammar.proofs.CompleteExpressions.{complete, part_of}
 use Rattle.spl_grammar.proofs.ExplainReaders as er
 use Rattle.spl_grammar.proofs.ExplainReaders.{Explains}
-use Rattle.spl_grammar.proofs.SoundExpressions.{expression_explained, condition_explained, SpelledCondition}
-use Rattle.spl_grammar.proofs.SoundOperands.{Spelled}
+use Rattle.spl_grammar.proofs.SoundExpressions.{expression_explained, condition_explained}
 use Rattle.spl_grammar.proofs.ChainBounds.{chain_bound}
 
 -- what is spelled as an expression is read, unless it is too deep before its end

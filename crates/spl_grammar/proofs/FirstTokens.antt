@@ -1,16 +1,16 @@
 -- What the first token of a part can be.
-use Rattle.std.proofs.Common.{ℕ, zero, suc, ◌+◌, ◌≡◌, ◌==◌, ◌<◌, ◌≤◌, Bool, true, false, List, [], ◌∷◌, length, Option, Some, None, refl, arith, ap, sym, ◌∙◌}
+use Rattle.std.proofs.Common.{ℕ, suc, ◌≡◌, ◌==◌, ◌≤◌, Bool, true, false, List, ◌∷◌, Option, Some, refl, arith, ap, ◌∙◌}
 use Rattle.std.proofs.lemmas.Bool.Decides.{nat_tests}
 use Rattle.spl_tree.specs.declared.names_and_places.At.{At}
 use Rattle.spl_tree.specs.declared.symbols.Symbol.{Symbol}
 use Rattle.spl_tree.specs.declared.symbols.Symbol.TheVariants as s
 use Rattle.spl_tree.specs.Symbols.{Lexeme, Is}
-use Rattle.spl_tree.specs.Operators.{Form, is_sign, is_number, binds}
+use Rattle.spl_tree.specs.Operators.{Form, is_sign, is_number}
 use Rattle.spl_tree.specs.Expressions as g
 use Rattle.spl_tree.specs.Statements.{is_relation}
 use Rattle.spl_tree.specs.Trees as tree
 use Rattle.spl_grammar.specs.ReadExpressions.{is, operator_of}
-use Rattle.spl_grammar.specs.Readers.{same_symbol, symbol_number, kind_number, truth_number}
+use Rattle.spl_grammar.specs.Readers.{same_symbol, symbol_number}
 
 -- there is a first token, and its symbol passes the test
 pub data Begins (test : Symbol → Bool) (b : Bool) : List Lexeme → Type 0 where

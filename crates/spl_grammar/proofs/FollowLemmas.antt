@@ -1,16 +1,16 @@
 -- What stops a part, and what a turn of a loop does at it.
-use Rattle.std.proofs.Common.{ℕ, zero, suc, ◌+◌, ◌≡◌, ◌==◌, ◌&&◌, ◌<◌, ◌≤◌, Bool, true, false, if◌then◌else◌, List, [], ◌∷◌, length, Option, Some, None, refl, arith, ap, sym, ◌∙◌, ◌⊎◌, inl, inr, rules}
+use Rattle.std.proofs.Common.{ℕ, suc, ◌≡◌, ◌==◌, ◌&&◌, ◌<◌, ◌≤◌, Bool, true, false, List, ◌∷◌, Option, refl, arith, ◌⊎◌, inl, inr, rules}
 use Rattle.std.proofs.lemmas.Bool.Decides.{nat_tests}
 use Rattle.spl_tree.specs.declared.names_and_places.At.{At}
 use Rattle.spl_tree.specs.declared.symbols.Symbol.{Symbol}
 use Rattle.spl_tree.specs.declared.symbols.Symbol.TheVariants as s
 use Rattle.spl_tree.specs.Symbols.{Lexeme, Is}
-use Rattle.spl_tree.specs.Operators.{Form, binds}
+use Rattle.spl_tree.specs.Operators.{binds}
 use Rattle.spl_tree.specs.Trees as tree
-use Rattle.spl_grammar.specs.Readers.{Parser, Outcome, Got, same_symbol, symbol_number, by_symbol, pure, repeat, turns, followed, and_then}
-use Rattle.spl_grammar.specs.ReadExpressions.{Found, is, operator_of, turn, turn_by, join, shifted, bytes, is_comparison}
+use Rattle.spl_grammar.specs.Readers.{Parser, Got, same_symbol, symbol_number, by_symbol, pure, repeat, turns, followed, and_then}
+use Rattle.spl_grammar.specs.ReadExpressions.{Found, is, operator_of, turn, turn_by, is_comparison}
 use Rattle.spl_grammar.specs.Following.{Stops, Follow, behind}
-use Rattle.spl_grammar.proofs.NearReaders.{Near, near_last, near_symbol, near_else, near_pure, near_head}
+use Rattle.spl_grammar.proofs.NearReaders.{Near, near_last, near_else, near_pure, near_head}
 
 -- what stops a level stops those below
 pub stops_below : (c : Bool) (h j : ℕ) (k : Symbol) → j ≤ h → Stops c h k → Stops c j k

@@ -1,5 +1,5 @@
 -- Some lists of tokens, read, refused at a place, and too deep at a place, worked by hand.
-use Rattle.std.proofs.Common.{ℕ, zero, suc, ◌+◌, ◌≡◌, Bool, true, false, List, [], ◌∷◌, ◌++◌, length, Option, Some, None, refl}
+use Rattle.std.proofs.Common.{ℕ, ◌≡◌, false, List, [], ◌∷◌, refl}
 use Rattle.spl_tree.specs.declared.names_and_places.At.{At}
 use Rattle.spl_tree.specs.declared.symbols.Symbol.{Symbol}
 use Rattle.spl_tree.specs.declared.symbols.Symbol.TheVariants as s
@@ -11,7 +11,7 @@ use Rattle.spl_tree.specs.StatementTrees as stat
 use Rattle.spl_tree.specs.StatementTrees.{statements, closed}
 use Rattle.spl_tree.specs.Operators.{binds, shift_of}
 use Rattle.spl_tree.specs.Statements.{class_of}
-use Rattle.spl_grammar.specs.Readers.{Outcome, Got, Bad, Deep, and_then, followed, pure, refuse, by_symbol, take, at_place, allowed, kind_number, reserved_number, truth_number, symbol_number, same_symbol, expect, numbered, named_number, turns, repeat}
+use Rattle.spl_grammar.specs.Readers.{Got, Bad, Deep, and_then, followed, pure, refuse, by_symbol, take, at_place, allowed, kind_number, reserved_number, truth_number, symbol_number, same_symbol, expect, numbered, named_number, turns, repeat}
 use Rattle.spl_grammar.specs.ReadExpressions.{signed_by, constant_by, constant, operator_of, bits, field, negative_by, enter, opening, enclosed, more_arguments, arguments, named, addressed, primary_by, inverse, primary, unary_step, counted, signed_by_next, first, join, shifted, bytes, turn_by, turn, level, whole, unary, expression, within, condition}
 use Rattle.spl_grammar.specs.ReadStatements.{indexed, reference, source_behind, source, while_or_until, move, scan, effect, test, value, assigned, field_assigned, behind_reference, stepped, go_name, more_statements, statement_list, labelled, with_arguments, named_statement, address_assigned, block, else_behind, if_statement, while_statement, do_statement, for_statement, case_statement, go_statement, effect_statement, by_word, statement_by, statement_step, statement}
 

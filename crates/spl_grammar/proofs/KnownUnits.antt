@@ -1,5 +1,5 @@
 -- Some small units, read and refused at a place, worked by hand.
-use Rattle.std.proofs.Common.{ℕ, zero, suc, ◌+◌, ◌≡◌, Bool, true, false, List, [], ◌∷◌, ◌++◌, length, Option, Some, None, refl}
+use Rattle.std.proofs.Common.{ℕ, ◌≡◌, false, List, [], ◌∷◌, refl}
 use Rattle.spl_tree.specs.declared.names_and_places.At.{At}
 use Rattle.spl_tree.specs.declared.symbols.Symbol.{Symbol}
 use Rattle.spl_tree.specs.declared.symbols.Symbol.TheVariants as s
@@ -11,7 +11,7 @@ use Rattle.spl_tree.specs.StatementTrees as stat
 use Rattle.spl_tree.specs.StatementTrees.{statements, closed}
 use Rattle.spl_tree.specs.Operators.{binds, shift_of}
 use Rattle.spl_tree.specs.Statements.{class_of}
-use Rattle.spl_grammar.specs.Readers.{Outcome, Got, Bad, Deep, and_then, followed, pure, refuse, by_symbol, take, at_place, allowed, kind_number, reserved_number, truth_number, symbol_number, same_symbol, expect, numbered, named_number, turns, repeat}
+use Rattle.spl_grammar.specs.Readers.{Got, Bad, and_then, followed, pure, refuse, by_symbol, take, at_place, allowed, kind_number, reserved_number, truth_number, symbol_number, same_symbol, expect, numbered, named_number, turns, repeat}
 use Rattle.spl_grammar.specs.ReadExpressions.{signed_by, constant_by, constant, operator_of, bits, field, negative_by, enter, opening, enclosed, more_arguments, arguments, named, addressed, primary_by, inverse, primary, unary_step, counted, signed_by_next, first, join, shifted, bytes, turn_by, turn, level, whole, unary, expression, within, condition}
 use Rattle.spl_tree.specs.declared.expressions.Kind.TheVariants as kind
 use Rattle.spl_tree.specs.DeclarationTrees as decl

@@ -1,6 +1,5 @@
 -- Each reader of declarations depends on no token behind the one that it stops at.
-use Rattle.std.proofs.Common.{ℕ, zero, suc, ◌≡◌, ◌+◌, ◌==◌, ◌≤◌, length, Bool, true, false, if◌then◌else◌, List, [], ◌∷◌, ◌++◌, Option, Some, None, refl, arith}
-use Rattle.spl_tree.specs.declared.names_and_places.At.{At}
+use Rattle.std.proofs.Common.{ℕ, ◌≤◌, length, Bool, true, false, List, [], ◌∷◌, Option, Some, None, arith}
 use Rattle.spl_tree.specs.declared.expressions.Kind.{Kind}
 use Rattle.spl_tree.specs.declared.expressions.Kind.TheVariants as kind
 use Rattle.spl_tree.specs.declared.symbols.Symbol.{Symbol}
@@ -8,16 +7,14 @@ use Rattle.spl_tree.specs.declared.symbols.Symbol.TheVariants as s
 use Rattle.spl_tree.specs.declared.symbols.Reserved.{Reserved}
 use Rattle.spl_tree.specs.declared.symbols.Reserved.TheVariants as w
 use Rattle.spl_tree.specs.Symbols.{Lexeme}
-use Rattle.spl_tree.specs.Trees as tree
-use Rattle.spl_tree.specs.StatementTrees as stat
 use Rattle.spl_tree.specs.DeclarationTrees as decl
 use Rattle.spl_tree.specs.DeclarationTrees.{Placed}
-use Rattle.spl_tree.specs.Declarations.{Options, option_of, both, fit, can_be_body, pointers}
+use Rattle.spl_tree.specs.Declarations.{Options, pointers}
 use Rattle.spl_grammar.specs.Readers.{Outcome, Got, Bad, Parser, expect, by_symbol, refuse, same_symbol, take, pure}
 use Rattle.spl_grammar.specs.ReadExpressions.{constant, is}
-use Rattle.spl_grammar.specs.ReadStatements.{statement, statement_list}
-use Rattle.spl_grammar.specs.ReadDeclarations.{more_parts, separated, name, names, item, shape, array, with_values, more_arrays, arrays, more_terms, equal, by_token, option_among, option_behind, more_options, options, parameters, spec_names, spec_behind, spec_by, more_specs, heading_tail, heading, BodyRead, array_data, item_data, behind_heading, procedure, subroutine, owned_by, typed_by, typed, by_word, declaration_by, declaration, declares, more_declarations, declaration_list, body, next_segment, unit}
-use Rattle.spl_grammar.proofs.LocalReaders.{IsLocal, Agrees, here, there, Like, got, end_of, local_pure, local_refuse, local_take, local_place, local_then, local_symbol, local_if, local_allowed, local_expect, local_named, local_repeat, locals, Takes, Taking, takes_take, takes_then, takes_symbol, takes_allowed, takes_if, takes_refuse, taking, taking_none, taking_if, taking_symbol}
+use Rattle.spl_grammar.specs.ReadStatements.{statement}
+use Rattle.spl_grammar.specs.ReadDeclarations.{more_parts, separated, name, names, item, shape, array, more_arrays, arrays, more_terms, equal, by_token, option_among, option_behind, more_options, options, parameters, spec_names, spec_behind, spec_by, more_specs, heading_tail, heading, BodyRead, array_data, item_data, behind_heading, procedure, subroutine, owned_by, typed_by, typed, by_word, declaration_by, declaration, more_declarations, declaration_list, body, next_segment, unit}
+use Rattle.spl_grammar.proofs.LocalReaders.{IsLocal, Agrees, here, there, Like, got, end_of, local_pure, local_refuse, local_take, local_then, local_symbol, local_if, local_expect, local_repeat, locals, Takes, Taking, takes_take, takes_then, takes_symbol, takes_if, takes_refuse, taking, taking_none, taking_if, taking_symbol}
 use Rattle.spl_grammar.proofs.LocalExpressions.{local_constant}
 use Rattle.spl_grammar.proofs.LocalStatements.{local_statement, local_list}
 

@@ -1,18 +1,17 @@
 -- Each reader of statements depends on no token behind the one that it stops at.
-use Rattle.std.proofs.Common.{ℕ, zero, suc, ◌≡◌, ◌+◌, ◌/◌, length, Bool, true, false, List, [], ◌∷◌, Option, Some, None, refl, arith}
+use Rattle.std.proofs.Common.{ℕ, zero, suc, length, List, [], ◌∷◌}
 use Rattle.spl_tree.specs.declared.names_and_places.At.{At}
 use Rattle.spl_tree.specs.declared.symbols.Symbol.{Symbol}
 use Rattle.spl_tree.specs.declared.symbols.Symbol.TheVariants as s
 use Rattle.spl_tree.specs.declared.symbols.Reserved.{Reserved}
 use Rattle.spl_tree.specs.declared.symbols.Reserved.TheVariants as w
 use Rattle.spl_tree.specs.Symbols.{Lexeme}
-use Rattle.spl_tree.specs.Trees as tree
 use Rattle.spl_tree.specs.Trees.{Tree}
 use Rattle.spl_tree.specs.StatementTrees as stat
-use Rattle.spl_grammar.specs.Readers.{Parser, expect, by_symbol, refuse}
+use Rattle.spl_grammar.specs.Readers.{Parser, refuse}
 use Rattle.spl_grammar.specs.ReadExpressions.{enter, within, expression, condition}
 use Rattle.spl_grammar.specs.ReadStatements.{indexed, reference, source_behind, source, while_or_until, move, scan, effect, test, value, assigned, field_assigned, behind_reference, stepped, go_name, more_statements, statement_list, labelled, with_arguments, named_statement, address_assigned, block, else_behind, if_statement, while_statement, do_statement, for_statement, case_statement, go_statement, effect_statement, by_word, statement_by, statement_step, statement}
-use Rattle.spl_grammar.proofs.LocalReaders.{IsLocal, local_pure, local_refuse, local_take, local_place, local_then, local_symbol, local_if, local_allowed, local_expect, local_named, local_repeat, locals, Takes, Taking, takes_take, takes_then, takes_symbol, takes_allowed, taking, taking_none, taking_if, taking_symbol}
+use Rattle.spl_grammar.proofs.LocalReaders.{IsLocal, local_pure, local_refuse, local_take, local_then, local_symbol, local_if, local_allowed, local_expect, local_repeat, locals, Taking, takes_take, takes_then, taking, taking_none, taking_if, taking_symbol}
 use Rattle.spl_grammar.proofs.LocalExpressions.{local_constant, local_enclosed, local_arguments, local_within, local_expression, local_condition}
 
 local_boxed : (room : ℕ) → IsLocal (Rattle.spl_grammar.specs.ReadExpressions.enclosed room refuse (within room 0) 0)

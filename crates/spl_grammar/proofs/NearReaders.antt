@@ -1,9 +1,9 @@
 -- Reading a part comes to what is spelled there, unless it is too deep before the part's end.
-use Rattle.std.proofs.Common.{ℕ, zero, suc, ◌+◌, ◌≡◌, ◌==◌, ◌&&◌, ◌<◌, ◌≤◌, Bool, true, false, List, [], ◌∷◌, length, Option, Some, None, if◌then◌else◌, ap, sym, ◌∙◌, refl, arith, ◌⊎◌, inl, inr, nat_lt, rules}
+use Rattle.std.proofs.Common.{ℕ, suc, ◌≡◌, ◌<◌, ◌≤◌, Bool, true, false, List, ◌∷◌, length, Option, Some, if◌then◌else◌, ap, ◌∙◌, refl, arith, ◌⊎◌, inl, inr, rules}
 use Rattle.spl_tree.specs.declared.symbols.Symbol.{Symbol}
 use Rattle.spl_tree.specs.declared.symbols.Symbol.TheVariants as s
 use Rattle.spl_tree.specs.Symbols.{Lexeme, Is}
-use Rattle.spl_grammar.specs.Readers.{Outcome, Got, Bad, Deep, Parser, and_then, followed, pure, refuse, by_symbol, take, at_place, allowed, symbol_number, same_symbol, expect, numbered, named_number, turns, repeat, kind_number, reserved_number, truth_number}
+use Rattle.spl_grammar.specs.Readers.{Outcome, Got, Bad, Parser, and_then, followed, pure, refuse, by_symbol, take, at_place, allowed, same_symbol, expect, numbered, named_number, turns, repeat}
 use Rattle.spl_grammar.proofs.LocalReaders.{Taking, turns_enough}
 pub use Rattle.spl_grammar.specs.Answers.{DeepBefore, deep}
 

@@ -1,23 +1,22 @@
 -- What is read as an expression or a condition is spelled; a fault comes behind tokens that open it, with the nesting.
-use Rattle.std.proofs.Common.{ℕ, zero, suc, ◌+◌, ◌/◌, ◌≡◌, ◌==◌, ◌&&◌, not, ◌<◌, ◌≤◌, Bool, true, false, if◌then◌else◌, List, [], ◌∷◌, ◌++◌, length, Option, Some, None, refl, arith, ap, sym, ◌∙◌, ◌⊎◌, inl, inr, rules, nat_lt, nat_le, append_assoc}
+use Rattle.std.proofs.Common.{ℕ, zero, suc, ◌+◌, ◌/◌, ◌≡◌, ◌==◌, ◌&&◌, not, ◌<◌, ◌≤◌, Bool, true, false, if◌then◌else◌, List, [], ◌∷◌, length, Option, Some, None, refl, arith, ap, ◌∙◌, nat_lt, nat_le}
 use Rattle.std.proofs.lemmas.Bool.Decides.{nat_tests}
 use Rattle.spl_tree.specs.declared.names_and_places.At.{At}
-use Rattle.spl_tree.specs.declared.expressions.Kind.{Kind}
 use Rattle.spl_tree.specs.declared.symbols.Symbol.{Symbol}
 use Rattle.spl_tree.specs.declared.symbols.Symbol.TheVariants as s
 use Rattle.spl_tree.specs.Symbols.{Lexeme, Is}
-use Rattle.spl_tree.specs.Operators.{Form, reference, comparison, other, compared, form_of_call, bytes_of, binds, is_sign, sign_number, is_number, negated, shift_of}
+use Rattle.spl_tree.specs.Operators.{Form, reference, comparison, other, compared, bytes_of, binds, is_sign, is_number, shift_of}
 use Rattle.spl_tree.specs.Expressions as g
 use Rattle.spl_tree.specs.OpenExpressions as op
 use Rattle.spl_tree.specs.OpenExpressions.{Part, Step, Opens, here, inner, OpensAt, limit, nesting}
 use Rattle.spl_tree.specs.Trees as tree
 use Rattle.spl_grammar.proofs.PartTokens as pt
-use Rattle.spl_grammar.specs.Readers.{Outcome, Got, Bad, Deep, Parser, and_then, followed, ◌>>=◌, ◌>>◌, by_symbol, pure, refuse, take, at_place, allowed, repeat, turns, same_symbol, symbol_number, expect, named_number, numbered}
-use Rattle.spl_grammar.specs.ReadExpressions.{Found, plain, is, operator_of, constant, unary_step, begins, is_comparison, counted, signed_by_next, first, join, shifted, bytes, turn_by, turn, level, whole, unary, expression, within, condition, enclosed, opening}
+use Rattle.spl_grammar.specs.Readers.{Bad, Parser, and_then, followed, ◌>>=◌, by_symbol, pure, refuse, take, at_place, repeat, turns, same_symbol, named_number, numbered}
+use Rattle.spl_grammar.specs.ReadExpressions.{Found, is, operator_of, constant, begins, is_comparison, counted, signed_by_next, first, join, shifted, bytes, turn_by, turn, level, whole, unary, expression, within, condition}
 pub use Rattle.spl_grammar.specs.Answers.{SpelledCondition}
 use Rattle.spl_grammar.proofs.SameSymbol.{same_is, both_true, same_number}
-use Rattle.spl_grammar.proofs.ExplainReaders.{Explains, got, bad, deep, stepped, at_here, lift, explain_then, explain_expect, explain_next, explain_pure, explain_bad, explain_symbol, explain_if, explain_along, reached, along, followed_assoc, recast}
-use Rattle.spl_grammar.proofs.SoundOperands.{Spelled, constant_explained, unary_step_explained, explain_enter, explain_opening, TooMany, too_many, is_it, one_more, few, few_more, constant_at}
+use Rattle.spl_grammar.proofs.ExplainReaders.{Explains, bad, stepped, at_here, explain_then, explain_expect, explain_next, explain_pure, explain_symbol, explain_if, recast}
+use Rattle.spl_grammar.proofs.SoundOperands.{Spelled, constant_explained, unary_step_explained, explain_enter, explain_opening, too_many, is_it, one_more, few_more, constant_at}
 
 -- the same behind an equal list
 level_at : {c : Bool} {f : Option At} {h n : ℕ} {x : Form} {e : tree.Tree} {ts us vs : List Lexeme} → us ≡ vs → g.Level c f h n x e ts us → g.Level c f h n x e ts vs

@@ -1,23 +1,22 @@
 -- What is read as a constant or an operand is spelled; a fault comes behind tokens that open it.
-use Rattle.std.proofs.Common.{ℕ, zero, suc, ◌+◌, ◌/◌, ◌≡◌, ◌==◌, ◌&&◌, ◌<◌, ◌≤◌, Bool, true, false, if◌then◌else◌, List, [], ◌∷◌, ◌++◌, length, Option, Some, None, refl, arith, ap, sym, ◌∙◌, ◌⊎◌, inl, inr, rules, nat_lt, append_assoc}
+use Rattle.std.proofs.Common.{ℕ, zero, suc, ◌+◌, ◌≡◌, ◌==◌, ◌<◌, ◌≤◌, Bool, true, false, if◌then◌else◌, List, [], ◌∷◌, ◌++◌, length, Option, Some, None, refl, arith, ap, nat_lt, append_assoc}
 use Rattle.std.proofs.lemmas.Bool.Decides.{nat_tests}
 use Rattle.spl_tree.specs.declared.names_and_places.At.{At}
 use Rattle.spl_tree.specs.declared.expressions.Kind.{Kind}
 use Rattle.spl_tree.specs.declared.symbols.Symbol.{Symbol}
 use Rattle.spl_tree.specs.declared.symbols.Symbol.TheVariants as s
 use Rattle.spl_tree.specs.Symbols.{Lexeme, Is}
-use Rattle.spl_tree.specs.Operators.{Form, reference, comparison, other, compared, form_of_call, bytes_of, binds, is_sign, sign_number, is_number, negated, shift_of}
+use Rattle.spl_tree.specs.Operators.{Form, other, form_of_call, is_sign}
 use Rattle.spl_tree.specs.Expressions as g
 use Rattle.spl_tree.specs.OpenExpressions as op
 use Rattle.spl_tree.specs.OpenExpressions.{Part, Step, Opens, here, inner, OpensAt, limit, nesting}
 use Rattle.spl_tree.specs.Trees as tree
 use Rattle.spl_grammar.proofs.PartTokens as pt
-use Rattle.spl_grammar.specs.Readers.{Outcome, Got, Bad, Deep, Parser, and_then, followed, ◌>>=◌, ◌>>◌, by_symbol, pure, refuse, take, at_place, allowed, repeat, turns, same_symbol, symbol_number, expect}
-use Rattle.spl_grammar.specs.ReadExpressions.{Found, plain, is, operator_of, constant, constant_by, signed_by, bits, field, negative_by, enter, opening, enclosed, more_arguments, arguments, named, addressed, primary_by, inverse, primary, unary_step}
+use Rattle.spl_grammar.specs.Readers.{Deep, Parser, and_then, followed, ◌>>=◌, ◌>>◌, by_symbol, pure, refuse, take, at_place, allowed, repeat, turns, expect}
+use Rattle.spl_grammar.specs.ReadExpressions.{Found, plain, is, constant, constant_by, signed_by, bits, field, negative_by, enter, opening, enclosed, more_arguments, arguments, named, addressed, primary_by, inverse, primary, unary_step}
 use Rattle.spl_grammar.proofs.SameSymbol.{same_is}
 pub use Rattle.spl_grammar.specs.Answers.{Spelled}
-use Rattle.spl_grammar.proofs.LocalReaders.{end_of}
-use Rattle.spl_grammar.proofs.ExplainReaders.{Explains, got, bad, deep, stepped, at_here, lift, explain_then, explain_expect, explain_next, explain_pure, explain_bad, explain_symbol, explain_if, explain_allowed, explain_along, reached, along, followed_assoc}
+use Rattle.spl_grammar.proofs.ExplainReaders.{Explains, got, bad, deep, stepped, at_here, explain_then, explain_expect, explain_next, explain_pure, explain_bad, explain_symbol, explain_if, explain_along, reached, along, followed_assoc}
 
 -- a constant behind its sign
 signed_explained : {most : ℕ} (d n : ℕ) (o : ℕ) (p u : Lexeme) (us : List Lexeme) (k : Symbol) → Is (s.Operator o) p → is_sign o ≡ true → Is k u → nesting d n ≤ most

@@ -1,6 +1,5 @@
 -- What is read as a statement is spelled; a fault comes behind tokens that open it, with the nesting.
-use Rattle.std.proofs.Common.{ℕ, zero, suc, ◌+◌, ◌-◌, ◌/◌, ◌≡◌, ◌==◌, ◌&&◌, ◌||◌, not, ◌<◌, ◌≤◌, Bool, true, false, if◌then◌else◌, List, [], ◌∷◌, ◌++◌, length, Option, Some, None, refl, arith, ap, sym, ◌∙◌, ◌⊎◌, inl, inr, rules, nat_lt, nat_le, append_assoc}
-use Rattle.std.proofs.lemmas.Bool.Decides.{nat_tests}
+use Rattle.std.proofs.Common.{ℕ, zero, suc, ◌+◌, ◌≡◌, ◌<◌, ◌≤◌, Bool, true, false, if◌then◌else◌, List, [], ◌∷◌, ◌++◌, length, refl, arith, ap, sym, ◌∙◌, nat_lt, append_assoc}
 use Rattle.spl_tree.specs.declared.names_and_places.At.{At}
 use Rattle.spl_tree.specs.declared.symbols.Symbol.{Symbol}
 use Rattle.spl_tree.specs.declared.symbols.Symbol.TheVariants as s
@@ -19,17 +18,15 @@ use Rattle.spl_tree.specs.StatementTrees as stat
 use Rattle.spl_tree.specs.StatementTrees.{closed, statements}
 use Rattle.spl_tree.specs.Statements as st
 use Rattle.spl_tree.specs.Statements.{class_of, is_relation}
-use Rattle.spl_grammar.specs.Readers.{Outcome, Got, Bad, Deep, Parser, and_then, followed, ◌>>=◌, ◌>>◌, by_symbol, pure, refuse, take, at_place, allowed, repeat, turns, same_symbol, expect, named_number}
+use Rattle.spl_grammar.specs.Readers.{Parser, and_then, followed, ◌>>=◌, by_symbol, pure, refuse, take, at_place, repeat, turns, same_symbol, expect}
 use Rattle.spl_grammar.specs.ReadExpressions.{is, operator_of, constant, enter, enclosed, more_arguments, arguments, within, expression, condition}
 use Rattle.spl_grammar.specs.ReadStatements.{indexed, reference, source_behind, source, while_or_until, move, scan, effect, begins_effect, test, value, assigned, field_assigned, behind_reference, is_single, stepped, go_name, more_statements, statement_list, labelled, with_arguments, named_statement, address_assigned, block, else_behind, if_statement, while_statement, do_statement, for_statement, case_statement, go_statement, effect_statement, by_word, statement_by, statement_step, statement}
-use Rattle.spl_grammar.specs.Answers.{Explains, got, bad, deep, Spelled, SpelledCondition}
-use Rattle.spl_grammar.proofs.SameSymbol.{same_is}
+use Rattle.spl_grammar.specs.Answers.{Explains, bad}
 use Rattle.spl_grammar.proofs.ExplainReaders.{at_here, explain_then, explain_expect, explain_next, explain_pure, explain_bad, explain_symbol, explain_if, explain_along, explain_named, reached, along, followed_assoc, recast, explain_as}
 use Rattle.spl_grammar.proofs.ExplainReaders as er
-use Rattle.spl_grammar.proofs.SoundOperands.{constant_explained, arguments_explained, enclosed_explained, Enclosed, enclosed_by, explain_enter, explain_opening, TooMany, too_many, is_it, one_more, few, few_more, constant_at}
+use Rattle.spl_grammar.proofs.SoundOperands.{constant_explained, arguments_explained, enclosed_explained, Enclosed, enclosed_by, explain_enter, explain_opening, too_many, is_it, one_more, few, few_more, constant_at}
 use Rattle.spl_grammar.proofs.SoundExpressions.{expression_explained, condition_explained, within_explained}
 use Rattle.spl_grammar.proofs.NearReaders.{same_self}
-use Rattle.spl_grammar.proofs.PartTokens as pt
 use Rattle.spl_grammar.proofs.StatementTokens as tk
 
 -- one step in a statement, and the chain that ends there

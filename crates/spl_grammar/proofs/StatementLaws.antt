@@ -1,15 +1,15 @@
 -- What follows from the laws of the readers of statements.
-use Rattle.std.proofs.Common.{ℕ, ◌+◌, ◌≡◌, ◌<◌, ◌≤◌, Bool, true, false, List, [], ◌∷◌, length, refl, arith, ap, sym, ◌∙◌}
+use Rattle.std.proofs.Common.{ℕ, ◌≡◌, List, ◌∷◌, length, arith, sym, ◌∙◌}
 use Rattle.spl_tree.specs.Symbols.{Lexeme}
 use Rattle.spl_tree.specs.StatementTrees as stat
 use Rattle.spl_tree.specs.Statements as st
-use Rattle.spl_grammar.specs.Readers.{Outcome, Got, Bad, Deep}
+use Rattle.spl_grammar.specs.Readers.{Bad}
 use Rattle.spl_grammar.specs.ReadStatements.{statement}
 use Rattle.spl_grammar.specs.Following.{After}
-use Rattle.spl_grammar.specs.Answers.{DeepBefore, Agrees, Explains}
+use Rattle.spl_grammar.specs.Answers.{Agrees}
 use Rattle.spl_grammar.proofs.LocalStatements.{local_statement}
-use Rattle.spl_grammar.proofs.CompleteStatements.{complete_statement, StatementRead}
-use Rattle.spl_grammar.proofs.SoundStatements.{statement_explained, StatementGot}
+use Rattle.spl_grammar.proofs.CompleteStatements.{complete_statement}
+use Rattle.spl_grammar.proofs.SoundStatements.{statement_explained}
 use Rattle.spl_grammar.proofs.ExpressionLaws.{read_whole, same_got, like_bad, not_near}
 
 pub statement_fault : (room : ℕ) {t : Lexeme} {us vs ts more : List Lexeme} → statement room ts ≡ Bad (t ∷ us) → Agrees us vs ts more

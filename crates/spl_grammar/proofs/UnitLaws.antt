@@ -1,11 +1,11 @@
 -- What follows from the laws of the reader of units.
-use Rattle.std.proofs.Common.{ℕ, ◌+◌, ◌≡◌, ◌<◌, ◌≤◌, Bool, true, false, List, [], ◌∷◌, length, refl, arith, ap, sym, ◌∙◌, ◌⊎◌, inl, inr}
+use Rattle.std.proofs.Common.{ℕ, ◌≡◌, List, [], ◌∷◌, length, arith, sym, ◌∙◌, ◌⊎◌, inl, inr}
 use Rattle.spl_tree.specs.Symbols.{Lexeme}
 use Rattle.spl_tree.specs.DeclarationTrees.{UnitTree}
 use Rattle.spl_tree.specs.Units.{Unit_of}
 use Rattle.spl_grammar.specs.Readers.{Outcome, Got, Bad, Deep}
 use Rattle.spl_grammar.specs.ReadDeclarations.{unit}
-use Rattle.spl_grammar.specs.Answers.{DeepBefore, deep, Agrees}
+use Rattle.spl_grammar.specs.Answers.{DeepBefore, Agrees}
 use Rattle.spl_grammar.proofs.LocalDeclarations.{local_unit}
 use Rattle.spl_grammar.proofs.CompleteUnits.{unit_read}
 use Rattle.spl_grammar.proofs.CalmReaders.{Shallow}

@@ -1,5 +1,5 @@
 -- What is claimed of the readers' answers.
-use Rattle.std.specs.Prelude.{ℕ, ◌≡◌, ◌<◌, ◌≤◌, ◌+◌, ◌⊎◌, Bool, true, false, List, [], ◌∷◌, length, Option, Some, None}
+use Rattle.std.specs.Prelude.{ℕ, ◌<◌, ◌≤◌, true, false, List, ◌∷◌, length, None}
 use Rattle.spl_tree.specs.Symbols.{Lexeme}
 use Rattle.spl_tree.specs.Operators.{Form}
 use Rattle.spl_tree.specs.Expressions as g

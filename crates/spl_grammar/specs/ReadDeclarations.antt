@@ -1,6 +1,5 @@
 -- How declarations and units are read. A subroutine of a unit gets its segment once the unit's main body is found.
-use Rattle.std.specs.Prelude.{ℕ, zero, suc, ◌==◌, ◌&&◌, ◌||◌, not, ◌++◌, map, Bool, true, false, if◌then◌else◌, List, [], ◌∷◌, Option, Some, None}
-use Rattle.spl_tree.specs.declared.names_and_places.At.{At}
+use Rattle.std.specs.Prelude.{ℕ, ◌==◌, ◌++◌, map, Bool, true, false, if◌then◌else◌, List, [], ◌∷◌, Option, Some, None}
 use Rattle.spl_tree.specs.declared.expressions.Kind.{Kind}
 use Rattle.spl_tree.specs.declared.expressions.Kind.TheVariants as kind
 use Rattle.spl_tree.specs.declared.symbols.Symbol.{Symbol}
@@ -14,8 +13,7 @@ use Rattle.spl_tree.specs.StatementTrees as stat
 use Rattle.spl_tree.specs.DeclarationTrees as decl
 use Rattle.spl_tree.specs.DeclarationTrees.{Placed, declarations, UnitTree}
 use Rattle.spl_tree.specs.Declarations.{Options, both, fit, option_of, no_options, can_be_body, is_subroutine, pointers}
-use Rattle.spl_tree.specs.Units.{segment_at}
-use Rattle.spl_grammar.specs.Readers.{Outcome, Got, Bad, Deep, Parser, followed, ◌>>=◌, ◌>>◌, pure, refuse, by_symbol, take, same_symbol, expect, repeat}
+use Rattle.spl_grammar.specs.Readers.{Got, Bad, Parser, ◌>>=◌, pure, refuse, by_symbol, take, expect, repeat}
 use Rattle.spl_grammar.specs.ReadExpressions.{is, operator_of, constant}
 use Rattle.spl_grammar.specs.ReadStatements.{statement, statement_list}
 

@@ -1,14 +1,13 @@
 -- How constants, expressions and conditions are read. `room` is the number of constructs that may still be opened, less those
 -- that `taken` counts: one for every eight operators of each expression around.
-use Rattle.std.specs.Prelude.{ℕ, zero, suc, ◌+◌, ◌-◌, ◌/◌, ◌==◌, ◌&&◌, ◌||◌, not, Bool, true, false, if◌then◌else◌, nat_lt, nat_le, List, [], ◌∷◌, ◌++◌, Option, Some, None}
+use Rattle.std.specs.Prelude.{ℕ, zero, suc, ◌+◌, ◌/◌, ◌==◌, ◌&&◌, not, Bool, true, false, if◌then◌else◌, nat_lt, nat_le, List, [], ◌∷◌, ◌++◌, Option, Some, None}
 use Rattle.spl_tree.specs.declared.names_and_places.At.{At}
-use Rattle.spl_tree.specs.declared.expressions.Kind.{Kind}
 use Rattle.spl_tree.specs.declared.symbols.Symbol.{Symbol}
 use Rattle.spl_tree.specs.declared.symbols.Symbol.TheVariants as s
 use Rattle.spl_tree.specs.Symbols.{Lexeme}
 use Rattle.spl_tree.specs.Operators.{Form, reference, comparison, other, compared, form_of_call, bytes_of, binds, is_sign, sign_number, is_number, negated, shift_of}
 use Rattle.spl_tree.specs.Trees as tree
-use Rattle.spl_grammar.specs.Readers.{Outcome, Parser, followed, ◌>>=◌, ◌>>◌, pure, refuse, by_symbol, take, at_place, allowed, same_symbol, expect, named_number, repeat}
+use Rattle.spl_grammar.specs.Readers.{Parser, ◌>>=◌, ◌>>◌, pure, refuse, by_symbol, take, at_place, allowed, same_symbol, expect, named_number, repeat}
 
 -- an expression that was read: how many operators stand in it so far, its form and its tree
 pub record Found : Type 0 where

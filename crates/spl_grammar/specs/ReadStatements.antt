@@ -1,6 +1,6 @@
 -- How statements are read. `room` is the number of constructs that may still be opened; `inner` reads a statement inside, and
 -- `below` is the room that is left there.
-use Rattle.std.specs.Prelude.{ℕ, zero, suc, ◌-◌, ◌&&◌, ◌||◌, not, ◌++◌, Bool, true, false, if◌then◌else◌, List, [], ◌∷◌, Option, Some, None}
+use Rattle.std.specs.Prelude.{ℕ, zero, suc, ◌-◌, ◌||◌, ◌++◌, Bool, true, false, if◌then◌else◌, List, [], ◌∷◌}
 use Rattle.spl_tree.specs.declared.names_and_places.At.{At}
 use Rattle.spl_tree.specs.declared.symbols.Symbol.{Symbol}
 use Rattle.spl_tree.specs.declared.symbols.Symbol.TheVariants as s
@@ -12,7 +12,7 @@ use Rattle.spl_tree.specs.Trees.{Tree, Trees, trees}
 use Rattle.spl_tree.specs.StatementTrees as stat
 use Rattle.spl_tree.specs.StatementTrees.{statements}
 use Rattle.spl_tree.specs.Statements.{class_of, is_relation}
-use Rattle.spl_grammar.specs.Readers.{Outcome, Parser, followed, ◌>>=◌, ◌>>◌, pure, refuse, by_symbol, take, at_place, same_symbol, expect, named_number, repeat}
+use Rattle.spl_grammar.specs.Readers.{Parser, ◌>>=◌, pure, refuse, by_symbol, take, at_place, expect, named_number, repeat}
 use Rattle.spl_grammar.specs.ReadExpressions.{is, operator_of, constant, enter, enclosed, arguments, within, expression, condition}
 
 -- a name, and an index where a "(" is behind it

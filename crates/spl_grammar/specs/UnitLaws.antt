@@ -1,5 +1,5 @@
 -- The laws of units.
-use Rattle.std.specs.Prelude.{ℕ, ◌≡◌, ◌⊎◌, Bool, List, [], ◌∷◌, map}
+use Rattle.std.specs.Prelude.{ℕ, ◌≡◌, ◌⊎◌, List, [], ◌∷◌, map}
 use Rattle.spl_tree.specs.declared.tokens.Lexed.{Lexed}
 use Rattle.spl_tree.specs.declared.units.SplUnit.{SplUnit}
 use Rattle.spl_tree.specs.Symbols.{Lexeme}
@@ -7,7 +7,7 @@ use Rattle.spl_tree.specs.DeclarationTrees.{UnitTree}
 use Rattle.spl_tree.specs.Units.{Unit_of}
 use Rattle.spl_tree.specs.Views.{letters}
 use Rattle.spl_tree.specs.Spells.{Spells, unit_tree}
-use Rattle.spl_grammar.specs.Readers.{Outcome, Got, Bad, Deep}
+use Rattle.spl_grammar.specs.Readers.{Got, Bad}
 use Rattle.spl_grammar.specs.ReadDeclarations.{unit}
 use Rattle.spl_grammar.specs.Answers.{DeepBefore, Agrees}
 

@@ -1,6 +1,6 @@
 -- The grammar of constants, expressions and conditions, one constructor for each production. In `P .. ts rest` the part
 -- stands at the front of the tokens ts, and rest follows it.
-use Rattle.std.specs.Prelude.{ℕ, zero, suc, ◌+◌, ◌≡◌, ◌==◌, ◌&&◌, Bool, true, false, List, [], ◌∷◌, Option, Some, None}
+use Rattle.std.specs.Prelude.{ℕ, suc, ◌+◌, ◌≡◌, ◌==◌, ◌&&◌, Bool, true, false, List, [], ◌∷◌, Option, Some, None}
 use Rattle.spl_tree.specs.declared.names_and_places.At.{At}
 use Rattle.spl_tree.specs.declared.expressions.Kind.{Kind}
 use Rattle.spl_tree.specs.declared.symbols.Symbol.TheVariants as s

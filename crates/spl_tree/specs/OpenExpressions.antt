@@ -1,7 +1,7 @@
 -- The chain of productions that are open behind some tokens, for expressions and conditions. A step goes from a production to
 -- its part that is still open; the parts before it are spelled whole. Beside each part stand the constructs that are open
 -- around it, d, and the operators so far of the expression that it belongs to, n: the nesting is d + n / 8.
-use Rattle.std.specs.Prelude.{ℕ, zero, suc, ◌+◌, ◌/◌, ◌≡◌, ◌==◌, Bool, true, false, List, [], ◌∷◌, Option, Some, None}
+use Rattle.std.specs.Prelude.{ℕ, suc, ◌+◌, ◌/◌, ◌≡◌, ◌==◌, Bool, true, false, List, ◌∷◌, Option, Some, None}
 use Rattle.spl_tree.specs.declared.names_and_places.At.{At}
 use Rattle.spl_tree.specs.declared.expressions.Kind.{Kind}
 use Rattle.spl_tree.specs.declared.symbols.Symbol.TheVariants as s

@@ -1,6 +1,6 @@
 -- The steps of the chain of open productions for statements. They go to a part with d constructs open around it, and begin no
 -- expression's count of operators anew but at 0.
-use Rattle.std.specs.Prelude.{ℕ, suc, ◌≡◌, Bool, true, false, List, [], ◌∷◌, Option, Some, None}
+use Rattle.std.specs.Prelude.{ℕ, suc, ◌≡◌, true, false, List, ◌∷◌, None}
 use Rattle.spl_tree.specs.declared.symbols.Symbol.TheVariants as s
 use Rattle.spl_tree.specs.declared.symbols.Reserved.TheVariants as w
 use Rattle.spl_tree.specs.Symbols.{Lexeme, Is}

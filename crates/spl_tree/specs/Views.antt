@@ -1,5 +1,5 @@
 -- The trees of the types as those that the grammar speaks of: names and strings by their bytes, boxes and vectors by what they hold.
-use Rattle.std.specs.Prelude.{ℕ, ◌≡◌, Bool, true, false, List, [], ◌∷◌, map, Option, Some, None, vec_items, box_value, Box}
+use Rattle.std.specs.Prelude.{ℕ, List, [], ◌∷◌, map, Option, Some, None, Box}
 use Rattle.spl_tree.specs.declared.names_and_places.Name.{Name}
 use Rattle.spl_tree.specs.declared.expressions.Expr.{Expr}
 use Rattle.spl_tree.specs.declared.expressions.Expr.TheOpen.{Expr-F, Ref-F}

@@ -1,6 +1,4 @@
-use Rattle.std.proofs.Common.{arith}
-use Rattle.spl_grammar.proofs.ExpressionLaws.{expression_read, condition_read, expression_fault, condition_fault, expression_unique, condition_unique}
-use Rattle.spl_grammar.proofs.SoundExpressions.{expression_explained, condition_explained}
+use Rattle.spl_grammar.proofs.ExpressionLaws.{condition_read}
 use Rattle.spl_grammar.proofs.expression_laws.conditions_are_read.Goals as goal
 
 -- by induction on the spelling

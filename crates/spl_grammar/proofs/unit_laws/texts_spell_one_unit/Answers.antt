@@ -1,6 +1,5 @@
 use Rattle.std.proofs.Common.{sym, ◌∙◌}
-use Rattle.spl_grammar.proofs.CompleteUnits.{unit_read}
-use Rattle.spl_grammar.proofs.UnitLaws.{unit_fault, unit_unique}
+use Rattle.spl_grammar.proofs.UnitLaws.{unit_unique}
 use Rattle.spl_grammar.proofs.unit_laws.texts_spell_one_unit.Goals as goal
 
 -- both are what the tokens spell

@@ -1,6 +1,4 @@
-use Rattle.std.proofs.Common.{sym, ◌∙◌}
-use Rattle.spl_grammar.proofs.CompleteUnits.{unit_read}
-use Rattle.spl_grammar.proofs.UnitLaws.{unit_fault, unit_unique}
+use Rattle.spl_grammar.proofs.UnitLaws.{unit_fault}
 use Rattle.spl_grammar.proofs.unit_laws.unit_faults_stand.Goals as goal
 
 -- the reader looks at no token behind the fault

@@ -1,6 +1,4 @@
-use Rattle.std.proofs.Common.{sym, ◌∙◌}
 use Rattle.spl_grammar.proofs.CompleteUnits.{unit_read}
-use Rattle.spl_grammar.proofs.UnitLaws.{unit_fault, unit_unique}
 use Rattle.spl_grammar.proofs.unit_laws.units_are_read.Goals as goal
 
 -- by induction on the spelling

@@ -1,6 +1,4 @@
-use Rattle.std.proofs.Common.{sym, ◌∙◌}
-use Rattle.spl_grammar.proofs.CompleteUnits.{unit_read}
-use Rattle.spl_grammar.proofs.UnitLaws.{unit_fault, unit_unique}
+use Rattle.spl_grammar.proofs.UnitLaws.{unit_unique}
 use Rattle.spl_grammar.proofs.unit_laws.units_are_unique.Goals as goal
 
 -- both are what is read where as many constructs may be open as there are tokens
