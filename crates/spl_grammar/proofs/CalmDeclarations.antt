@@ -125,7 +125,7 @@ module _ (room : ℕ) (body_of : ℕ → Parser BodyRead) (u : Bool) (lb : (segm
   unfolding behind_heading
   calm_behind_heading h = calm_symbol (λ k. calm_if _ (calm_then calm_take (λ _. calm_then calm_options (λ a. calm_if a.forward (calm_pure (decl.Declaration.forward (h a.split)))
       (calm_if a.external (calm_pure (decl.Declaration.external (h a.split))) (calm_then (calm_expect s.Semicolon) (λ _. calm_then (lb (h a.split).segment) (λ b.
-          calm_pure (decl.Declaration.procedure (h a.split) (decl.declarations b.0) b.1)))))))) (calm_then (lb (h false).segment) (λ b. calm_pure (decl.Declaration.procedure (h false) (decl.declarations b.0) b.1))))
+      calm_pure (decl.Declaration.procedure (h a.split) (decl.declarations b.0) b.1)))))))) (calm_then (lb (h false).segment) (λ b. calm_pure (decl.Declaration.procedure (h false) (decl.declarations b.0) b.1))))
 
   calm_procedure : (r : Option Kind) → Calm room (procedure room body_of u r)
   unfolding procedure
@@ -177,7 +177,7 @@ module _ (room : ℕ) (body_of : ℕ → Parser BodyRead) (u : Bool) (lb : (segm
 
   pub calm_declaration_list : (segment : ℕ) → Calm room (declaration_list room body_of u segment)
   unfolding declaration_list
-  calm_declaration_list segment = calm_then (calm_repeat _ (calm_more segment) ) (λ r. calm_pure _)
+  calm_declaration_list segment = calm_then (calm_repeat _ (calm_more segment)) (λ r. calm_pure _)
 
 pub calm_body : (room segment : ℕ) → Calm room (body room segment)
 unfolding body

@@ -57,8 +57,10 @@ then_never f n c (Deep rest) h l = elim h [ ]
 
 pub calm_then : {n : ℕ} {A B : Type 0} {p : Parser A} {f : A → Parser B} → Calm n p → ((a : A) → Calm n (f a)) → Calm n (followed p f)
 unfolding followed
-calm_then {n = n} {p = p} {f = f} c d = record { shrinks = λ ts. then_shrinks f (length ts) n d (p ts) (c.shrinks ts);
-    never = λ ts l. let k = c.shrinks ts in then_never f n d (p ts) (c.never ts l) (omega arith) }
+calm_then {n = n} {p = p} {f = f} c d = record {
+  shrinks = λ ts. then_shrinks f (length ts) n d (p ts) (c.shrinks ts);
+  never = λ ts l. let k = c.shrinks ts in then_never f n d (p ts) (c.never ts l) (omega arith);
+}
 
 symbol_shrinks : {A : Type 0} {n : ℕ} (f : Symbol → Parser A) → ((k : Symbol) → Calm n (f k)) → (ts : List Lexeme) → length (end_of (by_symbol f ts)) ≤ length ts
 unfolding by_symbol
@@ -116,9 +118,11 @@ pub calm_statement : (room : ℕ) → Calm room (statement room)
 calm_statement room = record { shrinks = (local_statement room).shrinks; never = λ ts l. shallow_of room ts (statement room ts) (statement_explained room 0 ts (omega arith)) l }
 
 pub calm_list : (room : ℕ) → Calm room (statement_list (statement room))
-calm_list room = record { shrinks = (local_list (statement room) (local_statement room)).shrinks;
-    never = λ ts l. shallow_of room ts (statement_list (statement room) ts) (list_explained room 0 (omega arith) (statement room)
-        (λ us. explain_as (statement room us) (statement_explained room 0 us (omega arith)) (λ x rest v. v.spelled)) ts) l }
+calm_list room = record {
+  shrinks = (local_list (statement room) (local_statement room)).shrinks;
+  never = λ ts l. shallow_of room ts (statement_list (statement room) ts) (list_explained room 0 (omega arith) (statement room)
+      (λ us. explain_as (statement room us) (statement_explained room 0 us (omega arith)) (λ x rest v. v.spelled)) ts) l;
+}
 
 segment_shrinks : (ts : List Lexeme) → length (end_of (next_segment ts)) ≤ length ts
 unfolding next_segment

@@ -194,8 +194,8 @@ unfolding first signed_by_next operator_of
 signed_case {ts = []} q i b z p l = absurd (omega arith)
 signed_case {c = c} {h = h} {n = n} {op = op} {e = e} {t = t} {ts = u ∷ us} {rest = rest} q i b z p l = looped (λ w room taken k. near_level c h k None room taken (omega arith)
     (near_if _ q (near_symbol _ i (near_if _ b (near_then _ near_take (near_head _ (near_else _ (no_number op t.symbol u.symbol i z)
-        (near_then _ (part_of p (follow_below c (seen h) h (at_seen h) w) room taken k)
-        (near_to (near_pure _ _) (ap (λ j. Got (found (k + n) other (tree.Tree.unary (sign_number (operator_of j)) e t.at)) rest) i))))))))) stays)
+    (near_then _ (part_of p (follow_below c (seen h) h (at_seen h) w) room taken k)
+    (near_to (near_pure _ _) (ap (λ j. Got (found (k + n) other (tree.Tree.unary (sign_number (operator_of j)) e t.at)) rest) i))))))))) stays)
 
 -- a sum that begins with a negated number
 negative_case : {c : Bool} {h n : ℕ} {x : Form} {e : tree.Tree} {t : Lexeme} {ts rest : List Lexeme} → (suc h == 3) ≡ true → Is (s.Operator 12) t
@@ -204,7 +204,7 @@ negative_case : {c : Bool} {h n : ℕ} {x : Form} {e : tree.Tree} {t : Lexeme} {
 unfolding first signed_by_next operator_of
 negative_case {c = c} {h = h} {t = t} q i p l (ft.with_first {t = u} b) = looped (λ w room taken k. near_level c h k None room taken (omega arith)
     (near_if _ q (near_symbol _ i (near_then _ near_take (near_head _ (near_if _ (go t.symbol i)
-        (near_then _ (part_of p (follow_below c (seen h) h (at_seen h) w) room taken k) (near_pure _ _))))))) stays)
+    (near_then _ (part_of p (follow_below c (seen h) h (at_seen h) w) room taken k) (near_pure _ _))))))) stays)
   where
     go : (k : Symbol) → k ≡ s.Operator 12 → ((operator_of k == 12) && is_number u.symbol) ≡ true
     go k f = rw (f, b) refl
@@ -242,11 +242,11 @@ unfolding turn turn_by join counted operator_of
 joined_case {c = c} {f = f} {h = h} {m = m} {n = n} {op = op} {x = x} {y = y} {a = a} {b = b} {o = o} {ts = ts} {mid = mid} {rest = rest} q p i e r l = looped (λ w room taken k.
     near_on (loop_of p (follow_is i (stops_operator c (seen h) op (rw (seen_else h q) (binds_more h (binds op) e)))) room taken k)
     (near_turn {v = found (k + suc (m + n)) other (tree.Tree.binary op a b (g.start f ts))} {m = rest}
-        (takes_turn _ _ room c taken (local_unary room) (local_counts c room) _ (local_level _ _ room c taken (local_unary room) (local_counts c room) h) h _) (omega arith)
-        (near_symbol _ i (near_if _ e (near_allowed _ _ (omega arith) (λ ok.
-            near_then _ (part_of r (rw (seen_else h q) at w) room taken (suc (k + m))) (near_to (near_pure _ _)
-                (joined_same _ _ _ _ _ _ _ _ _ _ q i (omega arith)))))))
-        stays))
+    (takes_turn _ _ room c taken (local_unary room) (local_counts c room) _ (local_level _ _ room c taken (local_unary room) (local_counts c room) h) h _) (omega arith)
+    (near_symbol _ i (near_if _ e (near_allowed _ _ (omega arith) (λ ok.
+    near_then _ (part_of r (rw (seen_else h q) at w) room taken (suc (k + m))) (near_to (near_pure _ _)
+    (joined_same _ _ _ _ _ _ _ _ _ _ q i (omega arith)))))))
+    stays))
 
 not_sum : (h : ℕ) → (suc h == 4) ≡ true → (suc h == 3) ≡ false
 not_sum h e = grind (arith, nat_tests, e)
@@ -274,11 +274,11 @@ related_case : {c : Bool} {f : Option At} {h m n op : ℕ} {x y : Form} {a b : t
 unfolding turn turn_by join counted operator_of first
 related_case {c = c} {f = f} {h = h} {m = m} {n = n} {op = op} {x = x} {y = y} {a = a} {b = b} {o = o} {ts = ts} {mid = mid} {rest = rest} q p j i e r l = looped (λ w room taken k.
     near_to (near_level c h k f room taken j
-        (near_else _ (not_sum h q) (part_of p (follow_is i (stops_operator c h op (binds_more h (binds op) e))) room taken k))
-        (near_last _ {v = found (k + suc (m + n)) (compared x y) (tree.Tree.binary op a b (g.start f ts))} (near_symbol _ i (near_if _ e (near_allowed _ _ (omega arith) (λ ok.
-            near_then _ (part_of r (follow_below c (seen h) h (at_seen h) w) room taken (suc (k + m))) (near_to (near_pure _ _)
-                (related_same _ _ _ _ _ _ _ _ _ _ q i (omega arith)))))))))
-        (sym (repeat_is (unary room) (counts c room) room c taken (part c room taken h) h (g.start f ts) _ _ (rw (seen_four h q) at w))))
+    (near_else _ (not_sum h q) (part_of p (follow_is i (stops_operator c h op (binds_more h (binds op) e))) room taken k))
+    (near_last _ {v = found (k + suc (m + n)) (compared x y) (tree.Tree.binary op a b (g.start f ts))} (near_symbol _ i (near_if _ e (near_allowed _ _ (omega arith) (λ ok.
+    near_then _ (part_of r (follow_below c (seen h) h (at_seen h) w) room taken (suc (k + m))) (near_to (near_pure _ _)
+    (related_same _ _ _ _ _ _ _ _ _ _ q i (omega arith)))))))))
+    (sym (repeat_is (unary room) (counts c room) room c taken (part c room taken h) h (g.start f ts) _ _ (rw (seen_four h q) at w))))
 
 is_zero : (h : ℕ) → (suc h == 1) ≡ true → h ≡ 0
 is_zero h e = grind (arith, nat_tests, e)
@@ -293,11 +293,11 @@ shifted_case {c = c} {f = f} {h = h} {n = n} {k = kind} {x = x} {e = e} {v = v} 
     let zero_level = is_zero h q in
     near_on (loop_of p (follow_is i (rw (zero_level) (stops_mark c))) room taken k)
     (near_turn {v = found (k + suc n) other (tree.Tree.shift kind e v (g.start f ts))} {m = rest}
-        (takes_turn _ _ room c taken (local_unary room) (local_counts c room) _ (local_level _ _ room c taken (local_unary room) (local_counts c room) h) h _) (let a = u.within in omega arith)
-        (near_symbol _ i (near_else _ (no_operator h) (near_if _ (is_one h q) (near_allowed _ _ (let a = u.within in omega arith) (λ ok.
-            near_then _ (near_numbered shift_of j t) (near_then _ (near_expect o) (near_then _ u (near_then _ (near_expect z)
-            (near_to (near_pure _ _) (ap (λ j. Got (turned true (found j other (tree.Tree.shift kind e v (g.start f ts)))) rest) (omega arith)))))))))))
-        stays))
+    (takes_turn _ _ room c taken (local_unary room) (local_counts c room) _ (local_level _ _ room c taken (local_unary room) (local_counts c room) h) h _) (let a = u.within in omega arith)
+    (near_symbol _ i (near_else _ (no_operator h) (near_if _ (is_one h q) (near_allowed _ _ (let a = u.within in omega arith) (λ ok.
+    near_then _ (near_numbered shift_of j t) (near_then _ (near_expect o) (near_then _ u (near_then _ (near_expect z)
+    (near_to (near_pure _ _) (ap (λ j. Got (turned true (found j other (tree.Tree.shift kind e v (g.start f ts)))) rest) (omega arith)))))))))))
+    stays))
 
 -- a comparison of bytes
 bytes_case : {f : Option At} {h m n : ℕ} {x : Form} {e count : tree.Tree} {k o z : Lexeme} {ts mid rest : List Lexeme}
@@ -308,11 +308,11 @@ unfolding turn turn_by bytes operator_of binds same_symbol symbol_number first
 bytes_case {f = f} {h = h} {m = m} {e = e} {count = count} {ts = ts} {mid = mid} {rest = rest} q p l i o r j z = looped (λ w room taken k.
     near_level true h k f room taken l (near_else _ (not_three h q) (part_of p (follow_is i (stops_comma_below true h (below_eight h q))) room taken k))
     (near_turn {v = found (k + m) other (bytes_of e count)} {m = rest}
-        (takes_turn _ _ room true taken (local_unary room) (local_counts true room) _ (local_level _ _ room true taken (local_unary room) (local_counts true room) h) h _) (omega arith)
-        (near_symbol _ i (near_else _ (no_operator h) (near_else _ (not_mark h _ (inr refl)) (near_if _ (is_eight h q) (near_then _ near_take
-            (near_opening room (taken + (k + m) / 8) _ o (omega arith) (λ ok. near_then _ ((expression_of r (follow_is z (stops_close false 10))).reads room (taken + (k + m) / 8) ok)
-            (near_then _ (near_expect z) (near_pure _ _)))))))))
-        stays))
+    (takes_turn _ _ room true taken (local_unary room) (local_counts true room) _ (local_level _ _ room true taken (local_unary room) (local_counts true room) h) h _) (omega arith)
+    (near_symbol _ i (near_else _ (no_operator h) (near_else _ (not_mark h _ (inr refl)) (near_if _ (is_eight h q) (near_then _ near_take
+    (near_opening room (taken + (k + m) / 8) _ o (omega arith) (λ ok. near_then _ ((expression_of r (follow_is z (stops_close false 10))).reads room (taken + (k + m) / 8) ok)
+    (near_then _ (near_expect z) (near_pure _ _)))))))))
+    stays))
 
 -- Operands.
 
@@ -376,8 +376,10 @@ name_case i = record { reads = λ w room taken. near_symbol _ i (near_then _ nea
 call_case : {es : List tree.Tree} {t o z : Lexeme} {ts rest : List Lexeme} → Is s.Name t → Is s.Open o → ArgumentsRead es ts (z ∷ rest) → Is s.Close z
     → PrimaryRead None (form_of_call es) (tree.Tree.named t.letters (tree.trees es) t.at) (t ∷ o ∷ ts) rest
 unfolding primary_by named
-call_case i o r z = record { reads = λ w room taken. near_symbol _ i (near_then _ near_take (near_symbol _ o
-    (near_if _ (same_self s.Open) (near_then _ (near_arguments room taken _ o r z) (near_pure _ _))))) }
+call_case i o r z = record {
+  reads = λ w room taken. near_symbol _ i (near_then _ near_take (near_symbol _ o
+      (near_if _ (same_self s.Open) (near_then _ (near_arguments room taken _ o r z) (near_pure _ _)))));
+}
 
 address_case : {a t : Lexeme} {rest : List Lexeme} → Is s.AtSign a → Is s.Name t
     → PrimaryRead None other (tree.Tree.address t.letters (tree.trees []) a.at) (a ∷ t ∷ rest) rest
@@ -387,8 +389,10 @@ address_case i j = record { reads = λ w room taken. near_symbol _ i (near_then 
 address_of_case : {e : tree.Tree} {a t o z : Lexeme} {ts rest : List Lexeme} → Is s.AtSign a → Is s.Name t → Is s.Open o → ExpressionRead e ts (z ∷ rest)
     → Is s.Close z → length (z ∷ rest) < length ts → PrimaryRead None other (tree.Tree.address t.letters (tree.trees (e ∷ [])) a.at) (a ∷ t ∷ o ∷ ts) rest
 unfolding primary_by addressed
-address_of_case i j o r z l = record { reads = λ w room taken. near_symbol _ i (near_then _ near_take (near_then _ (near_expect j) (near_symbol _ o
-    (near_if _ (same_self s.Open) (near_then _ (near_enclosed room taken _ o r z (omega arith)) (near_pure _ _)))))) }
+address_of_case i j o r z l = record {
+  reads = λ w room taken. near_symbol _ i (near_then _ near_take (near_then _ (near_expect j) (near_symbol _ o
+      (near_if _ (same_self s.Open) (near_then _ (near_enclosed room taken _ o r z (omega arith)) (near_pure _ _))))));
+}
 
 parens_case : {e : tree.Tree} {o z : Lexeme} {ts rest : List Lexeme} → Is s.Open o → ExpressionRead e ts (z ∷ rest)
     → Is s.Close z → length (z ∷ rest) < length ts → PrimaryRead None other e (o ∷ ts) rest
@@ -398,31 +402,45 @@ parens_case o r z l = record { reads = λ w room taken. near_symbol _ o (near_th
 transfer_case : {k : Kind} {e : tree.Tree} {t o z : Lexeme} {ts rest : List Lexeme} → Is (s.Type k) t → Is s.Open o → ExpressionRead e ts (z ∷ rest)
     → Is s.Close z → length (z ∷ rest) < length ts → PrimaryRead None other (tree.Tree.transfer k e t.at) (t ∷ o ∷ ts) rest
 unfolding primary_by
-transfer_case i o r z l = record { reads = λ w room taken. near_symbol _ i (near_then _ near_take
-    (near_then _ (near_enclosed room taken _ o r z (omega arith)) (near_pure _ _))) }
+transfer_case i o r z l = record {
+  reads = λ w room taken. near_symbol _ i (near_then _ near_take
+      (near_then _ (near_enclosed room taken _ o r z (omega arith)) (near_pure _ _)));
+}
 
 -- arguments
 pub one_case : {e : tree.Tree} {z : Lexeme} {ts rest : List Lexeme} → ExpressionRead e ts (z ∷ rest) → Is s.Close z → length (z ∷ rest) < length ts
     → ArgumentsRead (e ∷ []) ts (z ∷ rest)
 unfolding more_arguments same_symbol symbol_number
-one_case {e = e} {z = z} {rest = rest} r i l = record { first = e; middle = z ∷ rest; shorter = l; reads = r;
-    others = λ room taken inner ok so_far. near_last _ (near_symbol _ i (near_pure _ _)) }
+one_case {e = e} {z = z} {rest = rest} r i l = record {
+  first = e;
+  middle = z ∷ rest;
+  shorter = l;
+  reads = r;
+  others = λ room taken inner ok so_far. near_last _ (near_symbol _ i (near_pure _ _));
+}
 
 several_case : {e : tree.Tree} {es : List tree.Tree} {k : Lexeme} {ts mid rest : List Lexeme} → ExpressionRead e ts (k ∷ mid) → Is s.Comma k
     → ArgumentsRead es mid rest → length (k ∷ mid) < length ts → ArgumentsRead (e ∷ es) ts rest
 unfolding more_arguments
-several_case {e = e} {es = es} {k = k} {mid = mid} {rest = rest} r i a l = record { first = e; middle = k ∷ mid; shorter = let b = a.shorter in omega arith; reads = r;
-    others = λ room taken inner ok so_far. near_turn {v = (so_far ++ e ∷ []) ++ a.first ∷ []} {m = a.middle}
-        (takes_more room inner (within room taken) taken (local_within room taken)) (let b = (a.reads.reads room taken ok).within in omega arith)
-        (near_symbol _ i (near_if _ (same_self s.Comma) (near_then _ (near_then _ near_take (a.reads.reads room taken ok)) (near_pure _ _))))
-        (near_to (a.others room taken inner ok (so_far ++ e ∷ [])) (ap (λ us. Got us rest) (append_assoc so_far (e ∷ []) es))) }
+several_case {e = e} {es = es} {k = k} {mid = mid} {rest = rest} r i a l = record {
+  first = e;
+  middle = k ∷ mid;
+  shorter = let b = a.shorter in omega arith;
+  reads = r;
+  others = λ room taken inner ok so_far. near_turn {v = (so_far ++ e ∷ []) ++ a.first ∷ []} {m = a.middle}
+      (takes_more room inner (within room taken) taken (local_within room taken)) (let b = (a.reads.reads room taken ok).within in omega arith)
+      (near_symbol _ i (near_if _ (same_self s.Comma) (near_then _ (near_then _ near_take (a.reads.reads room taken ok)) (near_pure _ _))))
+      (near_to (a.others room taken inner ok (so_far ++ e ∷ [])) (ap (λ us. Got us rest) (append_assoc so_far (e ∷ []) es)));
+}
 
 -- NOT and an operand
 inverse_case : {x : Form} {e : tree.Tree} {t : Lexeme} {ts rest : List Lexeme} → Is s.Not t → UnaryRead None x e ts rest → length rest < length ts
     → UnaryRead None other (tree.Tree.unary 2 e t.at) (t ∷ ts) rest
 unfolding unary_step inverse enter behind_not
-inverse_case {x = x} {e = e} {t = t} {ts = ts} {rest = rest} i u l = record { reads = λ c w room taken. near_from (ap (λ p. p (t ∷ ts)) (unary_is room taken None))
-    (near_symbol _ i (near_if _ (same_self s.Not) (near_allowed _ _ (omega arith) (go c w room taken)))) }
+inverse_case {x = x} {e = e} {t = t} {ts = ts} {rest = rest} i u l = record {
+  reads = λ c w room taken. near_from (ap (λ p. p (t ∷ ts)) (unary_is room taken None))
+      (near_symbol _ i (near_if _ (same_self s.Not) (near_allowed _ _ (omega arith) (go c w room taken))));
+}
   where
     go : (c : Bool) → Follow c 0 rest → (room taken : ℕ) → nat_lt taken room ≡ true
         → Near (followed (behind_not room taken) (λ r. pure (plain other (tree.Tree.unary 2 r.tree t.at)))) ts rest (Got (plain other (tree.Tree.unary 2 e t.at)) rest)
@@ -445,6 +463,7 @@ plain_case {f = f} {x = x} {e = e} {ts = ts} {rest = rest} b p = record { reads 
   where
     closed : {c : Bool} {us : List Lexeme} → Follow c 0 us → ft.Begins (is s.Open) false us
     closed (behind st) = ft.with_first st.opening
+
     go : (c : Bool) (us : List Lexeme) → Follow c 0 us → Near (field (g.start f ts) (plain x e)) us us (Got (plain x e) us)
     go c _ (behind st) = near_head _ (near_else _ st.dot (near_pure _ _))
 
@@ -457,9 +476,11 @@ bits_case : {f : Option At} {x : Form} {e : tree.Tree} {a b : tree.Constant} {d 
     → PrimaryRead f x e ts (d ∷ o ∷ mid) → Is s.Dot d → Is s.Open o → Near constant mid (k ∷ next) (Got a (k ∷ next)) → Is s.Colon k
     → Near constant next (z ∷ rest) (Got b (z ∷ rest)) → Is s.Close z → UnaryRead f other (tree.Tree.field e a b (g.start f ts)) ts rest
 unfolding field bits
-bits_case b p i o m k n z = record { reads = λ c w room taken. near_front _ b room taken (p.reads (dot_first i) room taken)
-    (near_symbol _ i (near_if _ (same_self s.Dot) (near_then _ (near_expect i) (near_then _ (near_expect o) (near_then _ m (near_then _ (near_expect k)
-    (near_then _ n (near_then _ (near_expect z) (near_pure _ _))))))))) }
+bits_case b p i o m k n z = record {
+  reads = λ c w room taken. near_front _ b room taken (p.reads (dot_first i) room taken)
+      (near_symbol _ i (near_if _ (same_self s.Dot) (near_then _ (near_expect i) (near_then _ (near_expect o) (near_then _ m (near_then _ (near_expect k)
+      (near_then _ n (near_then _ (near_expect z) (near_pure _ _)))))))));
+}
 
 form_to : {c : Bool} {f : Option At} {h n : ℕ} {x y : Form} {e : tree.Tree} {ts rest : List Lexeme} → x ≡ y → PartRead c f h n x e ts rest → PartRead c f h n y e ts rest
 form_to q p = rw (← q) p

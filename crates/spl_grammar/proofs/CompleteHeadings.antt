@@ -18,7 +18,6 @@ use Rattle.spl_grammar.proofs.NearReaders.{Near, near_to, near_from, near_then, 
 use Rattle.spl_grammar.proofs.CompleteParts.{Ends, semicolon, close, no_comma, choose_else, names_read}
 use Rattle.spl_grammar.proofs.FirstTokens.{Begins, with_first, by_is}
 
-
 among : (a b : Options) (ts : List Lexeme) → fit (both a b) ≡ true → option_among a (Some b) ts ≡ (take >>= (λ _. pure (both a b))) ts
 unfolding option_among
 among a b ts e = rw e refl
@@ -43,11 +42,19 @@ record OptionsRead (a c : Options) (ts rest : List Lexeme) : Type 0 where
 
 options_claim : {a c : Options} {ts rest : List Lexeme} → dl.OptionList a c ts rest → Ends rest → OptionsRead a c ts rest
 unfolding more_options
-options_claim {rest = rest} (dl.OptionList.one {a = a} {b = b} i e f) n = record { first = both a b; middle = rest; reads = option_read a b i e f;
-    others = near_last _ (choose_else (is s.Comma) _ (no_comma n) (near_pure _ _)) }
-options_claim {rest = rest} (dl.OptionList.more {a = a} {b = b} {k = k} {ts = ts} i e f j l) n = let r = options_claim l n in record { first = both a b; middle = k ∷ ts; reads = option_read a b i e f;
-    others = near_turn {v = r.first} {m = r.middle} takes_more_options (let m = r.reads.within in omega arith)
-        (near_symbol _ j (near_if _ (same_self s.Comma) (near_then _ near_take (near_then _ r.reads (near_pure _ _))))) r.others }
+options_claim {rest = rest} (dl.OptionList.one {a = a} {b = b} i e f) n = record {
+  first = both a b;
+  middle = rest;
+  reads = option_read a b i e f;
+  others = near_last _ (choose_else (is s.Comma) _ (no_comma n) (near_pure _ _));
+}
+options_claim {rest = rest} (dl.OptionList.more {a = a} {b = b} {k = k} {ts = ts} i e f j l) n = let r = options_claim l n in record {
+  first = both a b;
+  middle = k ∷ ts;
+  reads = option_read a b i e f;
+  others = near_turn {v = r.first} {m = r.middle} takes_more_options (let m = r.reads.within in omega arith)
+      (near_symbol _ j (near_if _ (same_self s.Comma) (near_then _ near_take (near_then _ r.reads (near_pure _ _))))) r.others;
+}
 
 pub options_read : {a : Options} {ts rest : List Lexeme} → dl.OptionList no_options a ts rest → Ends rest → Near options ts rest (Got a rest)
 unfolding options
@@ -126,23 +133,51 @@ names_at q l = rw (← q) l
 
 specs_claim : {xs : List decl.Spec} {k : Lexeme} {ts rest : List Lexeme} → dl.Specs xs ts (k ∷ rest) → Is s.Semicolon k → Begins goes_on false rest → SpecsRead xs ts rest
 unfolding more_specs spec_by spec_behind
-specs_claim {k = k} {rest = rest} dl.Specs.none i b = record { head = k; tail = rest; split = refl; begins = i; no_value = no_value_of b; longer = omega arith;
-    reads = λ so_far. near_to (specs_stop so_far b) (ap (λ us. Got us rest) (sym (append-nil so_far))) }
+specs_claim {k = k} {rest = rest} dl.Specs.none i b = record {
+  head = k;
+  tail = rest;
+  split = refl;
+  begins = i;
+  no_value = no_value_of b;
+  longer = omega arith;
+  reads = λ so_far. near_to (specs_stop so_far b) (ap (λ us. Got us rest) (sym (append-nil so_far)));
+}
 specs_claim {rest = rest} (dl.Specs.words {c = c} {ns = ns} {ss = ss} {k = m} {t = t} {ts = ts} j u l x) i b = let r = specs_claim x i b in let n = names_at r.split l in let y = shorter_names n in let z = r.longer in
-    record { head = m; tail = t ∷ ts; split = refl; begins = j; no_value = by_is _ _ _ _ _ u (kind_no_value c); longer = omega arith;
+    record {
+      head = m;
+      tail = t ∷ ts;
+      split = refl;
+      begins = j;
+      no_value = by_is _ _ _ _ _ u (kind_no_value c);
+      longer = omega arith;
       reads = λ so_far. near_turn {v = so_far ++ record { kind = c; array = false; names = ns } ∷ []} {m = r.tail} takes_more_specs (omega arith)
-        (near_symbol _ u (near_then _ near_take (near_then _ (choose_else (is (s.Word w.Array)) _ (name_no_array l) (spec_names_read c false n r.begins)) (near_pure _ _))))
-        (near_to (r.reads (so_far ++ record { kind = c; array = false; names = ns } ∷ [])) (ap (λ us. Got us rest) (append_assoc so_far (record { kind = c; array = false; names = ns } ∷ []) ss))) }
+          (near_symbol _ u (near_then _ near_take (near_then _ (choose_else (is (s.Word w.Array)) _ (name_no_array l) (spec_names_read c false n r.begins)) (near_pure _ _))))
+          (near_to (r.reads (so_far ++ record { kind = c; array = false; names = ns } ∷ [])) (ap (λ us. Got us rest) (append_assoc so_far (record { kind = c; array = false; names = ns } ∷ []) ss)));
+    }
 specs_claim {rest = rest} (dl.Specs.arrays {c = c} {ns = ns} {ss = ss} {k = m} {a = a} j dl.OptionalKind.absent u l x) i b = let r = specs_claim x i b in let n = names_at r.split l in let y = shorter_names n in let z = r.longer in
-    record { head = m; tail = _; split = refl; begins = j; no_value = by_is _ _ _ _ _ u array_no_value; longer = omega arith;
+    record {
+      head = m;
+      tail = _;
+      split = refl;
+      begins = j;
+      no_value = by_is _ _ _ _ _ u array_no_value;
+      longer = omega arith;
       reads = λ so_far. near_turn {v = so_far ++ record { kind = kind.Logical; array = true; names = ns } ∷ []} {m = r.tail} takes_more_specs (omega arith)
-        (near_symbol _ u (near_symbol _ u (near_if _ (same_self (s.Word w.Array)) (near_then _ near_take (near_then _ (spec_names_read kind.Logical true n r.begins) (near_pure _ _))))))
-        (near_to (r.reads (so_far ++ record { kind = kind.Logical; array = true; names = ns } ∷ [])) (ap (λ us. Got us rest) (append_assoc so_far (record { kind = kind.Logical; array = true; names = ns } ∷ []) ss))) }
+          (near_symbol _ u (near_symbol _ u (near_if _ (same_self (s.Word w.Array)) (near_then _ near_take (near_then _ (spec_names_read kind.Logical true n r.begins) (near_pure _ _))))))
+          (near_to (r.reads (so_far ++ record { kind = kind.Logical; array = true; names = ns } ∷ [])) (ap (λ us. Got us rest) (append_assoc so_far (record { kind = kind.Logical; array = true; names = ns } ∷ []) ss)));
+    }
 specs_claim {rest = rest} (dl.Specs.arrays {c = c} {ns = ns} {ss = ss} {k = m} {a = a} j (dl.OptionalKind.given v) u l x) i b = let r = specs_claim x i b in let n = names_at r.split l in let y = shorter_names n in let z = r.longer in
-    record { head = m; tail = _; split = refl; begins = j; no_value = by_is _ _ _ _ _ v (kind_no_value c); longer = omega arith;
+    record {
+      head = m;
+      tail = _;
+      split = refl;
+      begins = j;
+      no_value = by_is _ _ _ _ _ v (kind_no_value c);
+      longer = omega arith;
       reads = λ so_far. near_turn {v = so_far ++ record { kind = c; array = true; names = ns } ∷ []} {m = r.tail} takes_more_specs (omega arith)
-        (near_symbol _ v (near_then _ near_take (near_then _ (near_symbol _ u (near_if _ (same_self (s.Word w.Array)) (near_then _ near_take (spec_names_read c true n r.begins)))) (near_pure _ _))))
-        (near_to (r.reads (so_far ++ record { kind = c; array = true; names = ns } ∷ [])) (ap (λ us. Got us rest) (append_assoc so_far (record { kind = c; array = true; names = ns } ∷ []) ss))) }
+          (near_symbol _ v (near_then _ near_take (near_then _ (near_symbol _ u (near_if _ (same_self (s.Word w.Array)) (near_then _ near_take (spec_names_read c true n r.begins)))) (near_pure _ _))))
+          (near_to (r.reads (so_far ++ record { kind = c; array = true; names = ns } ∷ [])) (ap (λ us. Got us rest) (append_assoc so_far (record { kind = c; array = true; names = ns } ∷ []) ss)));
+    }
 
 -- what stands behind the names of a heading
 abbrev pub tail_pair : List Placed → List decl.Spec → List Placed × List decl.Spec

@@ -67,13 +67,21 @@ module _ {A : Type 0} (P : A → List Lexeme → List Lexeme → Type 0) (part :
     (claim : (a : A) (ts rest : List Lexeme) → P a ts rest → PartEnds rest → Near part ts rest (Got a rest)) where
   parts_read : {xs : List A} {ts rest : List Lexeme} → Separated P xs ts rest → Ends rest → PartsRead part xs ts rest
   unfolding more_parts
-  parts_read {rest = rest} (one {a = a} p) e = record { first = a; middle = rest; reads = claim a _ rest p (list_ends e);
-      others = λ so_far. near_last _ (choose_else (is s.Comma) _ (no_comma e) (near_pure _ _)) }
+  parts_read {rest = rest} (one {a = a} p) e = record {
+    first = a;
+    middle = rest;
+    reads = claim a _ rest p (list_ends e);
+    others = λ so_far. near_last _ (choose_else (is s.Comma) _ (no_comma e) (near_pure _ _));
+  }
   parts_read {rest = rest} (more {a = a} {bs = bs} {k = k} {mid = mid} p i l) e = let r = parts_read l e in
-      record { first = a; middle = k ∷ mid; reads = claim a _ (k ∷ mid) p (comma i);
+      record {
+        first = a;
+        middle = k ∷ mid;
+        reads = claim a _ (k ∷ mid) p (comma i);
         others = λ so_far. near_turn {v = (so_far ++ a ∷ []) ++ r.first ∷ []} {m = r.middle} (takes_more_parts part lp) (let n = r.reads.within in omega arith)
-          (near_symbol _ i (near_if _ (same_self s.Comma) (near_then _ near_take (near_then _ r.reads (near_pure _ _)))))
-          (near_to (r.others (so_far ++ a ∷ [])) (ap (λ us. Got us rest) (append_assoc so_far (a ∷ []) bs))) }
+            (near_symbol _ i (near_if _ (same_self s.Comma) (near_then _ near_take (near_then _ r.reads (near_pure _ _)))))
+            (near_to (r.others (so_far ++ a ∷ [])) (ap (λ us. Got us rest) (append_assoc so_far (a ∷ []) bs)));
+      }
 
   pub separated_read : {xs : List A} {ts rest : List Lexeme} → Separated P xs ts rest → Ends rest → Near (separated part) ts rest (Got xs rest)
   unfolding separated
@@ -130,8 +138,8 @@ unfolding more_terms operator_of
 terms_read {rest = rest} dl.Terms.none e so_far = near_to (near_last _ (choose_else (λ k. is_sign (operator_of k)) _ (no_sign e) (near_pure _ _))) (ap (λ us. Got us rest) (sym (append-nil so_far)))
 terms_read {rest = rest} (dl.Terms.more {v = v} {vs = vs} {op = op} {p = p} {mid = mid} i b c l) e so_far =
     near_turn {v = so_far ++ record { minus = op == 12; value = v } ∷ []} {m = mid} takes_more_terms (let n = pt.shorter_constant c in omega arith)
-        (near_symbol _ i (near_if _ b (near_then _ near_take (near_then _ (complete_constant c) (near_to (near_pure _ _) (term_same p.symbol op v so_far mid i))))))
-        (near_to (terms_read l e (so_far ++ record { minus = op == 12; value = v } ∷ [])) (ap (λ us. Got us rest) (append_assoc so_far (record { minus = op == 12; value = v } ∷ []) vs)))
+    (near_symbol _ i (near_if _ b (near_then _ near_take (near_then _ (complete_constant c) (near_to (near_pure _ _) (term_same p.symbol op v so_far mid i))))))
+    (near_to (terms_read l e (so_far ++ record { minus = op == 12; value = v } ∷ [])) (ap (λ us. Got us rest) (append_assoc so_far (record { minus = op == 12; value = v } ∷ []) vs)))
 
 equal_claim : (a : decl.Equal) (ts rest : List Lexeme) → dl.Equal a ts rest → PartEnds rest → Near equal ts rest (Got a rest)
 unfolding equal
@@ -197,20 +205,34 @@ assign_comma = refl
 
 arrays_claim : {is : List decl.Item} {ts rest : List Lexeme} → dl.Arrays is ts rest → Ends rest → ArraysRead is ts rest
 unfolding more_arrays
-arrays_claim {rest = rest} (dl.Arrays.one {i = i} a) e = record { first = with_values [] i; middle = rest; reads = array_read a; last = λ so_far. arrays_state so_far i;
-    others = λ so_far. near_to (near_last _ (two_else (is s.Comma) (is s.Assign) _ _ (no_comma e) (no_assign_end e) (near_pure _ _))) (ap (λ j. Got (arrays_state so_far j) rest) (values_back a));
-    all = λ so_far. refl }
-arrays_claim {rest = rest} (dl.Arrays.valued {vs = vs} {i = i} {k = k} {mid = mid} a j l) e = record { first = with_values [] i; middle = k ∷ mid; reads = array_read a; last = λ so_far. arrays_state so_far i;
-    others = λ so_far. near_last _ (near_symbol _ j (near_else _ assign_comma (near_if _ (same_self s.Assign) (near_then _ near_take (near_then _ (constants_read l e)
-        (near_to (near_pure _ _) (ap (λ x. Got (stopped (arrays_state so_far x)) rest) (values_back a))))))));
-    all = λ so_far. refl }
-arrays_claim {rest = rest} (dl.Arrays.more {i = i} {is = is} {k = k} {mid = mid} a j l) e = let r = arrays_claim l e in record { first = with_values [] i; middle = k ∷ mid; reads = array_read a;
-    last = λ so_far. r.last (so_far ++ i ∷ []);
-    others = λ so_far. near_turn {v = arrays_state (so_far ++ i ∷ []) r.first} {m = r.middle} takes_more_arrays (let n = r.reads.within in omega arith)
-        (near_symbol _ j (near_if _ (same_self s.Comma) (near_then _ near_take (near_then _ r.reads (near_to (near_pure _ _)
-            (ap (λ x. Got (going (arrays_state (so_far ++ x ∷ []) r.first)) r.middle) (values_back a)))))))
-        (r.others (so_far ++ i ∷ []));
-    all = λ so_far. r.all (so_far ++ i ∷ []) ∙ append_assoc so_far (i ∷ []) is }
+arrays_claim {rest = rest} (dl.Arrays.one {i = i} a) e = record {
+  first = with_values [] i;
+  middle = rest;
+  reads = array_read a;
+  last = λ so_far. arrays_state so_far i;
+  others = λ so_far. near_to (near_last _ (two_else (is s.Comma) (is s.Assign) _ _ (no_comma e) (no_assign_end e) (near_pure _ _))) (ap (λ j. Got (arrays_state so_far j) rest) (values_back a));
+  all = λ so_far. refl;
+}
+arrays_claim {rest = rest} (dl.Arrays.valued {vs = vs} {i = i} {k = k} {mid = mid} a j l) e = record {
+  first = with_values [] i;
+  middle = k ∷ mid;
+  reads = array_read a;
+  last = λ so_far. arrays_state so_far i;
+  others = λ so_far. near_last _ (near_symbol _ j (near_else _ assign_comma (near_if _ (same_self s.Assign) (near_then _ near_take (near_then _ (constants_read l e)
+      (near_to (near_pure _ _) (ap (λ x. Got (stopped (arrays_state so_far x)) rest) (values_back a))))))));
+  all = λ so_far. refl;
+}
+arrays_claim {rest = rest} (dl.Arrays.more {i = i} {is = is} {k = k} {mid = mid} a j l) e = let r = arrays_claim l e in record {
+  first = with_values [] i;
+  middle = k ∷ mid;
+  reads = array_read a;
+  last = λ so_far. r.last (so_far ++ i ∷ []);
+  others = λ so_far. near_turn {v = arrays_state (so_far ++ i ∷ []) r.first} {m = r.middle} takes_more_arrays (let n = r.reads.within in omega arith)
+      (near_symbol _ j (near_if _ (same_self s.Comma) (near_then _ near_take (near_then _ r.reads (near_to (near_pure _ _)
+      (ap (λ x. Got (going (arrays_state (so_far ++ x ∷ []) r.first)) r.middle) (values_back a)))))))
+      (r.others (so_far ++ i ∷ []));
+  all = λ so_far. r.all (so_far ++ i ∷ []) ∙ append_assoc so_far (i ∷ []) is;
+}
 
 pub arrays_read : {is : List decl.Item} {ts rest : List Lexeme} → dl.Arrays is ts rest → Ends rest → Near arrays ts rest (Got is rest)
 unfolding arrays

@@ -275,7 +275,7 @@ call_read {es = es} {t = t} {rest = rest} room below inner i o a z w = near_symb
   where
     go : (b : Bool) (us : List Lexeme) → After (stat.Statement.call t.letters (trees es) t.at) us → ft.Begins (is s.Dot) false us
         → Near (if b then behind_reference room (tree.Tree.named t.letters (trees es) t.at) t.at (stat.Statement.call t.letters (trees es) t.at)
-            else pure (stat.Statement.call t.letters (trees es) t.at)) us us (Got (stat.Statement.call t.letters (trees es) t.at) us)
+        else pure (stat.Statement.call t.letters (trees es) t.at)) us us (Got (stat.Statement.call t.letters (trees es) t.at) us)
     go true _ w (ft.with_first d) = near_head _ (near_else _ d (near_else _ (at_head (not_assign w)) (near_pure _ _)))
     go false us w d = near_pure _ us
 
@@ -445,17 +445,25 @@ end_semicolon = refl
 
 one_statement : {x : stat.Statement} {z : Lexeme} {ts rest : List Lexeme} → StatementRead x ts (z ∷ rest) → Is (s.Word w.End) z → ListRead (x ∷ []) ts (z ∷ rest)
 unfolding more_statements
-one_statement {x = x} {z = z} {rest = rest} n i = record { first = x; middle = z ∷ rest; reads = n.reads;
-    others = λ room so_far. near_last _ (near_symbol _ i (near_else _ end_semicolon (near_pure _ _))) }
+one_statement {x = x} {z = z} {rest = rest} n i = record {
+  first = x;
+  middle = z ∷ rest;
+  reads = n.reads;
+  others = λ room so_far. near_last _ (near_symbol _ i (near_else _ end_semicolon (near_pure _ _)));
+}
 
 more_case : {x : stat.Statement} {xs : List stat.Statement} {k : Lexeme} {ts mid rest : List Lexeme} → StatementRead x ts (k ∷ mid) → Is s.Semicolon k → ListRead xs mid rest
     → ListRead (x ∷ xs) ts rest
 unfolding more_statements
-more_case {x = x} {xs = xs} {k = k} {mid = mid} {rest = rest} n i a = record { first = x; middle = k ∷ mid; reads = n.reads;
-    others = λ room so_far. near_turn {v = (so_far ++ x ∷ []) ++ a.first ∷ []} {m = a.middle} (takes_more_statements (statement room) (local_statement room))
-        (let l = (a.reads room).within in omega arith)
-        (near_symbol _ i (near_if _ (same_self s.Semicolon) (near_then _ near_take (near_then _ (a.reads room) (near_pure _ _)))))
-        (near_to (a.others room (so_far ++ x ∷ [])) (ap (λ us. Got us rest) (append_assoc so_far (x ∷ []) xs))) }
+more_case {x = x} {xs = xs} {k = k} {mid = mid} {rest = rest} n i a = record {
+  first = x;
+  middle = k ∷ mid;
+  reads = n.reads;
+  others = λ room so_far. near_turn {v = (so_far ++ x ∷ []) ++ a.first ∷ []} {m = a.middle} (takes_more_statements (statement room) (local_statement room))
+      (let l = (a.reads room).within in omega arith)
+      (near_symbol _ i (near_if _ (same_self s.Semicolon) (near_then _ near_take (near_then _ (a.reads room) (near_pure _ _)))))
+      (near_to (a.others room (so_far ++ x ∷ [])) (ap (λ us. Got us rest) (append_assoc so_far (x ∷ []) xs)));
+}
 
 -- what stands behind the last part of a statement
 after_inner : {x y : stat.Statement} {ts : List Lexeme} → (closed y ≡ true → closed x ≡ true) → After y ts → After x ts

@@ -29,7 +29,6 @@ use Rattle.spl_tree.specs.Units.{segment_at, Unit_of, unit}
 use Rattle.spl_tree.specs.DeclarationTrees.{declarations, UnitTree}
 use Rattle.spl_grammar.proofs.FirstTokens.{Begins, with_first, by_is}
 
-
 -- the first token is this symbol
 data FirstIs (k : Symbol) : List Lexeme → Type 0 where
   first_is : {t : Lexeme} {ts : List Lexeme} → Is k t → FirstIs k (t ∷ ts)
@@ -344,8 +343,8 @@ module _ (room : ℕ) (body_of : ℕ → Parser BodyRead) where
     declarations_read {u = u} {after = after} {rest = rest} lb (dl.Declarations.more {d = d} {ds = ds} {mid = mid} x e k l) b so_far =
         let r = declaration_read after x k e in
         near_turn {v = decl_state (is_subroutine d) (so_far ++ d ∷ [])} {m = mid} (takes_more_declarations room body_of u lb segment) (let n = r.within in omega arith)
-            (choose_then (declares room body_of u) _ (declaration_first x) (near_then _ r (near_then _ (near_expect k) (near_pure _ _))))
-            (near_to (declarations_read lb l b (so_far ++ d ∷ [])) (ap (λ xs. Got (decl_state (after_all (is_subroutine d) ds) xs) rest) (append_assoc so_far (d ∷ []) ds)))
+        (choose_then (declares room body_of u) _ (declaration_first x) (near_then _ r (near_then _ (near_expect k) (near_pure _ _))))
+        (near_to (declarations_read lb l b (so_far ++ d ∷ [])) (ap (λ xs. Got (decl_state (after_all (is_subroutine d) ds) xs) rest) (append_assoc so_far (d ∷ []) ds)))
 
     pub declaration_list_read : {u : Bool} {ds : List decl.Declaration} {ts rest : List Lexeme} → (lb : (n : ℕ) → IsLocal (body_of n)) → dl.Declarations u false segment ds ts rest
         → Begins (declares room body_of u) false rest → Near (declaration_list room body_of u segment) ts rest (Got ds rest)
@@ -391,8 +390,8 @@ module _ (room : ℕ) (segment : ℕ) where
   inners_read {after = after} {rest = rest} (dl.Declarations.more {d = d} {ds = ds} {mid = mid} x e k l) b so_far =
       let r = inner_read after x k e in
       near_turn {v = decl_state (is_subroutine d) (so_far ++ d ∷ [])} {m = mid} (takes_more_declarations room (λ _. refuse) false no_body segment) (let n = r.within in omega arith)
-          (choose_then (declares room (λ _. refuse) false) _ (inner_first x) (near_then _ r (near_then _ (near_expect k) (near_pure _ _))))
-          (near_to (inners_read l b (so_far ++ d ∷ [])) (ap (λ xs. Got (decl_state (after_all (is_subroutine d) ds) xs) rest) (append_assoc so_far (d ∷ []) ds)))
+      (choose_then (declares room (λ _. refuse) false) _ (inner_first x) (near_then _ r (near_then _ (near_expect k) (near_pure _ _))))
+      (near_to (inners_read l b (so_far ++ d ∷ [])) (ap (λ xs. Got (decl_state (after_all (is_subroutine d) ds) xs) rest) (append_assoc so_far (d ∷ []) ds)))
 
   inner_list_read : {ds : List decl.Declaration} {ts rest : List Lexeme} → dl.Declarations false false segment ds ts rest → Begins (declares room (λ _. refuse) false) false rest
       → Near (declaration_list room (λ _. refuse) false segment) ts rest (Got ds rest)

@@ -15,14 +15,21 @@ use Rattle.spl_grammar.proofs.NearReaders.{Near, near_last, near_else, near_pure
 -- what stops a level stops those below
 pub stops_below : (c : Bool) (h j : ℕ) (k : Symbol) → j ≤ h → Stops c h k → Stops c j k
 stops_below c h j k l st = record {
-    dot = st.dot; opening = st.opening; operator = o st.operator; mark = m st.mark; comma = q st.comma }
+  dot = st.dot;
+  opening = st.opening;
+  operator = o st.operator;
+  mark = m st.mark;
+  comma = q st.comma;
+}
   where
     o : (binds (operator_of k) ≡ 0) ⊎ (h < binds (operator_of k)) → (binds (operator_of k) ≡ 0) ⊎ (j < binds (operator_of k))
     o (inl e) = inl e
     o (inr e) = inr (omega arith)
+
     m : (h ≡ 0) ⊎ (is s.Ampersand k ≡ false) → (j ≡ 0) ⊎ (is s.Ampersand k ≡ false)
     m (inl e) = inl (omega arith)
     m (inr e) = inr e
+
     q : (c ≡ false) ⊎ ((h < 8) ⊎ (is s.Comma k ≡ false)) → (c ≡ false) ⊎ ((j < 8) ⊎ (is s.Comma k ≡ false))
     q (inl e) = inl e
     q (inr (inl e)) = inr (inl (omega arith))
@@ -100,8 +107,11 @@ module _ (u : ℕ → Option At → Parser Found) (count : ℕ → Parser tree.T
 
   pub turn_stops : (ts : List Lexeme) → Follow c (suc h) ts → turn u count room c taken below h at r ts ≡ Got (false, r) ts
   unfolding turn turn_by by_symbol pure
-  turn_stops _ (behind {t = t} {ts = ts} st) = rw (not_operator h (binds (operator_of t.symbol)) st.operator,
-      not_mark h (is s.Ampersand t.symbol) st.mark, not_bytes c h (is s.Comma t.symbol) (is_comparison r.form) st.comma) refl
+  turn_stops _ (behind {t = t} {ts = ts} st) = rw (
+    not_operator h (binds (operator_of t.symbol)) st.operator,
+    not_mark h (is s.Ampersand t.symbol) st.mark,
+    not_bytes c h (is s.Comma t.symbol) (is_comparison r.form) st.comma,
+  ) refl
 
   -- the loop answers what was read so far
   pub repeat_is : (ts : List Lexeme) → Follow c (suc h) ts → repeat (turn u count room c taken below h at) r ts ≡ Got r ts

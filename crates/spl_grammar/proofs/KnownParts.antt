@@ -112,8 +112,8 @@ compares_no_bytes = refl
 binds_else_to_the_nearest_if : statement 64 (mark (s.Word w.If) 1 ∷ name 65 2 ∷ mark (s.Word w.Then) 3 ∷ mark (s.Word w.If) 4 ∷ name 66 5 ∷ mark (s.Word w.Then) 6 ∷ name 67 7
     ∷ mark (s.Word w.Else) 8 ∷ name 68 9 ∷ stop 10)
     ≡ Got (stat.Statement.if_test (stat.Test.condition (variable 65 2))
-        (stat.Statement.if_test (stat.Test.condition (variable 66 5)) (stat.Statement.call (67 ∷ []) (trees []) (at 7)) (statements (stat.Statement.call (68 ∷ []) (trees []) (at 9) ∷ [])) (at 4))
-        (statements []) (at 1)) (stop 10)
+    (stat.Statement.if_test (stat.Test.condition (variable 66 5)) (stat.Statement.call (67 ∷ []) (trees []) (at 7)) (statements (stat.Statement.call (68 ∷ []) (trees []) (at 9) ∷ [])) (at 4))
+    (statements []) (at 1)) (stop 10)
 unfolding readers
 binds_else_to_the_nearest_if = refl
 

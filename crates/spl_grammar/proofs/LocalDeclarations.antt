@@ -168,7 +168,7 @@ module _ (room : ℕ) (body_of : ℕ → Parser BodyRead) (u : Bool) (lb : (segm
   unfolding behind_heading
   local_behind_heading h = local_symbol (λ k. local_if _ (local_then local_take (λ _. local_then local_options (λ a. local_if a.forward (local_pure (decl.Declaration.forward (h a.split)))
       (local_if a.external (local_pure (decl.Declaration.external (h a.split))) (local_then (local_expect s.Semicolon) (λ _. local_then (lb (h a.split).segment) (λ b.
-          local_pure (decl.Declaration.procedure (h a.split) (decl.declarations b.0) b.1)))))))) (local_then (lb (h false).segment) (λ b. local_pure (decl.Declaration.procedure (h false) (decl.declarations b.0) b.1))))
+      local_pure (decl.Declaration.procedure (h a.split) (decl.declarations b.0) b.1)))))))) (local_then (lb (h false).segment) (λ b. local_pure (decl.Declaration.procedure (h false) (decl.declarations b.0) b.1))))
 
   local_procedure : (r : Option Kind) → IsLocal (procedure room body_of u r)
   unfolding procedure

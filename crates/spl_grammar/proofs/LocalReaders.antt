@@ -4,7 +4,6 @@ use Rattle.spl_tree.specs.declared.symbols.Symbol.{Symbol}
 use Rattle.spl_tree.specs.declared.symbols.Symbol.TheVariants as s
 use Rattle.spl_tree.specs.Symbols.{Lexeme}
 use Rattle.spl_grammar.specs.Readers.{Outcome, Got, Bad, Deep, Parser, and_then, followed, pure, refuse, by_symbol, take, at_place, allowed, same_symbol, expect, numbered, named_number, turns, repeat}
-
 pub use Rattle.spl_grammar.specs.Answers.{Agrees, here, there}
 
 -- the list at which a reader stops
@@ -78,8 +77,9 @@ then_alike f us vs l o p (past h) = past (then_shrinks f _ l o h)
 pub local_then : {A B : Type 0} {p : Parser A} {f : A → Parser B} → IsLocal p → ((a : A) → IsLocal (f a)) → IsLocal (followed p f)
 unfolding followed
 local_then {p = p} {f = f} l m = record {
-    shrinks = λ ts. then_shrinks f _ m (p ts) (l.shrinks ts);
-    alike = λ us vs ts more h. then_alike f us vs m (p ts) (p more) (l.alike us vs ts more h) }
+  shrinks = λ ts. then_shrinks f _ m (p ts) (l.shrinks ts);
+  alike = λ us vs ts more h. then_alike f us vs m (p ts) (p more) (l.alike us vs ts more h);
+}
 
 -- a choice by the first symbol
 symbol_shrinks : {A : Type 0} (f : Symbol → Parser A) → ((k : Symbol) → IsLocal (f k)) → (ts : List Lexeme)

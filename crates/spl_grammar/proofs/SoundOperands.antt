@@ -116,8 +116,8 @@ pub enclosed_explained : {most : ℕ} {p : Part} {d n : ℕ} {ts : List Lexeme} 
 unfolding enclosed
 enclosed_explained {p = p} {d = d} {n = n} {ts = ts} b room taken inner_one whole us sum w o l into out = explain_opening room taken _ us o l
     (λ t rest q i ok. explain_then whole _ (into t rest q i) (w rest ok) (λ e more v.
-        explain_expect s.Close _ more (stepped (out t rest q i e more v) (at_here op.mark (suc b) 0 more)) (few_more b room taken sum ok)
-        (λ z final r j. explain_pure e final (rw q (enclosed_by i (rw r at v) j)))))
+    explain_expect s.Close _ more (stepped (out t rest q i e more v) (at_here op.mark (suc b) 0 more)) (few_more b room taken sum ok)
+    (λ z final r j. explain_pure e final (rw q (enclosed_by i (rw r at v) j)))))
     (λ t rest q i no. too_many (into t rest q i) (one_more b room taken sum no))
 
 -- the arguments read so far, the last of them without its comma
@@ -135,8 +135,9 @@ so_far_is {ts = ts} {now = now} x = rw x.all (x.first.gives (x.last ∷ []) now 
 -- behind one more comma
 comma_behind : {es : List tree.Tree} {ts us : List Lexeme} {t : Lexeme} → SoFar es ts (t ∷ us) → Is s.Comma t → Before es ts us
 comma_behind {es = es} {ts = ts} {us = us} {t = t} x i = record {
-    gives = λ more rest a. rw (x.all, append_assoc x.before (x.last ∷ []) more) (x.first.gives (x.last ∷ more) rest (g.Arguments.several x.spelled.spelled i a));
-    opens = λ d. along (x.first.opens d) (inner (op.next_argument x.spelled.spelled i) here) }
+  gives = λ more rest a. rw (x.all, append_assoc x.before (x.last ∷ []) more) (x.first.gives (x.last ∷ more) rest (g.Arguments.several x.spelled.spelled i a));
+  opens = λ d. along (x.first.opens d) (inner (op.next_argument x.spelled.spelled i) here);
+}
 
 one_so_far : {e : tree.Tree} {ts rest : List Lexeme} → Spelled e ts rest → SoFar (e ∷ []) ts rest
 one_so_far {e = e} {ts = ts} v = record { before = []; last = e; middle = ts; all = refl; first = record { gives = λ more rest a. a; opens = λ d. here }; spelled = v }
@@ -153,16 +154,17 @@ module _ (most : ℕ) (b room taken : ℕ) (sum : b + room ≡ most + taken) (ok
   unfolding followed take and_then
   comma_explained es ts t us x i = explain_along whole _ (along ((comma_behind x i).opens (suc b)) (inner op.argument here)) (w us)
       (λ e rest v. explain_pure _ rest (record {
-          state = record { before = es; last = e; middle = us; all = refl; first = comma_behind x i; spelled = v };
-          less = λ _. let a = pt.shorter v.spelled in omega arith }))
+        state = record { before = es; last = e; middle = us; all = refl; first = comma_behind x i; spelled = v };
+        less = λ _. let a = pt.shorter v.spelled in omega arith;
+      }))
 
   argument_turn_explained : (es : List tree.Tree) (ts now : List Lexeme) → SoFar es ts now
       → Explains most (ArgumentTurn ts now) op.arguments (suc b) 0 ts (more_arguments room inner_one whole taken es now)
   unfolding more_arguments
   argument_turn_explained es ts now x = explain_symbol _ now (reached (x.first.opens (suc b)) (stepped (op.argument_whole x.spelled.spelled) (at_here op.mark (suc b) 0 now)))
       (few_more b room taken sum ok) (λ t us q. rw q (explain_if (is s.Comma t.symbol) _ _ (t ∷ us)
-          (λ e. comma_explained es ts t us (rw q at x) (is_it s.Comma t e))
-          (λ e. explain_pure _ (t ∷ us) (record { state = rw q at x; less = λ f. cc }))))
+      (λ e. comma_explained es ts t us (rw q at x) (is_it s.Comma t e))
+      (λ e. explain_pure _ (t ∷ us) (record { state = rw q at x; less = λ f. cc }))))
 
   turns_explained : (fuel : ℕ) (es : List tree.Tree) (ts now : List Lexeme) → length now < fuel → SoFar es ts now
       → Explains most (λ fs rest. g.Arguments fs ts rest) op.arguments (suc b) 0 ts (turns (more_arguments room inner_one whole taken) fuel es now)
@@ -187,9 +189,9 @@ module _ (most : ℕ) (d room taken : ℕ) (sum : d + room ≡ most + taken) (fi
   unfolding arguments
   listed_explained t us i = explain_opening room taken _ us (stepped (op.whole_primary (g.Primary.name i)) (at_here op.mark d 0 us)) (few d room taken sum fits)
       (λ o rest q j ok. rw q (rw (followed_assoc whole (λ e. repeat (more_arguments room inner_one whole taken) (e ∷ [])) (λ es. expect s.Close >>= (λ _. pure es)) rest)
-          (explain_then _ _ (op.call_arguments i j) (arguments_explained most d room taken sum ok inner_one whole (λ more. w more ok) rest) (λ es more a.
-              explain_expect s.Close _ more (stepped (op.call_close i j a) (at_here op.mark (suc d) 0 more)) (few_more d room taken sum ok)
-              (λ z final r k. explain_pure es final (listed_by j (rw r at a) k))))))
+      (explain_then _ _ (op.call_arguments i j) (arguments_explained most d room taken sum ok inner_one whole (λ more. w more ok) rest) (λ es more a.
+      explain_expect s.Close _ more (stepped (op.call_close i j a) (at_here op.mark (suc d) 0 more)) (few_more d room taken sum ok)
+      (λ z final r k. explain_pure es final (listed_by j (rw r at a) k))))))
       (λ o rest q j no. rw q (too_many (op.call_arguments i j) (one_more d room taken sum no)))
 
   -- a name, with what is in parentheses behind it
@@ -198,8 +200,8 @@ module _ (most : ℕ) (d room taken : ℕ) (sum : d + room ≡ most + taken) (fi
   unfolding named
   named_explained t us i = explain_symbol _ us (stepped (op.whole_primary (g.Primary.name i)) (at_here op.mark d 0 us)) (few d room taken sum fits) (λ u rest q.
       rw q (explain_if (is s.Open u.symbol) _ _ (u ∷ rest)
-          (λ e. explain_next _ _ (u ∷ rest) (listed_explained t (u ∷ rest) i) (λ es more v. explain_pure _ more (called t es (u ∷ rest) more i v)))
-          (λ e. explain_pure _ (u ∷ rest) (g.Primary.name i))))
+      (λ e. explain_next _ _ (u ∷ rest) (listed_explained t (u ∷ rest) i) (λ es more v. explain_pure _ more (called t es (u ∷ rest) more i v)))
+      (λ e. explain_pure _ (u ∷ rest) (g.Primary.name i))))
     where
       called : (t : Lexeme) (es : List tree.Tree) (us more : List Lexeme) → Is s.Name t → Listed es us more
           → g.Primary None (form_of_call es) (tree.Tree.named t.letters (tree.trees es) t.at) (t ∷ us) more
@@ -211,10 +213,10 @@ module _ (most : ℕ) (d room taken : ℕ) (sum : d + room ≡ most + taken) (fi
   unfolding addressed
   addressed_explained a t us i j = explain_symbol _ us (stepped (op.whole_primary (g.Primary.address i j)) (at_here op.mark d 0 us)) (few d room taken sum fits) (λ u rest q.
       rw q (explain_if (is s.Open u.symbol) _ _ (u ∷ rest)
-          (λ e. explain_next _ _ (u ∷ rest) (enclosed_explained d room taken inner_one whole (u ∷ rest) sum w
-              (stepped (op.whole_primary (g.Primary.address i j)) (at_here op.mark d 0 (u ∷ rest))) (few d room taken sum fits)
-              (λ o more r k. rw r (op.address_index i j k)) (λ o more r k e f v. rw r (op.address_close i j k v.spelled))) (λ f more v. explain_pure _ more (indexed f (u ∷ rest) more v)))
-          (λ e. explain_pure _ (u ∷ rest) (g.Primary.address i j))))
+      (λ e. explain_next _ _ (u ∷ rest) (enclosed_explained d room taken inner_one whole (u ∷ rest) sum w
+      (stepped (op.whole_primary (g.Primary.address i j)) (at_here op.mark d 0 (u ∷ rest))) (few d room taken sum fits)
+      (λ o more r k. rw r (op.address_index i j k)) (λ o more r k e f v. rw r (op.address_close i j k v.spelled))) (λ f more v. explain_pure _ more (indexed f (u ∷ rest) more v)))
+      (λ e. explain_pure _ (u ∷ rest) (g.Primary.address i j))))
     where
       indexed : (e : tree.Tree) (us more : List Lexeme) → Enclosed e us more
           → g.Primary None other (tree.Tree.address t.letters (tree.trees (e ∷ [])) a.at) (a ∷ t ∷ us) more
@@ -232,7 +234,7 @@ module _ (most : ℕ) (d room taken : ℕ) (sum : d + room ≡ most + taken) (fi
   -- type "(" expr ")"
   transfer_explained : (k : Kind) (t : Lexeme) (us : List Lexeme) → Is (s.Type k) t
       → Explains most (λ r rest. g.Primary None r.form r.tree (t ∷ us) rest) (op.primary None) d 0 (t ∷ us)
-          ((enclosed room inner_one whole taken >>= (λ e. pure (plain other (tree.Tree.transfer k e t.at)))) us)
+      ((enclosed room inner_one whole taken >>= (λ e. pure (plain other (tree.Tree.transfer k e t.at)))) us)
   transfer_explained k t us i = explain_next _ _ us (enclosed_explained d room taken inner_one whole us sum w (stepped (op.transfer_open i) (at_here op.mark d 0 us)) (few d room taken sum fits)
       (λ o more r j. rw r (op.transfer_inside i j)) (λ o more r j e f v. rw r (op.transfer_close i j v.spelled))) (λ f more v. explain_pure _ more (go f us more v))
     where
@@ -309,7 +311,7 @@ module _ (most : ℕ) (d room taken : ℕ) (sum : d + room ≡ most + taken) (fi
   unary_step_explained None (t ∷ us) = explain_if (is s.Not t.symbol) _ _ (t ∷ us)
       (λ e. inverse_explained t us (is_it s.Not t e))
       (λ e. explain_then (primary_by room inner_one whole taken t.symbol) (field t.at) op.primary_of (primary_explained_by most d room taken sum fits inner_one whole n w t us t.symbol refl)
-          (λ r rest p. field_explained d None r (t ∷ us) rest (few d room taken sum fits) p))
+      (λ r rest p. field_explained d None r (t ∷ us) rest (few d room taken sum fits) p))
   unary_step_explained (Some at) [] = bad (at_here _ _ _ _) (few d room taken sum fits)
   unary_step_explained (Some at) (t ∷ us) = explain_then (negative_by at t.symbol) (field at) op.primary_of (negative_explained_by d at t us t.symbol refl (few d room taken sum fits))
       (λ r rest p. field_explained d (Some at) r (t ∷ us) rest (few d room taken sum fits) p)

@@ -103,9 +103,9 @@ module _ (most d room : ℕ) (sum : d + room ≡ most + 0) where
   unfolding indexed
   indexed_explained t us i = explain_symbol _ us (chain (os.whole_reference (st.Reference.name i))) fine (λ u rest q. rw q (explain_if (is s.Open u.symbol) _ _ (u ∷ rest)
       (λ e. explain_next _ _ (u ∷ rest) (enclosed_explained d room 0 refuse (within room 0) (u ∷ rest) sum (λ more ok. within_explained room 0 d more sum ok)
-          (chain (os.whole_reference (st.Reference.name i))) fine
-          (λ o more r k. rw r (op.of_statement (os.index i k))) (λ o more r k e f v. rw r (op.of_statement (os.index_close i k (st.Expression.expression v.spelled)))))
-          (λ f more v. explain_pure _ more (element f (u ∷ rest) more v)))
+      (chain (os.whole_reference (st.Reference.name i))) fine
+      (λ o more r k. rw r (op.of_statement (os.index i k))) (λ o more r k e f v. rw r (op.of_statement (os.index_close i k (st.Expression.expression v.spelled)))))
+      (λ f more v. explain_pure _ more (element f (u ∷ rest) more v)))
       (λ e. explain_pure _ (u ∷ rest) (st.Reference.name i))))
     where
       element : (e : Tree) (us more : List Lexeme) → Enclosed e us more → st.Reference (tree.Tree.named t.letters (trees (e ∷ [])) t.at) (t ∷ us) more
@@ -119,13 +119,13 @@ module _ (most d room : ℕ) (sum : d + room ≡ most + 0) where
   unfolding source_behind followed take and_then
   source_behind_explained r ts us v = explain_symbol _ us (chain (os.source_mark v)) fine (λ k rest q. explain_if (is s.Comma k.symbol) _ _ (k ∷ rest)
       (λ e. let i = is_it s.Comma k e in let v1 = ref_at q v in
-        explain_next (enclosed room refuse (within room 0) 0) _ rest (enclosed_explained d room 0 refuse (within room 0) rest sum (λ more ok. within_explained room 0 d more sum ok)
-          (chain (os.source_open v1 i)) fine
-          (λ o more r j. op.of_statement (os.source_count (ref_at (ap (λ vs. k ∷ vs) r) v1) i j))
-          (λ o more r j e f x. op.of_statement (os.source_close (ref_at (ap (λ vs. k ∷ vs) r) v1) i j (st.Expression.expression x.spelled))))
-          (λ f more x. explain_pure _ more (count v1 i x)))
+      explain_next (enclosed room refuse (within room 0) 0) _ rest (enclosed_explained d room 0 refuse (within room 0) rest sum (λ more ok. within_explained room 0 d more sum ok)
+      (chain (os.source_open v1 i)) fine
+      (λ o more r j. op.of_statement (os.source_count (ref_at (ap (λ vs. k ∷ vs) r) v1) i j))
+      (λ o more r j e f x. op.of_statement (os.source_close (ref_at (ap (λ vs. k ∷ vs) r) v1) i j (st.Expression.expression x.spelled))))
+      (λ f more x. explain_pure _ more (count v1 i x)))
       (λ e. explain_expect (s.Word w.While) _ (k ∷ rest) (chain (os.source_mark (ref_at q v))) fine (λ l more r j. let v2 = ref_at (q ∙ r) v in
-        explain_named class_of _ more (chain (os.source_class v2 j)) fine (λ n t final y a b. explain_pure _ final (st.Source.while_class (ref_at (ap (λ vs. l ∷ vs) y) v2) j a b)))))
+      explain_named class_of _ more (chain (os.source_class v2 j)) fine (λ n t final y a b. explain_pure _ final (st.Source.while_class (ref_at (ap (λ vs. l ∷ vs) y) v2) j a b)))))
     where
       count : {k : Lexeme} {e : Tree} {rest more : List Lexeme} → st.Reference r ts (k ∷ rest) → Is s.Comma k → Enclosed e rest more → st.Source (stat.Source.counted r e) ts more
       count v i (enclosed_by o x z) = st.Source.counted v i o (st.Expression.expression x.spelled) z
@@ -149,11 +149,11 @@ module _ (most d room : ℕ) (sum : d + room ≡ most + 0) where
   -- WHILE or UNTIL, and the test word of a SCAN
   scanned_explained : (m : Lexeme) (rest : List Lexeme) → Is (s.Word w.Scan) m → (r : Tree) (after : List Lexeme) → st.Reference r rest after
       → Explains most (λ x final. st.Effect x (m ∷ rest) final) part.effect d 0 (m ∷ rest)
-          ((while_or_until >>= (λ until. expression room 0 >>= (λ e. pure (stat.Effect.scan r until e)))) after)
+      ((while_or_until >>= (λ until. expression room 0 >>= (λ e. pure (stat.Effect.scan r until e)))) after)
   unfolding while_or_until
   scanned_explained m rest i r after v = explain_next _ _ after (explain_symbol {W = ScanWord after} _ after (chain (os.scan_mark i v)) fine (λ k more q. rw q (explain_if (is (s.Word w.Until) k.symbol) _ _ (k ∷ more)
-          (λ e. er.taken_explained _ (explain_pure true more (until_word (is_it (s.Word w.Until) k e))))
-          (λ e. explain_expect (s.Word w.While) _ (k ∷ more) (chain (os.scan_mark i (ref_at q v))) fine (λ l final q2 j. explain_pure false final (rw q2 (while_word j)))))))
+      (λ e. er.taken_explained _ (explain_pure true more (until_word (is_it (s.Word w.Until) k e))))
+      (λ e. explain_expect (s.Word w.While) _ (k ∷ more) (chain (os.scan_mark i (ref_at q v))) fine (λ l final q2 j. explain_pure false final (rw q2 (while_word j)))))))
       (λ until more word. go until after more v word)
     where
       go : (until : Bool) (after more : List Lexeme) → st.Reference r rest after → ScanWord after until more
@@ -179,9 +179,9 @@ module _ (most d room : ℕ) (sum : d + room ≡ most + 0) where
   unfolding value
   value_explained x ts us k v i = explain_symbol _ us (chain (os.value v i)) fine (λ u rest q. explain_if (begins_effect u.symbol) _ _ (u ∷ rest)
       (λ e. explain_then (effect room) _ (op.of_statement (os.value_effect (target_at (ap (λ vs. k ∷ vs) q) v) i)) (effect_explained (u ∷ rest)) (λ y more z.
-          explain_pure _ more (got_assign_effect (st.Statement.assign_effect (target_at (ap (λ vs. k ∷ vs) q) v) i z))))
+      explain_pure _ more (got_assign_effect (st.Statement.assign_effect (target_at (ap (λ vs. k ∷ vs) q) v) i z))))
       (λ e. explain_then (expression room 0) _ (op.of_statement (os.value (target_at (ap (λ vs. k ∷ vs) q) v) i)) (expr_explained d room (u ∷ rest) sum) (λ y more z.
-          explain_pure _ more (got_assign (st.Statement.assign (target_at (ap (λ vs. k ∷ vs) q) v) i z)))))
+      explain_pure _ more (got_assign (st.Statement.assign (target_at (ap (λ vs. k ∷ vs) q) v) i z)))))
 
   assigned_explained : (x : stat.Target) (ts us : List Lexeme) → st.Target x ts us
       → Explains most (λ y rest. StatementGot y ts rest) part.statement d 0 ts (assigned room x (g.place ts) us)
@@ -232,8 +232,9 @@ read_is {ts = ts} {now = now} x = rw x.all (x.first.gives (x.last ∷ []) now (s
 
 semicolon_behind : {xs : List stat.Statement} {ts us : List Lexeme} {t : Lexeme} → ReadSoFar xs ts (t ∷ us) → Is s.Semicolon t → Ahead xs ts us
 semicolon_behind {xs = xs} {ts = ts} {us = us} {t = t} x i = record {
-    gives = λ more rest a. rw (x.all, append_assoc x.before (x.last ∷ []) more) (x.first.gives (x.last ∷ more) rest (st.Statements.more x.spelled i a));
-    opens = λ d. along (x.first.opens d) (inner (op.of_statement (os.next_statement x.spelled i)) here) }
+  gives = λ more rest a. rw (x.all, append_assoc x.before (x.last ∷ []) more) (x.first.gives (x.last ∷ more) rest (st.Statements.more x.spelled i a));
+  opens = λ d. along (x.first.opens d) (inner (op.of_statement (os.next_statement x.spelled i)) here);
+}
 
 one_read : {x : stat.Statement} {ts rest : List Lexeme} → st.Statement x ts rest → ReadSoFar (x ∷ []) ts rest
 one_read {x = x} {ts = ts} v = record { before = []; last = x; middle = ts; all = refl; first = record { gives = λ more rest a. a; opens = λ d. here }; spelled = v }
@@ -248,8 +249,9 @@ module _ (most d : ℕ) (l : nesting d 0 ≤ most) (one : Parser stat.Statement)
   unfolding followed take and_then
   semicolon_explained xs ts t us x i = explain_along one _ (along ((semicolon_behind x i).opens d) (inner (op.of_statement os.first_statement) here)) (claim us)
       (λ y rest v. explain_pure _ rest (record {
-          state = record { before = xs; last = y; middle = us; all = refl; first = semicolon_behind x i; spelled = v };
-          less = λ _. let a = tk.no_longer v in omega arith }))
+        state = record { before = xs; last = y; middle = us; all = refl; first = semicolon_behind x i; spelled = v };
+        less = λ _. let a = tk.no_longer v in omega arith;
+      }))
 
   list_turn_explained : (xs : List stat.Statement) (ts now : List Lexeme) → ReadSoFar xs ts now → Explains most (ListTurn ts now) part.statements d 0 ts (more_statements one xs now)
   unfolding more_statements
@@ -313,8 +315,8 @@ module _ (most d room below : ℕ) (sum : d + room ≡ most + 0) (one : Parser s
   unfolding arguments
   listed_explained t us i = explain_opening room 0 _ us (chain (os.whole_statement (st.Statement.call i))) good
       (λ o rest q j ok. rw q (rw (followed_assoc (within room 0) (λ e. repeat (more_arguments room refuse (within room 0) 0) (e ∷ [])) (λ es. expect s.Close >>= (λ _. pure es)) rest)
-          (explain_then _ _ (op.of_statement (os.call_arguments i j)) (arguments_explained most d room 0 sum ok refuse (within room 0) (λ more. within_explained room 0 d more sum ok) rest) (λ es more a.
-              explain_expect s.Close _ more (chain (os.call_close i j a)) (deeper ok) (λ z final r k. explain_pure es final (listed_by j (rw r at a) k))))))
+      (explain_then _ _ (op.of_statement (os.call_arguments i j)) (arguments_explained most d room 0 sum ok refuse (within room 0) (λ more. within_explained room 0 d more sum ok) rest) (λ es more a.
+      explain_expect s.Close _ more (chain (os.call_close i j a)) (deeper ok) (λ z final r k. explain_pure es final (listed_by j (rw r at a) k))))))
       (λ o rest q j no. rw q (too_many (op.of_statement (os.call_arguments i j)) (one_more d room 0 sum no)))
 
   with_explained : (t : Lexeme) (us : List Lexeme) → Is s.Name t → Explains most (λ x rest. StatementGot x (t ∷ us) rest) part.statement d 0 (t ∷ us) (with_arguments room below one t us)
@@ -323,7 +325,7 @@ module _ (most d room below : ℕ) (sum : d + room ≡ most + 0) (one : Parser s
     where
       go : (es : List Tree) (us rest : List Lexeme) → Listed es us rest → Explains most (λ x rest. StatementGot x (t ∷ us) rest) part.statement d 0 (t ∷ us)
           ((if is_single es then behind_reference room (tree.Tree.named t.letters (trees es) t.at) t.at (stat.Statement.call t.letters (trees es) t.at)
-              else pure (stat.Statement.call t.letters (trees es) t.at)) rest)
+          else pure (stat.Statement.call t.letters (trees es) t.at)) rest)
       go _ _ rest (listed_by o (g.Arguments.one l) z) = behind_explained most d room sum _ _ _ rest (st.Reference.element i o (st.Expression.expression l) z)
           (got_call (st.Statement.call_with i o (g.Arguments.one l) z))
       go _ _ rest (listed_by o (g.Arguments.several l k (g.Arguments.one m)) z) = explain_pure _ rest (got_call (st.Statement.call_with i o (g.Arguments.several l k (g.Arguments.one m)) z))
@@ -334,8 +336,8 @@ module _ (most d room below : ℕ) (sum : d + room ≡ most + 0) (one : Parser s
   unfolding named_statement labelled closed
   named_explained t us i = explain_symbol _ us (chain (os.whole_statement (st.Statement.call i))) good (λ k rest q. rw q (
       explain_if (is s.Colon k.symbol) _ _ (k ∷ rest) (λ e. let j = is_it s.Colon k e in
-          entered _ k rest (t ∷ k ∷ rest) (λ ok. explain_then one _ (op.of_statement (os.label i j)) (claim rest ok) (λ x more v.
-              explain_pure _ more (record { spelled = st.Statement.labelled i j v.spelled; ends = v.ends }))) (op.of_statement (os.label i j))) (λ _.
+      entered _ k rest (t ∷ k ∷ rest) (λ ok. explain_then one _ (op.of_statement (os.label i j)) (claim rest ok) (λ x more v.
+      explain_pure _ more (record { spelled = st.Statement.labelled i j v.spelled; ends = v.ends }))) (op.of_statement (os.label i j))) (λ _.
       explain_if (is s.Open k.symbol) _ _ (k ∷ rest) (λ _. with_explained t (k ∷ rest) i) (λ _.
       behind_explained most d room sum _ _ (t ∷ k ∷ rest) (k ∷ rest) (st.Reference.name i) (got_call (st.Statement.call i))))))
 
@@ -368,8 +370,8 @@ module _ (most d room below : ℕ) (sum : d + room ≡ most + 0) (one : Parser s
   else_explained i t us mid [] q x ok j v k y = bad (chain (os.whole_statement (st.Statement.if_then j v k y.spelled))) good
   else_explained i t us mid (l ∷ rest) q x ok j v k y = explain_if (is (s.Word w.Else) l.symbol) _ _ (l ∷ rest)
       (λ e. let o = is_it (s.Word w.Else) l e in let c = y.ends l rest refl o in
-        explain_then one _ (op.of_statement (os.else_branch j v k y.spelled c o)) (claim rest ok) (λ z more u.
-        explain_pure _ more (record { spelled = st.Statement.if_else j v k y.spelled c o u.spelled; ends = u.ends })))
+      explain_then one _ (op.of_statement (os.else_branch j v k y.spelled c o)) (claim rest ok) (λ z more u.
+      explain_pure _ more (record { spelled = st.Statement.if_else j v k y.spelled c o u.spelled; ends = u.ends })))
       (λ e. explain_pure _ (l ∷ rest) (record { spelled = st.Statement.if_then j v k y.spelled; ends = λ m ms r o. absurd (no_else l m rest ms r o e) }))
 
   if_explained : (i : Lexeme) (us : List Lexeme) → Is (s.Word w.If) i → Explains most (λ x rest. StatementGot x (i ∷ us) rest) part.statement d 0 (i ∷ us) (if_statement room below one (i ∷ us))
@@ -410,7 +412,7 @@ module _ (most d room below : ℕ) (sum : d + room ≡ most + 0) (one : Parser s
   unfolding stepped followed take and_then
   for_step_explained f t k us after a ok i j l v = explain_symbol _ after (chain (os.for_step i j l v)) (deeper ok) (λ p rest q. explain_if (is (s.Word w.Step) p.symbol) _ _ (p ∷ rest)
       (λ e. explain_then (expression below 0) _ (op.of_statement (os.for_step_value i j l (expr_at q v) (is_it (s.Word w.Step) p e))) (expr_explained (suc d) below rest (lower ok)) (λ x more y.
-          explain_pure _ more (rw q (st.Stepped.step (is_it (s.Word w.Step) p e) y))))
+      explain_pure _ more (rw q (st.Stepped.step (is_it (s.Word w.Step) p e) y))))
       (λ e. explain_pure _ (p ∷ rest) (rw q st.Stepped.absent)))
 
   for_explained : (f : Lexeme) (us : List Lexeme) → Is (s.Word w.For) f → Explains most (λ x rest. StatementGot x (f ∷ us) rest) part.statement d 0 (f ∷ us) (for_statement room below one (f ∷ us))

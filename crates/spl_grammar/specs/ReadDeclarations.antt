@@ -41,24 +41,24 @@ item = expect s.Name >>= λ t. by_symbol (λ k. if is s.Assign k
 unfoldable pub shape : Parser decl.Shape
 shape = by_symbol (λ k. if operator_of k == 13
     then (do
-        _ ← take
-        _ ← expect s.Close
-        _ ← expect (s.Operator 5)
-        b ← expect s.Name
-        pure (decl.Shape.view b.letters))
+      _ ← take
+      _ ← expect s.Close
+      _ ← expect (s.Operator 5)
+      b ← expect s.Name
+      pure (decl.Shape.view b.letters))
     else (do
-        a ← constant
-        _ ← expect s.Colon
-        b ← constant
-        _ ← expect s.Close
-        pure (decl.Shape.array a b)))
+      a ← constant
+      _ ← expect s.Colon
+      b ← constant
+      _ ← expect s.Close
+      pure (decl.Shape.array a b)))
 
 unfoldable pub array : Parser decl.Item
 array = do
-    t ← expect s.Name
-    _ ← expect s.Open
-    x ← shape
-    pure (record { name = t.letters; at = t.at; shape = x; first = [] })
+  t ← expect s.Name
+  _ ← expect s.Open
+  x ← shape
+  pure (record { name = t.letters; at = t.at; shape = x; first = [] })
 
 -- the last item of a list with these initial values
 abbrev pub with_values : List tree.Constant → decl.Item → decl.Item
@@ -79,11 +79,11 @@ more_terms ts = by_symbol (λ k. if is_sign (operator_of k)
 
 unfoldable pub equal : Parser decl.Equal
 equal = do
-    t ← expect s.Name
-    _ ← expect (s.Operator 5)
-    v ← constant
-    ts ← repeat more_terms (record { minus = false; value = v } ∷ [])
-    pure (record { name = t.letters; at = t.at; terms = ts })
+  t ← expect s.Name
+  _ ← expect (s.Operator 5)
+  v ← constant
+  ts ← repeat more_terms (record { minus = false; value = v } ∷ [])
+  pure (record { name = t.letters; at = t.at; terms = ts })
 
 -- what is read depends on the first token
 unfoldable pub by_token : {A : Type 0} → (Lexeme → Parser A) → Parser A
@@ -132,11 +132,11 @@ heading_tail = expect s.Semicolon >>= λ _. by_symbol (λ k. if is (s.Word w.Val
 -- a heading without its options, of this segment or of that in force at its word
 unfoldable pub heading : Option Kind → (Lexeme → ℕ) → Parser (Bool → decl.Heading)
 heading r segment = do
-    p ← take
-    t ← expect s.Name
-    ns ← parameters
-    x ← heading_tail
-    pure (λ split. record { result = r; name = t.letters; names = ns; values = x.0; specs = x.1; split = split; at = t.at; segment = segment p })
+  p ← take
+  t ← expect s.Name
+  ns ← parameters
+  x ← heading_tail
+  pure (λ split. record { result = r; name = t.letters; names = ns; values = x.0; specs = x.1; split = split; at = t.at; segment = segment p })
 
 -- the declarations and statements of a body
 abbrev pub BodyRead : Type 0
@@ -154,7 +154,7 @@ module _ (room : ℕ) (body : ℕ → Parser BodyRead) (u : Bool) where
   unfoldable pub behind_heading : (Bool → decl.Heading) → Parser decl.Declaration
   behind_heading h = by_symbol (λ k. if is (s.Word w.Options) k
       then (take >>= λ _. options >>= λ a. if a.forward then pure (decl.Declaration.forward (h a.split)) else if a.external then pure (decl.Declaration.external (h a.split))
-          else (expect s.Semicolon >>= λ _. body (h a.split).segment >>= λ b. pure (decl.Declaration.procedure (h a.split) (declarations b.0) b.1)))
+      else (expect s.Semicolon >>= λ _. body (h a.split).segment >>= λ b. pure (decl.Declaration.procedure (h a.split) (declarations b.0) b.1)))
       else (body (h false).segment >>= λ b. pure (decl.Declaration.procedure (h false) (declarations b.0) b.1)))
 
   unfoldable pub procedure : Option Kind → Parser decl.Declaration
@@ -221,17 +221,25 @@ module _ (room : ℕ) (body : ℕ → Parser BodyRead) (u : Bool) where
 unfoldable pub body : ℕ → ℕ → Parser BodyRead
 body room segment = by_symbol (λ k. if is (s.Word w.Begin) k
     then (do
-        _ ← take
-        ds ← declaration_list room (λ _. refuse) false segment
-        xs ← statement_list (statement room)
-        _ ← expect (s.Word w.End)
-        pure (ds, xs))
+      _ ← take
+      ds ← declaration_list room (λ _. refuse) false segment
+      xs ← statement_list (statement room)
+      _ ← expect (s.Word w.End)
+      pure (ds, xs))
     else (statement room >>= λ x. if can_be_body x then pure ([], x ∷ []) else refuse))
 
 -- the subroutines among declarations, of this segment
 abbrev pub of_segment : ℕ → decl.Declaration → decl.Declaration
-of_segment segment (decl.Declaration.subroutine h x) = decl.Declaration.subroutine (record { result = h.result; name = h.name; names = h.names; values = h.values; specs = h.specs;
-    split = h.split; at = h.at; segment = segment }) x
+of_segment segment (decl.Declaration.subroutine h x) = decl.Declaration.subroutine (record {
+  result = h.result;
+  name = h.name;
+  names = h.names;
+  values = h.values;
+  specs = h.specs;
+  split = h.split;
+  at = h.at;
+  segment = segment;
+}) x
 of_segment segment d = d
 
 -- the segment in force at the next token
@@ -242,11 +250,11 @@ next_segment (t ∷ ts) = Got t.segment (t ∷ ts)
 -- a unit
 unfoldable pub unit : ℕ → Parser UnitTree
 unit room = do
-    b ← expect (s.Word w.Begin)
-    ds ← declaration_list room (body room) true 0
-    segment ← next_segment
-    xs ← statement_list (statement room)
-    _ ← expect (s.Word w.End)
-    _ ← expect s.Dot
-    _ ← expect s.Stop
-    pure (record { items = map (of_segment segment) ds; statements = xs; segment = segment; at = b.at })
+  b ← expect (s.Word w.Begin)
+  ds ← declaration_list room (body room) true 0
+  segment ← next_segment
+  xs ← statement_list (statement room)
+  _ ← expect (s.Word w.End)
+  _ ← expect s.Dot
+  _ ← expect s.Stop
+  pure (record { items = map (of_segment segment) ds; statements = xs; segment = segment; at = b.at })

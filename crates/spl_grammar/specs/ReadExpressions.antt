@@ -47,13 +47,13 @@ operator_of _ = 99
 -- primary ".(" const ":" const ")", from its dot on
 unfoldable pub bits : At → Found → Parser Found
 bits at r = do
-    _ ← expect s.Dot
-    _ ← expect s.Open
-    a ← constant
-    _ ← expect s.Colon
-    b ← constant
-    _ ← expect s.Close
-    pure (record { count = 0; form = other; tree = tree.Tree.field r.tree a b at })
+  _ ← expect s.Dot
+  _ ← expect s.Open
+  a ← constant
+  _ ← expect s.Colon
+  b ← constant
+  _ ← expect s.Close
+  pure (record { count = 0; form = other; tree = tree.Tree.field r.tree a b at })
 
 -- what may follow a primary
 unfoldable pub field : At → Found → Parser Found
@@ -82,10 +82,10 @@ module _ (room : ℕ) (inner : Parser Found) (whole : Parser tree.Tree) (taken :
   -- "(" expr ")"
   unfoldable pub enclosed : Parser tree.Tree
   enclosed = do
-      _ ← opening room taken
-      e ← whole
-      _ ← expect s.Close
-      pure e
+    _ ← opening room taken
+    e ← whole
+    _ ← expect s.Close
+    pure e
 
   -- { "," expr }
   unfoldable pub more_arguments : List tree.Tree → Parser (Bool × List tree.Tree)
@@ -94,11 +94,11 @@ module _ (room : ℕ) (inner : Parser Found) (whole : Parser tree.Tree) (taken :
   -- "(" expr { "," expr } ")"
   unfoldable pub arguments : Parser (List tree.Tree)
   arguments = do
-      _ ← opening room taken
-      e ← whole
-      es ← repeat more_arguments (e ∷ [])
-      _ ← expect s.Close
-      pure es
+    _ ← opening room taken
+    e ← whole
+    es ← repeat more_arguments (e ∷ [])
+    _ ← expect s.Close
+    pure es
 
   -- a name, with the arguments behind it
   unfoldable pub named : Lexeme → Parser Found
@@ -157,8 +157,11 @@ module _ (unary : ℕ → Option At → Parser Found) (count : ℕ → Parser tr
   unfoldable pub signed_by_next : (ℕ → Option At → Parser Found) → ℕ → Lexeme → Symbol → Parser Found
   signed_by_next below n t k = if (operator_of t.symbol == 12) && is_number k
       then (below n (Some t.at) >>= λ r. pure (record { count = r.count; form = other; tree = r.tree }))
-      else (below n None >>= λ r. pure (record { count = r.count; form = other;
-          tree = tree.Tree.unary (sign_number (operator_of t.symbol)) r.tree t.at }))
+      else (below n None >>= λ r. pure (record {
+        count = r.count;
+        form = other;
+        tree = tree.Tree.unary (sign_number (operator_of t.symbol)) r.tree t.at;
+      }))
 
   -- the first operand of a level, behind n operators
   unfoldable pub first : (ℕ → Option At → Parser Found) → ℕ → ℕ → Option At → Parser Found
@@ -169,29 +172,35 @@ module _ (unary : ℕ → Option At → Parser Found) (count : ℕ → Parser tr
   -- operator right
   unfoldable pub join : (ℕ → Option At → Parser Found) → ℕ → At → Found → Parser (Bool × Found)
   join below h at r = do
-      o ← counted r.count
-      b ← below (suc r.count) None
-      pure (not (suc h == 4), record { count = b.count; form = if suc h == 4 then compared r.form b.form else other;
-          tree = tree.Tree.binary (operator_of o.symbol) r.tree b.tree at })
+    o ← counted r.count
+    b ← below (suc r.count) None
+    pure (
+      not (suc h == 4),
+      record {
+        count = b.count;
+        form = if suc h == 4 then compared r.form b.form else other;
+        tree = tree.Tree.binary (operator_of o.symbol) r.tree b.tree at;
+      },
+    )
 
   -- "&" (ASL|ASR|LSL|LSR|CSL|CSR) "(" const ")"
   unfoldable pub shifted : At → Found → Parser (Bool × Found)
   shifted at r = do
-      _ ← counted r.count
-      k ← named_number shift_of
-      _ ← expect s.Open
-      v ← constant
-      _ ← expect s.Close
-      pure (true, record { count = suc r.count; form = other; tree = tree.Tree.shift k r.tree v at })
+    _ ← counted r.count
+    k ← named_number shift_of
+    _ ← expect s.Open
+    v ← constant
+    _ ← expect s.Close
+    pure (true, record { count = suc r.count; form = other; tree = tree.Tree.shift k r.tree v at })
 
   -- "," "(" expr ")" behind two references and a relation
   unfoldable pub bytes : Found → Parser (Bool × Found)
   bytes r = do
-      _ ← take
-      _ ← opening room (taken + r.count / 8)
-      e ← count (taken + r.count / 8)
-      _ ← expect s.Close
-      pure (true, record { count = r.count; form = other; tree = bytes_of r.tree e })
+    _ ← take
+    _ ← opening room (taken + r.count / 8)
+    e ← count (taken + r.count / 8)
+    _ ← expect s.Close
+    pure (true, record { count = r.count; form = other; tree = bytes_of r.tree e })
 
   -- what goes on with a part of level suc h
   unfoldable pub turn_by : (ℕ → Option At → Parser Found) → ℕ → At → Found → Symbol → Parser (Bool × Found)

@@ -39,19 +39,19 @@ while_or_until = by_symbol (λ k. if is (s.Word w.Until) k then (take >>= λ _. 
 
 unfoldable pub move : ℕ → Parser stat.Effect
 move room = do
-    _ ← expect (s.Word w.Move)
-    r ← reference room
-    _ ← expect s.Assign
-    x ← source room
-    pure (stat.Effect.move r x)
+  _ ← expect (s.Word w.Move)
+  r ← reference room
+  _ ← expect s.Assign
+  x ← source room
+  pure (stat.Effect.move r x)
 
 unfoldable pub scan : ℕ → Parser stat.Effect
 scan room = do
-    _ ← expect (s.Word w.Scan)
-    r ← reference room
-    until ← while_or_until
-    e ← expression room 0
-    pure (stat.Effect.scan r until e)
+  _ ← expect (s.Word w.Scan)
+  r ← reference room
+  until ← while_or_until
+  e ← expression room 0
+  pure (stat.Effect.scan r until e)
 
 unfoldable pub effect : ℕ → Parser stat.Effect
 effect room = by_symbol (λ k. if is (s.Word w.Scan) k then scan room else move room)
@@ -76,13 +76,13 @@ assigned room to at = expect s.Assign >>= λ _. value room to at
 -- a bit field as a target, from its dot on
 unfoldable pub field_assigned : ℕ → Tree → At → Parser stat.Statement
 field_assigned room r at = do
-    _ ← expect s.Dot
-    _ ← expect s.Open
-    a ← constant
-    _ ← expect s.Colon
-    b ← constant
-    _ ← expect s.Close
-    assigned room (stat.Target.field r a b) at
+  _ ← expect s.Dot
+  _ ← expect s.Open
+  a ← constant
+  _ ← expect s.Colon
+  b ← constant
+  _ ← expect s.Close
+  assigned room (stat.Target.field r a b) at
 
 -- behind a reference at the front of a statement, which is a call where no assignment follows
 unfoldable pub behind_reference : ℕ → Tree → At → stat.Statement → Parser stat.Statement
@@ -154,27 +154,27 @@ module _ (room below : ℕ) (inner : Parser stat.Statement) where
   -- FOR name ":=" expr [STEP expr] UNTIL expr DO statement
   unfoldable pub for_statement : Parser stat.Statement
   for_statement = do
-      f ← enter room 0
-      t ← expect s.Name
-      _ ← expect s.Assign
-      a ← expression below 0
-      es ← stepped below
-      _ ← expect (s.Word w.Until)
-      b ← expression below 0
-      _ ← expect (s.Word w.Do)
-      x ← inner
-      pure (stat.Statement.for_values t.letters a (trees es) b x f.at)
+    f ← enter room 0
+    t ← expect s.Name
+    _ ← expect s.Assign
+    a ← expression below 0
+    es ← stepped below
+    _ ← expect (s.Word w.Until)
+    b ← expression below 0
+    _ ← expect (s.Word w.Do)
+    x ← inner
+    pure (stat.Statement.for_values t.letters a (trees es) b x f.at)
 
   -- CASE expr OF BEGIN statements END
   unfoldable pub case_statement : Parser stat.Statement
   case_statement = do
-      c ← enter room 0
-      e ← expression below 0
-      _ ← expect (s.Word w.Of)
-      _ ← expect (s.Word w.Begin)
-      xs ← statement_list inner
-      _ ← expect (s.Word w.End)
-      pure (stat.Statement.case_of e (statements xs) c.at)
+    c ← enter room 0
+    e ← expression below 0
+    _ ← expect (s.Word w.Of)
+    _ ← expect (s.Word w.Begin)
+    xs ← statement_list inner
+    _ ← expect (s.Word w.End)
+    pure (stat.Statement.case_of e (statements xs) c.at)
 
   -- GO [TO] name
   unfoldable pub go_statement : Parser stat.Statement

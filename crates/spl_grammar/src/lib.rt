@@ -7,7 +7,8 @@ mod unit_laws;
 
 pub use expression_laws::{
     condition_faults_stand, conditions_are_explained, conditions_are_read, conditions_are_unique,
-    expression_faults_stand, expressions_are_explained, expressions_are_read, expressions_are_unique,
+    expression_faults_stand, expressions_are_explained, expressions_are_read,
+    expressions_are_unique,
 };
 pub use statement_laws::{
     statement_faults_stand, statements_are_explained, statements_are_read, statements_are_unique,

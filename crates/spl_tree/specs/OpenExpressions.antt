@@ -15,7 +15,6 @@ pub use Rattle.spl_tree.specs.Parts.{Part, constant, level, unary, primary, argu
 pub data Step : Part → ℕ → ℕ → List Lexeme → Part → ℕ → ℕ → List Lexeme → Type 0 where
   -- behind the sign of a constant
   constant_sign : {d n op : ℕ} {t : Lexeme} {ts : List Lexeme} → Is (s.Operator op) t → is_sign op ≡ true → Step constant d n (t ∷ ts) mark d n ts
-
   -- behind a part that is whole, where an operator may go on
   whole : {c : Bool} {f : Option At} {h m d n : ℕ} {x : Form} {e : tree.Tree} {ts rest : List Lexeme} → g.Level c f h m x e ts rest
       → Step (level c f h) d n ts mark d (n + m) rest
@@ -57,7 +56,6 @@ pub data Step : Part → ℕ → ℕ → List Lexeme → Part → ℕ → ℕ �
   bytes_close : {f : Option At} {h m j d n : ℕ} {x : Form} {e count : tree.Tree} {k o : Lexeme} {ts mid rest : List Lexeme} → (suc h == 8) ≡ true
       → g.Level true f h m comparison e ts (k ∷ o ∷ mid) → Is s.Comma k → Is s.Open o → g.Level false None 10 j x count mid rest
       → Step (level true f (suc h)) d n ts mark (suc (d + (n + m) / 8)) 0 rest
-
   -- behind a primary that is whole, where "(" or "." may go on
   whole_primary : {f : Option At} {d : ℕ} {x : Form} {e : tree.Tree} {ts rest : List Lexeme} → g.Primary f x e ts rest → Step (primary f) d 0 ts mark d 0 rest
   -- behind NOT
@@ -75,7 +73,6 @@ pub data Step : Part → ℕ → ℕ → List Lexeme → Part → ℕ → ℕ �
       → Is s.Dot b → Is s.Open o → g.Constant v mid (k ∷ next) → Is s.Colon k → Step (unary f) d 0 ts constant d 0 next
   bits_close : {f : Option At} {d : ℕ} {x : Form} {e : tree.Tree} {v w : tree.Constant} {b o k : Lexeme} {ts mid next rest : List Lexeme} → g.Primary f x e ts (b ∷ o ∷ mid)
       → Is s.Dot b → Is s.Open o → g.Constant v mid (k ∷ next) → Is s.Colon k → g.Constant w next rest → Step (unary f) d 0 ts mark d 0 rest
-
   -- name "(" arguments
   call_arguments : {d : ℕ} {t o : Lexeme} {ts : List Lexeme} → Is s.Name t → Is s.Open o → Step (primary None) d 0 (t ∷ o ∷ ts) arguments (suc d) 0 ts
   call_close : {d : ℕ} {es : List tree.Tree} {t o : Lexeme} {ts rest : List Lexeme} → Is s.Name t → Is s.Open o → g.Arguments es ts rest
@@ -96,14 +93,12 @@ pub data Step : Part → ℕ → ℕ → List Lexeme → Part → ℕ → ℕ �
       → Step (primary None) d 0 (t ∷ o ∷ ts) (level false None 10) (suc d) 0 ts
   transfer_close : {d n : ℕ} {k : Kind} {x : Form} {e : tree.Tree} {t o : Lexeme} {ts rest : List Lexeme} → Is (s.Type k) t → Is s.Open o
       → g.Level false None 10 n x e ts rest → Step (primary None) d 0 (t ∷ o ∷ ts) mark (suc d) 0 rest
-
   -- the arguments from one on, and from the next on
   argument : {d : ℕ} {ts : List Lexeme} → Step arguments d 0 ts (level false None 10) d 0 ts
   -- behind one, where a comma may go on
   argument_whole : {d n : ℕ} {x : Form} {e : tree.Tree} {ts rest : List Lexeme} → g.Level false None 10 n x e ts rest → Step arguments d 0 ts mark d 0 rest
   next_argument : {d n : ℕ} {x : Form} {e : tree.Tree} {k : Lexeme} {ts mid : List Lexeme} → g.Level false None 10 n x e ts (k ∷ mid) → Is s.Comma k
       → Step arguments d 0 ts arguments d 0 mid
-
   -- in a statement
   of_statement : {p q : Part} {d j : ℕ} {ts mid : List Lexeme} → StatementStep p d ts q j mid → Step p d 0 ts q j 0 mid
 

@@ -28,8 +28,16 @@ abbrev pub spec_tree : Spec → decl.Spec
 spec_tree x = record { kind = x.kind; array = x.array; names = map placed x.names.items }
 
 abbrev pub heading_tree : Heading → decl.Heading
-heading_tree h = record { result = h.result; name = letters h.name; names = map placed h.names.items; values = map placed h.values.items;
-    specs = map spec_tree h.specs.items; split = h.split; at = h.at; segment = h.segment }
+heading_tree h = record {
+  result = h.result;
+  name = letters h.name;
+  names = map placed h.names.items;
+  values = map placed h.values.items;
+  specs = map spec_tree h.specs.items;
+  split = h.split;
+  at = h.at;
+  segment = h.segment;
+}
 
 abbrev pub shape_tree : Shape → decl.Shape
 shape_tree shape.Simple = decl.Shape.simple
