@@ -19,7 +19,8 @@ use Rattle.spl_grammar.proofs.CalmReaders.{Calm, calm_pure, calm_refuse, calm_ta
 module _ {n : ℕ} {A : Type 0} (part : Parser A) (lp : Calm n part) where
   calm_more_parts : (xs : List A) → Calm n (more_parts part xs)
   unfolding more_parts
-  calm_more_parts xs = calm_symbol (λ k. calm_if _ (calm_then calm_take (λ _. calm_then lp (λ x. calm_pure _))) (calm_pure _))
+  calm_more_parts xs = calm_symbol
+      (λ k. calm_if _ (calm_then calm_take (λ _. calm_then lp (λ x. calm_pure _))) (calm_pure _))
 
   pub calm_separated : Calm n (separated part)
   unfolding separated
@@ -48,7 +49,8 @@ calm_array = search (calms, calm_shape) depth 7
 calm_more_arrays : {n : ℕ} (r : List decl.Item × decl.Item) → Calm n (more_arrays r)
 unfolding more_arrays
 calm_more_arrays r = calm_symbol (λ k. calm_if _ (calm_then calm_take (λ _. calm_then calm_array (λ i. calm_pure _)))
-    (calm_if _ (calm_then calm_take (λ _. calm_then (calm_separated constant calm_constant) (λ vs. calm_pure _))) (calm_pure _)))
+    (calm_if _ (calm_then calm_take (λ _. calm_then (calm_separated constant calm_constant) (λ vs. calm_pure _)))
+    (calm_pure _)))
 
 pub calm_arrays : {n : ℕ} → Calm n arrays
 unfolding arrays
@@ -60,7 +62,9 @@ calm_more_terms ts = search (calms, calm_constant) depth 7
 
 pub calm_equal : {n : ℕ} → Calm n equal
 unfolding equal
-calm_equal = calm_then (calm_expect _) (λ t. calm_then (calm_expect _) (λ _. calm_then calm_constant (λ v. calm_then (calm_repeat _ calm_more_terms) (λ ts. calm_pure _))))
+calm_equal = calm_then (calm_expect _)
+    (λ t. calm_then (calm_expect _)
+    (λ _. calm_then calm_constant (λ v. calm_then (calm_repeat _ calm_more_terms) (λ ts. calm_pure _))))
 
 calm_among : {n : ℕ} (a : Options) (o : Option Options) → Calm n (option_among a o)
 unfolding option_among
@@ -73,7 +77,8 @@ calm_option a = calm_token (λ t. calm_if _ (calm_among a _) calm_refuse)
 
 calm_more_options : {n : ℕ} (a : Options) → Calm n (more_options a)
 unfolding more_options
-calm_more_options a = calm_symbol (λ k. calm_if _ (calm_then calm_take (λ _. calm_then (calm_option a) (λ b. calm_pure _))) (calm_pure _))
+calm_more_options a = calm_symbol
+    (λ k. calm_if _ (calm_then calm_take (λ _. calm_then (calm_option a) (λ b. calm_pure _))) (calm_pure _))
 
 calm_options : {n : ℕ} → Calm n options
 unfolding options
@@ -94,7 +99,9 @@ calm_spec_behind c = search (calms, calm_spec_names)
 calm_spec_by : {n : ℕ} (ss : List decl.Spec) (k : Symbol) → Calm n (spec_by ss k)
 unfolding spec_by
 calm_spec_by ss (s.Type c) = search (calms, calm_spec_behind)
-calm_spec_by ss _ = calm_symbol (λ k. calm_if _ (calm_then calm_take (λ _. calm_then (calm_spec_names kind.Logical true) (λ x. calm_pure _))) (calm_pure _))
+calm_spec_by ss _ = calm_symbol
+    (λ k. calm_if _ (calm_then calm_take (λ _. calm_then (calm_spec_names kind.Logical true) (λ x. calm_pure _)))
+    (calm_pure _))
 
 calm_more_specs : {n : ℕ} (ss : List decl.Spec) → Calm n (more_specs ss)
 unfolding more_specs
@@ -105,7 +112,10 @@ calm_specs ss = calm_repeat ss calm_more_specs
 
 calm_tail : {n : ℕ} → Calm n heading_tail
 unfolding heading_tail
-calm_tail = calm_then (calm_expect _) (λ _. calm_symbol (λ k. calm_if _ (calm_then calm_take (λ _. calm_then calm_names (λ vs. calm_then (calm_expect _) (λ _. calm_then (calm_specs []) (λ ss. calm_pure _)))))
+calm_tail = calm_then (calm_expect _)
+    (λ _. calm_symbol (λ k. calm_if _
+    (calm_then calm_take (λ _. calm_then calm_names
+    (λ vs. calm_then (calm_expect _) (λ _. calm_then (calm_specs []) (λ ss. calm_pure _)))))
     (calm_then (calm_specs []) (λ ss. calm_pure _))))
 
 calm_heading : {n : ℕ} (r : Option Kind) (segment : Lexeme → ℕ) → Calm n (heading r segment)
@@ -123,9 +133,14 @@ module _ (room : ℕ) (body_of : ℕ → Parser BodyRead) (u : Bool) (lb : (segm
 
   calm_behind_heading : (h : Bool → decl.Heading) → Calm room (behind_heading room body_of u h)
   unfolding behind_heading
-  calm_behind_heading h = calm_symbol (λ k. calm_if _ (calm_then calm_take (λ _. calm_then calm_options (λ a. calm_if a.forward (calm_pure (decl.Declaration.forward (h a.split)))
-      (calm_if a.external (calm_pure (decl.Declaration.external (h a.split))) (calm_then (calm_expect s.Semicolon) (λ _. calm_then (lb (h a.split).segment) (λ b.
-      calm_pure (decl.Declaration.procedure (h a.split) (decl.declarations b.0) b.1)))))))) (calm_then (lb (h false).segment) (λ b. calm_pure (decl.Declaration.procedure (h false) (decl.declarations b.0) b.1))))
+  calm_behind_heading h = calm_symbol
+      (λ k. calm_if _ (calm_then calm_take
+      (λ _. calm_then calm_options (λ a. calm_if a.forward (calm_pure (decl.Declaration.forward (h a.split)))
+      (calm_if a.external (calm_pure (decl.Declaration.external (h a.split)))
+      (calm_then (calm_expect s.Semicolon) (λ _. calm_then (lb (h a.split).segment) (λ b.
+      calm_pure (decl.Declaration.procedure (h a.split) (decl.declarations b.0) b.1))))))))
+      (calm_then (lb (h false).segment)
+      (λ b. calm_pure (decl.Declaration.procedure (h false) (decl.declarations b.0) b.1))))
 
   calm_procedure : (r : Option Kind) → Calm room (procedure room body_of u r)
   unfolding procedure
@@ -140,11 +155,16 @@ module _ (room : ℕ) (body_of : ℕ → Parser BodyRead) (u : Bool) (lb : (segm
   calm_owned (s.Type c) = search (calms, calm_array_data, calm_item_data)
   calm_owned k = search (calms, calm_array_data)
 
-  calm_typed_by : (after : Bool) (segment : ℕ) (c : Kind) (k : Symbol) → Calm room (typed_by room body_of u after segment c k)
+  calm_typed_by : (after : Bool) (segment : ℕ) (c : Kind) (k : Symbol)
+      → Calm room (typed_by room body_of u after segment c k)
   unfolding typed_by
-  calm_typed_by after segment c k = calm_if (is (s.Word w.Subroutine) k) (calm_subroutine segment (Some c)) (calm_if after calm_refuse (calm_if (is (s.Word w.Array) k) (calm_array_data false c)
-      (calm_if (is (s.Word w.Pointer) k) (calm_then calm_take (λ _. calm_then calm_names (λ ns. calm_pure (decl.Declaration.data_items false c (pointers ns)))))
-      (calm_if (is (s.Word w.Procedure) k) (calm_if u (calm_procedure (Some c)) calm_refuse) (calm_item_data false c)))))
+  calm_typed_by after segment c k = calm_if (is (s.Word w.Subroutine) k) (calm_subroutine segment (Some c))
+      (calm_if after calm_refuse (calm_if (is (s.Word w.Array) k) (calm_array_data false c)
+      (calm_if (is (s.Word w.Pointer) k)
+      (calm_then calm_take (λ _. calm_then calm_names
+      (λ ns. calm_pure (decl.Declaration.data_items false c (pointers ns)))))
+      (calm_if (is (s.Word w.Procedure) k) (calm_if u (calm_procedure (Some c)) calm_refuse)
+      (calm_item_data false c)))))
 
   calm_typed : (after : Bool) (segment : ℕ) (c : Kind) → Calm room (typed room body_of u after segment c)
   unfolding typed
@@ -155,13 +175,17 @@ module _ (room : ℕ) (body_of : ℕ → Parser BodyRead) (u : Bool) (lb : (segm
   calm_by_word after segment w.Subroutine = calm_subroutine segment None
   calm_by_word after segment w.Own = calm_if _ calm_refuse (calm_then calm_take (λ _. calm_symbol calm_owned))
   calm_by_word after segment w.Array = calm_if _ calm_refuse (calm_array_data false kind.Logical)
-  calm_by_word after segment w.Equate = calm_if _ calm_refuse (calm_then calm_take (λ _. calm_then (calm_separated equal calm_equal) (λ es. calm_pure _)))
-  calm_by_word after segment w.Intrinsic = calm_if _ calm_refuse (calm_then calm_take (λ _. calm_then calm_names (λ ns. calm_pure _)))
-  calm_by_word after segment w.Label = calm_if _ calm_refuse (calm_then calm_take (λ _. calm_then calm_names (λ ns. calm_pure _)))
+  calm_by_word after segment w.Equate = calm_if _ calm_refuse
+      (calm_then calm_take (λ _. calm_then (calm_separated equal calm_equal) (λ es. calm_pure _)))
+  calm_by_word after segment w.Intrinsic = calm_if _ calm_refuse
+      (calm_then calm_take (λ _. calm_then calm_names (λ ns. calm_pure _)))
+  calm_by_word after segment w.Label = calm_if _ calm_refuse
+      (calm_then calm_take (λ _. calm_then calm_names (λ ns. calm_pure _)))
   calm_by_word after segment w.Procedure = calm_if _ calm_refuse (calm_if _ (calm_procedure None) calm_refuse)
   calm_by_word after segment _ = calm_refuse
 
-  calm_declaration_by : (after : Bool) (segment : ℕ) (k : Symbol) → Calm room (declaration_by room body_of u after segment k)
+  calm_declaration_by : (after : Bool) (segment : ℕ) (k : Symbol)
+      → Calm room (declaration_by room body_of u after segment k)
   unfolding declaration_by
   calm_declaration_by after segment (s.Type c) = calm_then calm_take (λ _. calm_typed after segment c)
   calm_declaration_by after segment (s.Word k) = calm_by_word after segment k
@@ -173,7 +197,9 @@ module _ (room : ℕ) (body_of : ℕ → Parser BodyRead) (u : Bool) (lb : (segm
 
   calm_more : (segment : ℕ) (r : Bool × List decl.Declaration) → Calm room (more_declarations room body_of u segment r)
   unfolding more_declarations
-  calm_more segment r = calm_symbol (λ k. calm_if _ (calm_then (calm_declaration r.0 segment) (λ d. calm_then (calm_expect _) (λ _. calm_pure _))) (calm_pure _))
+  calm_more segment r = calm_symbol
+      (λ k. calm_if _ (calm_then (calm_declaration r.0 segment) (λ d. calm_then (calm_expect _) (λ _. calm_pure _)))
+      (calm_pure _))
 
   pub calm_declaration_list : (segment : ℕ) → Calm room (declaration_list room body_of u segment)
   unfolding declaration_list
@@ -181,11 +207,16 @@ module _ (room : ℕ) (body_of : ℕ → Parser BodyRead) (u : Bool) (lb : (segm
 
 pub calm_body : (room segment : ℕ) → Calm room (body room segment)
 unfolding body
-calm_body room segment = calm_symbol (λ k. calm_if _ (calm_then calm_take (λ _. calm_then (calm_declaration_list room (λ _. refuse) false (λ _. calm_refuse) segment) (λ ds.
+calm_body room segment = calm_symbol
+    (λ k. calm_if _ (calm_then calm_take
+    (λ _. calm_then (calm_declaration_list room (λ _. refuse) false (λ _. calm_refuse) segment) (λ ds.
     calm_then (calm_list room) (λ xs. calm_then (calm_expect _) (λ _. calm_pure _)))))
     (calm_then (calm_statement room) (λ x. calm_if _ (calm_pure _) calm_refuse)))
 
 pub calm_unit : (room : ℕ) → Calm room (unit room)
 unfolding unit
-calm_unit room = calm_then (calm_expect _) (λ b. calm_then (calm_declaration_list room (body room) true (calm_body room) 0) (λ ds. calm_then calm_segment (λ segment.
-    calm_then (calm_list room) (λ xs. calm_then (calm_expect _) (λ _. calm_then (calm_expect _) (λ _. calm_then (calm_expect _) (λ _. calm_pure _)))))))
+calm_unit room = calm_then (calm_expect _)
+    (λ b. calm_then (calm_declaration_list room (body room) true (calm_body room) 0)
+    (λ ds. calm_then calm_segment (λ segment.
+    calm_then (calm_list room) (λ xs. calm_then (calm_expect _)
+    (λ _. calm_then (calm_expect _) (λ _. calm_then (calm_expect _) (λ _. calm_pure _)))))))

@@ -11,7 +11,8 @@ use Rattle.spl_grammar.proofs.PartTokens as pt
 use Rattle.spl_grammar.proofs.StatementTokens.{statement_step_bound}
 
 -- each operator of a part is a token of it
-pub operators_bound : {c : Bool} {f : Option At} {h n : ℕ} {x : Form} {e : tree.Tree} {ts rest : List Lexeme} → g.Level c f h n x e ts rest → n + length rest < length ts
+pub operators_bound : {c : Bool} {f : Option At} {h n : ℕ} {x : Form} {e : tree.Tree} {ts rest : List Lexeme}
+    → g.Level c f h n x e ts rest → n + length rest < length ts
 operators_bound (g.Level.operand u) = let a = pt.shorter_unary u in omega arith
 operators_bound (g.Level.up _ l) = operators_bound l
 operators_bound (g.Level.unsigned _ l) = operators_bound l
@@ -19,10 +20,12 @@ operators_bound (g.Level.signed _ _ _ _ l) = let a = operators_bound l in omega 
 operators_bound (g.Level.negative _ _ l) = let a = operators_bound l in omega arith
 operators_bound (g.Level.joined _ l _ _ r) = let a = operators_bound l in let b = operators_bound r in omega arith
 operators_bound (g.Level.related _ l _ _ r _) = let a = operators_bound l in let b = operators_bound r in omega arith
-operators_bound (g.Level.shifted _ l _ _ _ _ v _) = let a = operators_bound l in let b = pt.shorter_constant v in omega arith
+operators_bound (g.Level.shifted _ l _ _ _ _ v _) = let a = operators_bound l in let b = pt.shorter_constant v in omega
+    arith
 operators_bound (g.Level.bytes _ l _ _ r _) = let a = operators_bound l in let b = pt.shorter r in omega arith
 
-step_bound : {p q : Part} {d n j k : ℕ} {ts mid : List Lexeme} → Step p d n ts q j k mid → j + k + length mid ≤ d + n + length ts
+step_bound : {p q : Part} {d n j k : ℕ} {ts mid : List Lexeme} → Step p d n ts q j k mid
+    → j + k + length mid ≤ d + n + length ts
 step_bound (op.constant_sign _ _) = omega arith
 step_bound (op.whole l) = let a = operators_bound l in omega arith
 step_bound op.operand = omega arith
@@ -46,7 +49,8 @@ step_bound (op.bits_dot p _) = let a = pt.shorter_primary p in omega arith
 step_bound (op.bits_start p _ _) = let a = pt.shorter_primary p in omega arith
 step_bound (op.bits_colon p _ _ v) = let a = pt.shorter_primary p in let b = pt.shorter_constant v in omega arith
 step_bound (op.bits_length p _ _ v _) = let a = pt.shorter_primary p in let b = pt.shorter_constant v in omega arith
-step_bound (op.bits_close p _ _ v _ w) = let a = pt.shorter_primary p in let b = pt.shorter_constant v in let c = pt.shorter_constant w in omega arith
+step_bound (op.bits_close p _ _ v _ w) = let a = pt.shorter_primary p in let b = pt.shorter_constant v in let c =
+    pt.shorter_constant w in omega arith
 step_bound (op.call_arguments _ _) = omega arith
 step_bound (op.call_close _ _ a) = let b = pt.shorter_arguments a in omega arith
 step_bound (op.address_name _) = omega arith
@@ -62,6 +66,7 @@ step_bound (op.argument_whole l) = let b = pt.shorter l in omega arith
 step_bound (op.next_argument l _) = let b = pt.shorter l in omega arith
 step_bound (op.of_statement step) = let a = statement_step_bound step in omega arith
 
-pub chain_bound : {p q : Part} {d n j k : ℕ} {ts mid : List Lexeme} → Opens p d n ts q j k mid → j + k + length mid ≤ d + n + length ts
+pub chain_bound : {p q : Part} {d n j k : ℕ} {ts mid : List Lexeme} → Opens p d n ts q j k mid
+    → j + k + length mid ≤ d + n + length ts
 chain_bound op.here = omega arith
 chain_bound (op.inner step c) = let a = step_bound step in let b = chain_bound c in omega arith

@@ -33,7 +33,8 @@ use Rattle.spl_grammar.proofs.FirstTokens.{Begins, with_first, by_is}
 data FirstIs (k : Symbol) : List Lexeme → Type 0 where
   first_is : {t : Lexeme} {ts : List Lexeme} → Is k t → FirstIs k (t ∷ ts)
 
-by_first : {A : Type 0} {k : Symbol} (f : Symbol → Parser A) {ts m : List Lexeme} {y : Outcome A} → FirstIs k ts → Near (f k) ts m y → Near (by_symbol f) ts m y
+by_first : {A : Type 0} {k : Symbol} (f : Symbol → Parser A) {ts m : List Lexeme} {y : Outcome A} → FirstIs k ts
+    → Near (f k) ts m y → Near (by_symbol f) ts m y
 by_first f (first_is i) n = near_symbol f i n
 
 items_first : {is : List decl.Item} {ts rest : List Lexeme} → dl.Items is ts rest → FirstIs s.Name ts
@@ -44,24 +45,31 @@ items_first (more (dl.Item.valued i k v) j l) = first_is i
 
 -- what a heading comes to
 abbrev heading_of : Option Kind → Lexeme → List Placed → List Placed → List decl.Spec → ℕ → Bool → decl.Heading
-heading_of r t ns vs ss segment = λ split. record { result = r; name = t.letters; names = ns; values = vs; specs = ss; split = split; at = t.at; segment = segment }
+heading_of r t ns vs ss segment = λ split. record
+    { result = r; name = t.letters; names = ns; values = vs; specs = ss; split = split; at = t.at; segment = segment }
 
-specs_no_open : {ss : List decl.Spec} {k : Lexeme} {ts rest : List Lexeme} → dl.Specs ss ts (k ∷ rest) → Is s.Semicolon k → Begins (is s.Open) false ts
+specs_no_open : {ss : List decl.Spec} {k : Lexeme} {ts rest : List Lexeme} → dl.Specs ss ts (k ∷ rest)
+    → Is s.Semicolon k → Begins (is s.Open) false ts
 unfolding same_symbol symbol_number
 specs_no_open dl.Specs.none i = by_is _ _ _ _ _ i refl
 specs_no_open (dl.Specs.words j u l x) i = by_is _ _ _ _ _ j refl
 specs_no_open (dl.Specs.arrays j o u l x) i = by_is _ _ _ _ _ j refl
 
-values_no_open : {vs : List Placed} {ss : List decl.Spec} {k : Lexeme} {ts mid rest : List Lexeme} → dl.Values vs ts mid → dl.Specs ss mid (k ∷ rest) → Is s.Semicolon k → Begins (is s.Open) false ts
+values_no_open : {vs : List Placed} {ss : List decl.Spec} {k : Lexeme} {ts mid rest : List Lexeme}
+    → dl.Values vs ts mid → dl.Specs ss mid (k ∷ rest) → Is s.Semicolon k → Begins (is s.Open) false ts
 unfolding same_symbol symbol_number
 values_no_open dl.Values.absent x i = specs_no_open x i
 values_no_open (dl.Values.given k v l) x i = by_is _ _ _ _ _ k refl
 
-heading_read : {r : Option Kind} (segment : Lexeme → ℕ) {ns vs : List Placed} {ss : List decl.Spec} {p t k : Lexeme} {ts after_names after_values rest : List Lexeme} → Is s.Name t
-    → dl.Parameters ns ts after_names → dl.Values vs after_names after_values → dl.Specs ss after_values (k ∷ rest) → Is s.Semicolon k → Begins goes_on false rest
+heading_read : {r : Option Kind} (segment : Lexeme → ℕ) {ns vs : List Placed} {ss : List decl.Spec} {p t k : Lexeme}
+    {ts after_names after_values rest : List Lexeme} → Is s.Name t
+    → dl.Parameters ns ts after_names → dl.Values vs after_names after_values → dl.Specs ss after_values (k ∷ rest)
+    → Is s.Semicolon k → Begins goes_on false rest
     → Near (heading r segment) (p ∷ t ∷ ts) rest (Got (heading_of r t ns vs ss (segment p)) rest)
 unfolding heading
-heading_read segment i ns vs ss k b = near_then _ near_take (near_then _ (near_expect i) (near_then _ (parameters_read ns (values_no_open vs ss k)) (near_then _ (heading_tail_read vs ss k b) (near_pure _ _))))
+heading_read segment i ns vs ss k b = near_then _ near_take
+    (near_then _ (near_expect i) (near_then _ (parameters_read ns (values_no_open vs ss k))
+    (near_then _ (heading_tail_read vs ss k b) (near_pure _ _))))
 
 -- what can't begin the body of a procedure without BEGIN
 abbrev no_start : Symbol → Bool
@@ -72,24 +80,30 @@ both_false false false e = (refl, refl)
 both_false true b e = cc
 both_false false true e = cc
 
-reference_first : {test : Symbol → Bool} {r : tree.Tree} {ts rest : List Lexeme} → test s.Name ≡ false → st.Reference r ts rest → Begins test false ts
+reference_first : {test : Symbol → Bool} {r : tree.Tree} {ts rest : List Lexeme} → test s.Name ≡ false
+    → st.Reference r ts rest → Begins test false ts
 reference_first e (st.Reference.name i) = by_is _ _ _ _ _ i e
 reference_first e (st.Reference.element i _ _ _) = by_is _ _ _ _ _ i e
 
-target_first : {test : Symbol → Bool} {x : stat.Target} {ts rest : List Lexeme} → test s.Name ≡ false → test s.AtSign ≡ false → st.Target x ts rest → Begins test false ts
+target_first : {test : Symbol → Bool} {x : stat.Target} {ts rest : List Lexeme} → test s.Name ≡ false
+    → test s.AtSign ≡ false → st.Target x ts rest → Begins test false ts
 target_first a b (st.Target.plain r) = reference_first a r
 target_first a b (st.Target.field r _ _ _ _ _ _) = reference_first a r
 target_first a b (st.Target.address i _) = by_is _ _ _ _ _ i b
 
-effect_first : {test : Symbol → Bool} {x : stat.Effect} {ts rest : List Lexeme} → test (s.Word w.Move) ≡ false → test (s.Word w.Scan) ≡ false → st.Effect x ts rest → Begins test false ts
+effect_first : {test : Symbol → Bool} {x : stat.Effect} {ts rest : List Lexeme} → test (s.Word w.Move) ≡ false
+    → test (s.Word w.Scan) ≡ false → st.Effect x ts rest → Begins test false ts
 effect_first a b (st.Effect.move i _ _ _) = by_is _ _ _ _ _ i a
 effect_first a b (st.Effect.scan_while i _ _ _) = by_is _ _ _ _ _ i b
 effect_first a b (st.Effect.scan_until i _ _ _) = by_is _ _ _ _ _ i b
 
 -- the first token of a statement that can be a body
-statement_first : {test : Symbol → Bool} {x : stat.Statement} {ts rest : List Lexeme} → test s.Name ≡ false → test s.AtSign ≡ false → test (s.Word w.If) ≡ false → test (s.Word w.While) ≡ false
-    → test (s.Word w.Do) ≡ false → test (s.Word w.For) ≡ false → test (s.Word w.Case) ≡ false → test (s.Word w.Go) ≡ false → test (s.Word w.Goto) ≡ false → test (s.Word w.Return) ≡ false
-    → test (s.Word w.Move) ≡ false → test (s.Word w.Scan) ≡ false → st.Statement x ts rest → can_be_body x ≡ true → Begins test false ts
+statement_first : {test : Symbol → Bool} {x : stat.Statement} {ts rest : List Lexeme} → test s.Name ≡ false
+    → test s.AtSign ≡ false → test (s.Word w.If) ≡ false → test (s.Word w.While) ≡ false
+    → test (s.Word w.Do) ≡ false → test (s.Word w.For) ≡ false → test (s.Word w.Case) ≡ false
+    → test (s.Word w.Go) ≡ false → test (s.Word w.Goto) ≡ false → test (s.Word w.Return) ≡ false
+    → test (s.Word w.Move) ≡ false → test (s.Word w.Scan) ≡ false → st.Statement x ts rest → can_be_body x ≡ true
+    → Begins test false ts
 statement_first a b c d e f g h j k l m st.Statement.empty v = cc
 statement_first a b c d e f g h j k l m (st.Statement.block i x z) v = cc
 statement_first a b c d e f g h j k l m (st.Statement.labelled i _ x) v = by_is _ _ _ _ _ i a
@@ -109,12 +123,14 @@ statement_first a b c d e f g h j k l m (st.Statement.effect x) v = effect_first
 statement_first a b c d e f g h j k l m (st.Statement.call i) v = by_is _ _ _ _ _ i a
 statement_first a b c d e f g h j k l m (st.Statement.call_with i _ x _) v = by_is _ _ _ _ _ i a
 
-body_first : {segment : ℕ} {ds : List decl.Declaration} {xs : List stat.Statement} {ts rest : List Lexeme} → dl.Body segment ds xs ts rest → Begins no_start false ts
+body_first : {segment : ℕ} {ds : List decl.Declaration} {xs : List stat.Statement} {ts rest : List Lexeme}
+    → dl.Body segment ds xs ts rest → Begins no_start false ts
 unfolding same_symbol symbol_number reserved_number
 body_first (dl.Body.block i ds xs z) = by_is _ _ _ _ _ i refl
 body_first (dl.Body.single x c) = statement_first refl refl refl refl refl refl refl refl refl refl refl refl x c
 
-single_no_begin : {x : stat.Statement} {ts rest : List Lexeme} → st.Statement x ts rest → can_be_body x ≡ true → Begins (is (s.Word w.Begin)) false ts
+single_no_begin : {x : stat.Statement} {ts rest : List Lexeme} → st.Statement x ts rest → can_be_body x ≡ true
+    → Begins (is (s.Word w.Begin)) false ts
 unfolding same_symbol symbol_number reserved_number
 single_no_begin x c = statement_first refl refl refl refl refl refl refl refl refl refl refl refl x c
 
@@ -125,9 +141,12 @@ start_option : {ts : List Lexeme} → Begins no_start false ts → Begins (is (s
 start_option (with_first {t = t} b) = with_first (both_false (goes_on t.symbol) (is (s.Word w.Options) t.symbol) b).1
 
 -- statements up to an END begin with no declaration
-statement_declares : {test : Symbol → Bool} {x : stat.Statement} {ts rest : List Lexeme} → test s.Name ≡ false → test s.AtSign ≡ false → test (s.Word w.If) ≡ false → test (s.Word w.While) ≡ false
-    → test (s.Word w.Do) ≡ false → test (s.Word w.For) ≡ false → test (s.Word w.Case) ≡ false → test (s.Word w.Go) ≡ false → test (s.Word w.Goto) ≡ false → test (s.Word w.Return) ≡ false
-    → test (s.Word w.Move) ≡ false → test (s.Word w.Scan) ≡ false → test (s.Word w.Begin) ≡ false → st.Statement x ts rest → Begins test false rest → Begins test false ts
+statement_declares : {test : Symbol → Bool} {x : stat.Statement} {ts rest : List Lexeme} → test s.Name ≡ false
+    → test s.AtSign ≡ false → test (s.Word w.If) ≡ false → test (s.Word w.While) ≡ false
+    → test (s.Word w.Do) ≡ false → test (s.Word w.For) ≡ false → test (s.Word w.Case) ≡ false
+    → test (s.Word w.Go) ≡ false → test (s.Word w.Goto) ≡ false → test (s.Word w.Return) ≡ false
+    → test (s.Word w.Move) ≡ false → test (s.Word w.Scan) ≡ false → test (s.Word w.Begin) ≡ false
+    → st.Statement x ts rest → Begins test false rest → Begins test false ts
 statement_declares a b c d e f g h j k l m n st.Statement.empty v = v
 statement_declares a b c d e f g h j k l m n (st.Statement.block i x z) v = by_is _ _ _ _ _ i n
 statement_declares a b c d e f g h j k l m n (st.Statement.labelled i _ x) v = by_is _ _ _ _ _ i a
@@ -147,11 +166,14 @@ statement_declares a b c d e f g h j k l m n (st.Statement.effect x) v = effect_
 statement_declares a b c d e f g h j k l m n (st.Statement.call i) v = by_is _ _ _ _ _ i a
 statement_declares a b c d e f g h j k l m n (st.Statement.call_with i _ x _) v = by_is _ _ _ _ _ i a
 
-list_first : {xs : List stat.Statement} {z : Lexeme} {ts rest : List Lexeme} (room : ℕ) (body_of : ℕ → Parser BodyRead) (u : Bool) → st.Statements xs ts (z ∷ rest) → Is (s.Word w.End) z
+list_first : {xs : List stat.Statement} {z : Lexeme} {ts rest : List Lexeme} (room : ℕ) (body_of : ℕ → Parser BodyRead)
+    (u : Bool) → st.Statements xs ts (z ∷ rest) → Is (s.Word w.End) z
     → Begins (declares room body_of u) false ts
 unfolding declares
-list_first room body_of u (st.Statements.one x) z = statement_declares refl refl refl refl refl refl refl refl refl refl refl refl refl x (by_is _ _ _ _ _ z refl)
-list_first room body_of u (st.Statements.more x k l) z = statement_declares refl refl refl refl refl refl refl refl refl refl refl refl refl x (by_is _ _ _ _ _ k refl)
+list_first room body_of u (st.Statements.one x) z = statement_declares refl refl refl refl refl refl refl refl refl
+    refl refl refl refl x (by_is _ _ _ _ _ z refl)
+list_first room body_of u (st.Statements.more x k l) z = statement_declares refl refl refl refl refl refl refl refl
+    refl refl refl refl refl x (by_is _ _ _ _ _ k refl)
 
 -- behind no subroutine
 not_after : (a : Bool) → (false || not a) ≡ true → a ≡ false
@@ -182,11 +204,14 @@ fit_one true false e q = cc
 no_forward : {a c : Options} {ts rest : List Lexeme} → dl.OptionList a c ts rest → c.external ≡ true → c.forward ≡ false
 no_forward {c = c} l e = fit_one c.forward c.external (fit_list l) e
 
-heading_first : {split : Bool} {h : decl.Heading} {test : Symbol → Bool} {ts rest : List Lexeme} → dl.Heading split h ts rest → ((c : Kind) → test (s.Type c) ≡ true) → test (s.Word w.Procedure) ≡ true → Begins test true ts
+heading_first : {split : Bool} {h : decl.Heading} {test : Symbol → Bool} {ts rest : List Lexeme}
+    → dl.Heading split h ts rest → ((c : Kind) → test (s.Type c) ≡ true) → test (s.Word w.Procedure) ≡ true
+    → Begins test true ts
 heading_first (dl.Heading.heading dl.Result.absent p i ns vs ss k) e f = by_is _ _ _ _ _ p f
 heading_first (dl.Heading.heading (dl.Result.given r) p i ns vs ss k) e f = by_is _ _ _ _ _ r (e _)
 
-choose_then : {A : Type 0} (test : Symbol → Bool) {p : Parser A} (q : Parser A) {ts m : List Lexeme} {y : Outcome A} → Begins test true ts → Near p ts m y
+choose_then : {A : Type 0} (test : Symbol → Bool) {p : Parser A} (q : Parser A) {ts m : List Lexeme} {y : Outcome A}
+    → Begins test true ts → Near p ts m y
     → Near (by_symbol (λ k. if test k then p else q)) ts m y
 choose_then test q (with_first b) n = near_head _ (near_if _ b n)
 
@@ -204,118 +229,184 @@ unit_tree_of ds xs segment at = record { items = ds; statements = xs; segment = 
 -- Declarations, where bodies are read by their claim.
 module _ (room : ℕ) (body_of : ℕ → Parser BodyRead) where
   module _ (u : Bool) (segment : ℕ) where
-    item_data_read : {own : Bool} {c : Kind} {is : List decl.Item} {ts rest : List Lexeme} → dl.Items is ts rest → Ends rest
+    item_data_read : {own : Bool} {c : Kind} {is : List decl.Item} {ts rest : List Lexeme} → dl.Items is ts rest
+        → Ends rest
         → Near (item_data room body_of u own c) ts rest (Got (decl.Declaration.data_items own c is) rest)
     unfolding item_data
     item_data_read l e = near_then _ (items_read l e) (near_pure _ _)
 
-    array_data_read : {own : Bool} {c : Kind} {is : List decl.Item} {t : Lexeme} {ts rest : List Lexeme} → dl.Arrays is ts rest → Ends rest
+    array_data_read : {own : Bool} {c : Kind} {is : List decl.Item} {t : Lexeme} {ts rest : List Lexeme}
+        → dl.Arrays is ts rest → Ends rest
         → Near (array_data room body_of u own c) (t ∷ ts) rest (Got (decl.Declaration.data_items own c is) rest)
     unfolding array_data
     array_data_read l e = near_then _ near_take (near_then _ (arrays_read l e) (near_pure _ _))
 
-    simple_read : {own : Bool} {c : Kind} {is : List decl.Item} {t : Lexeme} {ts mid rest : List Lexeme} → dl.Own own ts (t ∷ mid) → Is (s.Type c) t → dl.Items is mid rest → Ends rest
+    simple_read : {own : Bool} {c : Kind} {is : List decl.Item} {t : Lexeme} {ts mid rest : List Lexeme}
+        → dl.Own own ts (t ∷ mid) → Is (s.Type c) t → dl.Items is mid rest → Ends rest
         → Near (declaration room body_of u false segment) ts rest (Got (decl.Declaration.data_items own c is) rest)
     unfolding declaration declaration_by typed typed_by by_word owned_by same_symbol symbol_number reserved_number
-    simple_read dl.Own.absent i l e = near_symbol _ i (near_then _ near_take (by_first _ (items_first l) (item_data_read l e)))
-    simple_read (dl.Own.given o) i l e = near_symbol _ o (near_then _ near_take (near_symbol _ i (near_then _ near_take (by_first _ (items_first l) (item_data_read l e)))))
+    simple_read dl.Own.absent i l e = near_symbol _ i
+        (near_then _ near_take (by_first _ (items_first l) (item_data_read l e)))
+    simple_read (dl.Own.given o) i l e = near_symbol _ o
+        (near_then _ near_take (near_symbol _ i
+        (near_then _ near_take (by_first _ (items_first l) (item_data_read l e)))))
 
-    array_decl_read : {own : Bool} {c : Kind} {is : List decl.Item} {a : Lexeme} {ts mid next rest : List Lexeme} → dl.Own own ts mid → dl.OptionalKind c mid (a ∷ next) → Is (s.Word w.Array) a
-        → dl.Arrays is next rest → Ends rest → Near (declaration room body_of u false segment) ts rest (Got (decl.Declaration.data_items own c is) rest)
+    array_decl_read : {own : Bool} {c : Kind} {is : List decl.Item} {a : Lexeme} {ts mid next rest : List Lexeme}
+        → dl.Own own ts mid → dl.OptionalKind c mid (a ∷ next) → Is (s.Word w.Array) a
+        → dl.Arrays is next rest → Ends rest
+        → Near (declaration room body_of u false segment) ts rest (Got (decl.Declaration.data_items own c is) rest)
     unfolding declaration declaration_by typed typed_by by_word owned_by same_symbol symbol_number reserved_number
     array_decl_read dl.Own.absent dl.OptionalKind.absent i l e = near_symbol _ i (array_data_read l e)
-    array_decl_read dl.Own.absent (dl.OptionalKind.given k) i l e = near_symbol _ k (near_then _ near_take (near_symbol _ i (array_data_read l e)))
-    array_decl_read (dl.Own.given o) dl.OptionalKind.absent i l e = near_symbol _ o (near_then _ near_take (near_symbol _ i (array_data_read l e)))
-    array_decl_read (dl.Own.given o) (dl.OptionalKind.given k) i l e = near_symbol _ o (near_then _ near_take (near_symbol _ k (near_then _ near_take (near_symbol _ i (array_data_read l e)))))
+    array_decl_read dl.Own.absent (dl.OptionalKind.given k) i l e = near_symbol _ k
+        (near_then _ near_take (near_symbol _ i (array_data_read l e)))
+    array_decl_read (dl.Own.given o) dl.OptionalKind.absent i l e = near_symbol _ o
+        (near_then _ near_take (near_symbol _ i (array_data_read l e)))
+    array_decl_read (dl.Own.given o) (dl.OptionalKind.given k) i l e = near_symbol _ o
+        (near_then _ near_take (near_symbol _ k (near_then _ near_take (near_symbol _ i (array_data_read l e)))))
 
-    pointers_read : {c : Kind} {ns : List Placed} {t p : Lexeme} {ts rest : List Lexeme} → Is (s.Type c) t → Is (s.Word w.Pointer) p → dl.Names ns ts rest → Ends rest
-        → Near (declaration room body_of u false segment) (t ∷ p ∷ ts) rest (Got (decl.Declaration.data_items false c (pointers ns)) rest)
+    pointers_read : {c : Kind} {ns : List Placed} {t p : Lexeme} {ts rest : List Lexeme} → Is (s.Type c) t
+        → Is (s.Word w.Pointer) p → dl.Names ns ts rest → Ends rest
+        → Near (declaration room body_of u false segment) (t ∷ p ∷ ts) rest
+        (Got (decl.Declaration.data_items false c (pointers ns)) rest)
     unfolding declaration declaration_by typed typed_by same_symbol symbol_number reserved_number
-    pointers_read i p l e = near_symbol _ i (near_then _ near_take (near_symbol _ p (near_then _ near_take (near_then _ (names_read l e) (near_pure _ _)))))
+    pointers_read i p l e = near_symbol _ i
+        (near_then _ near_take (near_symbol _ p (near_then _ near_take (near_then _ (names_read l e) (near_pure _ _)))))
 
-    equate_read : {es : List decl.Equal} {t : Lexeme} {ts rest : List Lexeme} → Is (s.Word w.Equate) t → dl.Equals es ts rest → Ends rest
+    equate_read : {es : List decl.Equal} {t : Lexeme} {ts rest : List Lexeme} → Is (s.Word w.Equate) t
+        → dl.Equals es ts rest → Ends rest
         → Near (declaration room body_of u false segment) (t ∷ ts) rest (Got (decl.Declaration.equate es) rest)
     unfolding declaration declaration_by by_word
     equate_read i l e = near_symbol _ i (near_then _ near_take (near_then _ (equals_read l e) (near_pure _ _)))
 
-    intrinsic_read : {ns : List Placed} {t : Lexeme} {ts rest : List Lexeme} → Is (s.Word w.Intrinsic) t → dl.Names ns ts rest → Ends rest
+    intrinsic_read : {ns : List Placed} {t : Lexeme} {ts rest : List Lexeme} → Is (s.Word w.Intrinsic) t
+        → dl.Names ns ts rest → Ends rest
         → Near (declaration room body_of u false segment) (t ∷ ts) rest (Got (decl.Declaration.intrinsic ns) rest)
     unfolding declaration declaration_by by_word
     intrinsic_read i l e = near_symbol _ i (near_then _ near_take (near_then _ (names_read l e) (near_pure _ _)))
 
-    label_read : {ns : List Placed} {t : Lexeme} {ts rest : List Lexeme} → Is (s.Word w.Label) t → dl.Names ns ts rest → Ends rest
+    label_read : {ns : List Placed} {t : Lexeme} {ts rest : List Lexeme} → Is (s.Word w.Label) t → dl.Names ns ts rest
+        → Ends rest
         → Near (declaration room body_of u false segment) (t ∷ ts) rest (Got (decl.Declaration.label ns) rest)
     unfolding declaration declaration_by by_word
     label_read i l e = near_symbol _ i (near_then _ near_take (near_then _ (names_read l e) (near_pure _ _)))
 
     -- [type] SUBROUTINE, from its word on
-    subroutine_read : {r : Option Kind} {ns vs : List Placed} {ss : List decl.Spec} {x : stat.Statement} {p t k z : Lexeme} {ts after_names after_values mid rest : List Lexeme} → Is s.Name t
-        → dl.Parameters ns ts after_names → dl.Values vs after_names after_values → dl.Specs ss after_values (k ∷ mid) → Is s.Semicolon k → st.Statement x mid (z ∷ rest) → Is s.Semicolon z
-        → Near (subroutine room body_of u segment r) (p ∷ t ∷ ts) (z ∷ rest) (Got (decl.Declaration.subroutine (heading_of r t ns vs ss segment false) x) (z ∷ rest))
+    subroutine_read : {r : Option Kind} {ns vs : List Placed} {ss : List decl.Spec} {x : stat.Statement}
+        {p t k z : Lexeme} {ts after_names after_values mid rest : List Lexeme} → Is s.Name t
+        → dl.Parameters ns ts after_names → dl.Values vs after_names after_values → dl.Specs ss after_values (k ∷ mid)
+        → Is s.Semicolon k → st.Statement x mid (z ∷ rest) → Is s.Semicolon z
+        → Near (subroutine room body_of u segment r) (p ∷ t ∷ ts) (z ∷ rest)
+        (Got (decl.Declaration.subroutine (heading_of r t ns vs ss segment false) x) (z ∷ rest))
     unfolding subroutine same_symbol symbol_number reserved_number
-    subroutine_read i ns vs ss k x z = near_then _ (heading_read (λ _. segment) i ns vs ss k (statement_declares refl refl refl refl refl refl refl refl refl refl refl refl refl x (by_is _ _ _ _ _ z refl)))
+    subroutine_read i ns vs ss k x z = near_then _
+        (heading_read (λ _. segment) i ns vs ss k
+        (statement_declares refl refl refl refl refl refl refl refl refl refl refl refl refl x
+        (by_is _ _ _ _ _ z refl)))
         (near_then _ ((complete_statement x (af.semicolon z)).reads room) (near_pure _ _))
 
-    subroutine_decl : (after : Bool) {h : decl.Heading} {x : stat.Statement} {z : Lexeme} {ts mid rest : List Lexeme} → dl.SubroutineHeading segment h ts mid → st.Statement x mid (z ∷ rest) → Is s.Semicolon z
-        → Near (declaration room body_of u after segment) ts (z ∷ rest) (Got (decl.Declaration.subroutine h x) (z ∷ rest))
+    subroutine_decl : (after : Bool) {h : decl.Heading} {x : stat.Statement} {z : Lexeme} {ts mid rest : List Lexeme}
+        → dl.SubroutineHeading segment h ts mid → st.Statement x mid (z ∷ rest) → Is s.Semicolon z
+        → Near (declaration room body_of u after segment) ts (z ∷ rest)
+        (Got (decl.Declaration.subroutine h x) (z ∷ rest))
     unfolding declaration declaration_by typed typed_by by_word same_symbol symbol_number reserved_number
-    subroutine_decl after (dl.SubroutineHeading.heading dl.Result.absent p i ns vs ss k) x z = near_symbol _ p (subroutine_read i ns vs ss k x z)
-    subroutine_decl after (dl.SubroutineHeading.heading (dl.Result.given r) p i ns vs ss k) x z = near_symbol _ r (near_then _ near_take (near_symbol _ p (subroutine_read i ns vs ss k x z)))
+    subroutine_decl after (dl.SubroutineHeading.heading dl.Result.absent p i ns vs ss k) x z = near_symbol _ p
+        (subroutine_read i ns vs ss k x z)
+    subroutine_decl after (dl.SubroutineHeading.heading (dl.Result.given r) p i ns vs ss k) x z = near_symbol _ r
+        (near_then _ near_take (near_symbol _ p (subroutine_read i ns vs ss k x z)))
 
-  module _ (segment : ℕ) (claim : (n : ℕ) (ds : List decl.Declaration) (xs : List stat.Statement) (k : Lexeme) (ts rest : List Lexeme) → dl.Body n ds xs ts (k ∷ rest) → Is s.Semicolon k
+  module _ (segment : ℕ) (claim : (n : ℕ) (ds : List decl.Declaration) (xs : List stat.Statement) (k : Lexeme)
+      (ts rest : List Lexeme) → dl.Body n ds xs ts (k ∷ rest) → Is s.Semicolon k
       → Near (body_of n) ts (k ∷ rest) (Got (body_pair ds xs) (k ∷ rest))) where
     -- a heading and what stands behind it, at its word PROCEDURE
-    procedure_at : {split : Bool} {h : decl.Heading} {ts mid rest : List Lexeme} {y : Outcome decl.Declaration} → dl.Heading split h ts mid → Begins goes_on false mid
-        → ((f : Bool → decl.Heading) → f split ≡ h → Near (behind_heading room body_of true f) mid rest y) → Near (declaration room body_of true false segment) ts rest y
+    procedure_at : {split : Bool} {h : decl.Heading} {ts mid rest : List Lexeme} {y : Outcome decl.Declaration}
+        → dl.Heading split h ts mid → Begins goes_on false mid
+        → ((f : Bool → decl.Heading) → f split ≡ h → Near (behind_heading room body_of true f) mid rest y)
+        → Near (declaration room body_of true false segment) ts rest y
     unfolding declaration declaration_by typed typed_by by_word procedure same_symbol symbol_number reserved_number
-    procedure_at (dl.Heading.heading dl.Result.absent p i ns vs ss k) b n = near_symbol _ p (near_then _ (heading_read (λ p. p.segment) i ns vs ss k b) (n _ refl))
-    procedure_at (dl.Heading.heading (dl.Result.given r) p i ns vs ss k) b n = near_symbol _ r (near_then _ near_take (near_symbol _ p (near_then _ (heading_read (λ p. p.segment) i ns vs ss k b) (n _ refl))))
+    procedure_at (dl.Heading.heading dl.Result.absent p i ns vs ss k) b n = near_symbol _ p
+        (near_then _ (heading_read (λ p. p.segment) i ns vs ss k b) (n _ refl))
+    procedure_at (dl.Heading.heading (dl.Result.given r) p i ns vs ss k) b n = near_symbol _ r
+        (near_then _ near_take (near_symbol _ p
+        (near_then _ (heading_read (λ p. p.segment) i ns vs ss k b) (n _ refl))))
 
-    body_behind : {h : decl.Heading} {ds : List decl.Declaration} {xs : List stat.Statement} {k : Lexeme} {mid rest : List Lexeme} (g : decl.Heading) → g ≡ h → dl.Body h.segment ds xs mid (k ∷ rest)
-        → Is s.Semicolon k → Near (body_of g.segment >>= (λ b. pure (decl.Declaration.procedure g (declarations b.0) b.1))) mid (k ∷ rest) (Got (decl.Declaration.procedure h (declarations ds) xs) (k ∷ rest))
-    body_behind {h = h} {ds = ds} {xs = xs} {k = k} {mid = mid} {rest = rest} g q b i = near_then _ (claim g.segment ds xs k mid rest (rw q b) i)
+    body_behind : {h : decl.Heading} {ds : List decl.Declaration} {xs : List stat.Statement} {k : Lexeme}
+        {mid rest : List Lexeme} (g : decl.Heading) → g ≡ h → dl.Body h.segment ds xs mid (k ∷ rest)
+        → Is s.Semicolon k → Near (body_of g.segment >>=
+        (λ b. pure (decl.Declaration.procedure g (declarations b.0) b.1))) mid (k ∷ rest)
+        (Got (decl.Declaration.procedure h (declarations ds) xs) (k ∷ rest))
+    body_behind {h = h} {ds = ds} {xs = xs} {k = k} {mid = mid} {rest = rest} g q b i = near_then _
+        (claim g.segment ds xs k mid rest (rw q b) i)
         (near_to (near_pure _ _) (ap (λ g. Got (decl.Declaration.procedure g (declarations ds) xs) (k ∷ rest)) q))
 
-    plain_procedure : {h : decl.Heading} {ds : List decl.Declaration} {xs : List stat.Statement} {k : Lexeme} {ts mid rest : List Lexeme} → dl.Heading false h ts mid → dl.Body h.segment ds xs mid (k ∷ rest)
-        → Is s.Semicolon k → Near (declaration room body_of true false segment) ts (k ∷ rest) (Got (decl.Declaration.procedure h (declarations ds) xs) (k ∷ rest))
+    plain_procedure : {h : decl.Heading} {ds : List decl.Declaration} {xs : List stat.Statement} {k : Lexeme}
+        {ts mid rest : List Lexeme} → dl.Heading false h ts mid → dl.Body h.segment ds xs mid (k ∷ rest)
+        → Is s.Semicolon k → Near (declaration room body_of true false segment) ts (k ∷ rest)
+        (Got (decl.Declaration.procedure h (declarations ds) xs) (k ∷ rest))
     unfolding behind_heading
-    plain_procedure h b k = procedure_at h (start_goes (body_first b)) (λ f q. choose_else (is (s.Word w.Options)) _ (start_option (body_first b)) (body_behind (f false) q b k))
+    plain_procedure h b k = procedure_at h (start_goes (body_first b))
+        (λ f q. choose_else (is (s.Word w.Options)) _ (start_option (body_first b)) (body_behind (f false) q b k))
 
-    with_options : {a : Options} {h : decl.Heading} {ds : List decl.Declaration} {xs : List stat.Statement} {p j k : Lexeme} {ts mid next rest : List Lexeme} → dl.Heading a.split h ts (p ∷ mid)
-        → Is (s.Word w.Options) p → dl.OptionList no_options a mid (j ∷ next) → a.forward ≡ false → a.external ≡ false → Is s.Semicolon j → dl.Body h.segment ds xs next (k ∷ rest) → Is s.Semicolon k
-        → Near (declaration room body_of true false segment) ts (k ∷ rest) (Got (decl.Declaration.procedure h (declarations ds) xs) (k ∷ rest))
+    with_options : {a : Options} {h : decl.Heading} {ds : List decl.Declaration} {xs : List stat.Statement}
+        {p j k : Lexeme} {ts mid next rest : List Lexeme} → dl.Heading a.split h ts (p ∷ mid)
+        → Is (s.Word w.Options) p → dl.OptionList no_options a mid (j ∷ next) → a.forward ≡ false → a.external ≡ false
+        → Is s.Semicolon j → dl.Body h.segment ds xs next (k ∷ rest) → Is s.Semicolon k
+        → Near (declaration room body_of true false segment) ts (k ∷ rest)
+        (Got (decl.Declaration.procedure h (declarations ds) xs) (k ∷ rest))
     unfolding behind_heading
-    with_options {a = a} h p o e g j b k = procedure_at h (option_goes p) (λ f q. near_symbol _ p (near_if _ (same_self (s.Word w.Options)) (near_then _ near_take (near_then _ (options_read o (semicolon j))
+    with_options {a = a} h p o e g j b k = procedure_at h (option_goes p)
+        (λ f q. near_symbol _ p (near_if _ (same_self (s.Word w.Options))
+        (near_then _ near_take (near_then _ (options_read o (semicolon j))
         (near_else _ e (near_else _ g (near_then _ (near_expect j) (body_behind (f a.split) q b k))))))))
 
-    forward_read : {a : Options} {h : decl.Heading} {p k : Lexeme} {ts mid rest : List Lexeme} → dl.Heading a.split h ts (p ∷ mid) → Is (s.Word w.Options) p → dl.OptionList no_options a mid (k ∷ rest)
-        → a.forward ≡ true → Is s.Semicolon k → Near (declaration room body_of true false segment) ts (k ∷ rest) (Got (decl.Declaration.forward h) (k ∷ rest))
+    forward_read : {a : Options} {h : decl.Heading} {p k : Lexeme} {ts mid rest : List Lexeme}
+        → dl.Heading a.split h ts (p ∷ mid) → Is (s.Word w.Options) p → dl.OptionList no_options a mid (k ∷ rest)
+        → a.forward ≡ true → Is s.Semicolon k
+        → Near (declaration room body_of true false segment) ts (k ∷ rest)
+        (Got (decl.Declaration.forward h) (k ∷ rest))
     unfolding behind_heading
-    forward_read {a = a} {k = k} {rest = rest} h p o e i = procedure_at h (option_goes p) (λ f q. near_symbol _ p (near_if _ (same_self (s.Word w.Options)) (near_then _ near_take (near_then _ (options_read o (semicolon i))
+    forward_read {a = a} {k = k} {rest = rest} h p o e i = procedure_at h (option_goes p)
+        (λ f q. near_symbol _ p (near_if _ (same_self (s.Word w.Options))
+        (near_then _ near_take (near_then _ (options_read o (semicolon i))
         (near_if _ e (near_to (near_pure _ _) (ap (λ g. Got (decl.Declaration.forward g) (k ∷ rest)) q)))))))
 
-    external_read : {a : Options} {h : decl.Heading} {p k : Lexeme} {ts mid rest : List Lexeme} → dl.Heading a.split h ts (p ∷ mid) → Is (s.Word w.Options) p → dl.OptionList no_options a mid (k ∷ rest)
-        → a.external ≡ true → Is s.Semicolon k → Near (declaration room body_of true false segment) ts (k ∷ rest) (Got (decl.Declaration.external h) (k ∷ rest))
+    external_read : {a : Options} {h : decl.Heading} {p k : Lexeme} {ts mid rest : List Lexeme}
+        → dl.Heading a.split h ts (p ∷ mid) → Is (s.Word w.Options) p → dl.OptionList no_options a mid (k ∷ rest)
+        → a.external ≡ true → Is s.Semicolon k
+        → Near (declaration room body_of true false segment) ts (k ∷ rest)
+        (Got (decl.Declaration.external h) (k ∷ rest))
     unfolding behind_heading
-    external_read {a = a} {k = k} {rest = rest} h p o e i = procedure_at h (option_goes p) (λ f q. near_symbol _ p (near_if _ (same_self (s.Word w.Options)) (near_then _ near_take (near_then _ (options_read o (semicolon i))
-        (near_else _ (no_forward o e) (near_if _ e (near_to (near_pure _ _) (ap (λ g. Got (decl.Declaration.external g) (k ∷ rest)) q))))))))
+    external_read {a = a} {k = k} {rest = rest} h p o e i = procedure_at h (option_goes p)
+        (λ f q. near_symbol _ p (near_if _ (same_self (s.Word w.Options))
+        (near_then _ near_take (near_then _ (options_read o (semicolon i))
+        (near_else _ (no_forward o e) (near_if _ e
+        (near_to (near_pure _ _) (ap (λ g. Got (decl.Declaration.external g) (k ∷ rest)) q))))))))
 
     -- a declaration that fits its place
-    declaration_read : {u : Bool} {d : decl.Declaration} {k : Lexeme} {ts rest : List Lexeme} (after : Bool) → dl.Declaration u segment d ts (k ∷ rest) → Is s.Semicolon k
-        → (is_subroutine d || not after) ≡ true → Near (declaration room body_of u after segment) ts (k ∷ rest) (Got d (k ∷ rest))
-    declaration_read after (dl.Declaration.simple o i l) k e = rw (not_after after e) (simple_read _ segment o i l (semicolon k))
-    declaration_read after (dl.Declaration.array o c i l) k e = rw (not_after after e) (array_decl_read _ segment o c i l (semicolon k))
-    declaration_read after (dl.Declaration.pointers_of i p l) k e = rw (not_after after e) (pointers_read _ segment i p l (semicolon k))
-    declaration_read after (dl.Declaration.equate i l) k e = rw (not_after after e) (equate_read _ segment i l (semicolon k))
-    declaration_read after (dl.Declaration.intrinsic i l) k e = rw (not_after after e) (intrinsic_read _ segment i l (semicolon k))
-    declaration_read after (dl.Declaration.label i l) k e = rw (not_after after e) (label_read _ segment i l (semicolon k))
+    declaration_read : {u : Bool} {d : decl.Declaration} {k : Lexeme} {ts rest : List Lexeme} (after : Bool)
+        → dl.Declaration u segment d ts (k ∷ rest) → Is s.Semicolon k
+        → (is_subroutine d || not after) ≡ true
+        → Near (declaration room body_of u after segment) ts (k ∷ rest) (Got d (k ∷ rest))
+    declaration_read after (dl.Declaration.simple o i l) k e = rw (not_after after e)
+        (simple_read _ segment o i l (semicolon k))
+    declaration_read after (dl.Declaration.array o c i l) k e = rw (not_after after e)
+        (array_decl_read _ segment o c i l (semicolon k))
+    declaration_read after (dl.Declaration.pointers_of i p l) k e = rw (not_after after e)
+        (pointers_read _ segment i p l (semicolon k))
+    declaration_read after (dl.Declaration.equate i l) k e = rw (not_after after e)
+        (equate_read _ segment i l (semicolon k))
+    declaration_read after (dl.Declaration.intrinsic i l) k e = rw (not_after after e)
+        (intrinsic_read _ segment i l (semicolon k))
+    declaration_read after (dl.Declaration.label i l) k e = rw (not_after after e)
+        (label_read _ segment i l (semicolon k))
     declaration_read after (dl.Declaration.procedure h b) k e = rw (not_after after e) (plain_procedure h b k)
-    declaration_read after (dl.Declaration.procedure_with h p o f g j b) k e = rw (not_after after e) (with_options h p o f g j b k)
+    declaration_read after (dl.Declaration.procedure_with h p o f g j b) k e = rw (not_after after e)
+        (with_options h p o f g j b k)
     declaration_read after (dl.Declaration.forward h p o f) k e = rw (not_after after e) (forward_read h p o f k)
     declaration_read after (dl.Declaration.external h p o f) k e = rw (not_after after e) (external_read h p o f k)
     declaration_read after (dl.Declaration.subroutine h x) k e = subroutine_decl _ segment after h x k
 
-    declaration_first : {u : Bool} {d : decl.Declaration} {ts rest : List Lexeme} → dl.Declaration u segment d ts rest → Begins (declares room body_of u) true ts
+    declaration_first : {u : Bool} {d : decl.Declaration} {ts rest : List Lexeme} → dl.Declaration u segment d ts rest
+        → Begins (declares room body_of u) true ts
     unfolding declares
     declaration_first (dl.Declaration.simple dl.Own.absent i l) = by_is _ _ _ _ _ i refl
     declaration_first (dl.Declaration.simple (dl.Own.given o) i l) = by_is _ _ _ _ _ o refl
@@ -330,24 +421,35 @@ module _ (room : ℕ) (body_of : ℕ → Parser BodyRead) where
     declaration_first (dl.Declaration.procedure_with h p o f g j b) = heading_first h (λ c. refl) refl
     declaration_first (dl.Declaration.forward h p o f) = heading_first h (λ c. refl) refl
     declaration_first (dl.Declaration.external h p o f) = heading_first h (λ c. refl) refl
-    declaration_first (dl.Declaration.subroutine (dl.SubroutineHeading.heading dl.Result.absent p i ns vs ss k) x) = by_is _ _ _ _ _ p refl
-    declaration_first (dl.Declaration.subroutine (dl.SubroutineHeading.heading (dl.Result.given r) p i ns vs ss k) x) = by_is _ _ _ _ _ r refl
+    declaration_first (dl.Declaration.subroutine (dl.SubroutineHeading.heading dl.Result.absent p i ns vs ss k) x) =
+        by_is _ _ _ _ _ p refl
+    declaration_first (dl.Declaration.subroutine (dl.SubroutineHeading.heading (dl.Result.given r) p i ns vs ss k) x) =
+        by_is _ _ _ _ _ r refl
 
     -- the declarations of a unit or a body
-    declarations_read : {u after : Bool} {ds : List decl.Declaration} {ts rest : List Lexeme} → (lb : (n : ℕ) → IsLocal (body_of n)) → dl.Declarations u after segment ds ts rest
+    declarations_read : {u after : Bool} {ds : List decl.Declaration} {ts rest : List Lexeme}
+        → (lb : (n : ℕ) → IsLocal (body_of n)) → dl.Declarations u after segment ds ts rest
         → Begins (declares room body_of u) false rest → (so_far : List decl.Declaration)
-        → Near (repeat (more_declarations room body_of u segment) (decl_state after so_far)) ts rest (Got (decl_state (after_all after ds) (so_far ++ ds)) rest)
+        → Near (repeat (more_declarations room body_of u segment) (decl_state after so_far)) ts rest
+        (Got (decl_state (after_all after ds) (so_far ++ ds)) rest)
     unfolding more_declarations after_all
-    declarations_read {after = after} {rest = rest} lb dl.Declarations.none b so_far = near_to (near_last _ (choose_else (declares room body_of _) _ b (near_pure _ _)))
+    declarations_read {after = after} {rest = rest} lb dl.Declarations.none b so_far = near_to
+        (near_last _ (choose_else (declares room body_of _) _ b (near_pure _ _)))
         (ap (λ xs. Got (decl_state after xs) rest) (sym (append-nil so_far)))
-    declarations_read {u = u} {after = after} {rest = rest} lb (dl.Declarations.more {d = d} {ds = ds} {mid = mid} x e k l) b so_far =
+    declarations_read {u = u} {after = after} {rest = rest} lb
+        (dl.Declarations.more {d = d} {ds = ds} {mid = mid} x e k l) b so_far =
         let r = declaration_read after x k e in
-        near_turn {v = decl_state (is_subroutine d) (so_far ++ d ∷ [])} {m = mid} (takes_more_declarations room body_of u lb segment) (let n = r.within in omega arith)
-        (choose_then (declares room body_of u) _ (declaration_first x) (near_then _ r (near_then _ (near_expect k) (near_pure _ _))))
-        (near_to (declarations_read lb l b (so_far ++ d ∷ [])) (ap (λ xs. Got (decl_state (after_all (is_subroutine d) ds) xs) rest) (append_assoc so_far (d ∷ []) ds)))
+        near_turn {v = decl_state (is_subroutine d) (so_far ++ d ∷ [])} {m = mid}
+        (takes_more_declarations room body_of u lb segment) (let n = r.within in omega arith)
+        (choose_then (declares room body_of u) _ (declaration_first x)
+        (near_then _ r (near_then _ (near_expect k) (near_pure _ _))))
+        (near_to (declarations_read lb l b (so_far ++ d ∷ []))
+        (ap (λ xs. Got (decl_state (after_all (is_subroutine d) ds) xs) rest) (append_assoc so_far (d ∷ []) ds)))
 
-    pub declaration_list_read : {u : Bool} {ds : List decl.Declaration} {ts rest : List Lexeme} → (lb : (n : ℕ) → IsLocal (body_of n)) → dl.Declarations u false segment ds ts rest
-        → Begins (declares room body_of u) false rest → Near (declaration_list room body_of u segment) ts rest (Got ds rest)
+    pub declaration_list_read : {u : Bool} {ds : List decl.Declaration} {ts rest : List Lexeme}
+        → (lb : (n : ℕ) → IsLocal (body_of n)) → dl.Declarations u false segment ds ts rest
+        → Begins (declares room body_of u) false rest
+        → Near (declaration_list room body_of u segment) ts rest (Got ds rest)
     unfolding declaration_list
     declaration_list_read lb l b = near_then _ (declarations_read lb l b []) (near_pure _ _)
 
@@ -357,17 +459,26 @@ no_body n = local_refuse
 
 -- The declarations of a body hold no procedure, so that no claim about bodies is wanted.
 module _ (room : ℕ) (segment : ℕ) where
-  inner_read : {d : decl.Declaration} {k : Lexeme} {ts rest : List Lexeme} (after : Bool) → dl.Declaration false segment d ts (k ∷ rest) → Is s.Semicolon k
-      → (is_subroutine d || not after) ≡ true → Near (declaration room (λ _. refuse) false after segment) ts (k ∷ rest) (Got d (k ∷ rest))
-  inner_read after (dl.Declaration.simple o i l) k e = rw (not_after after e) (simple_read room _ _ segment o i l (semicolon k))
-  inner_read after (dl.Declaration.array o c i l) k e = rw (not_after after e) (array_decl_read room _ _ segment o c i l (semicolon k))
-  inner_read after (dl.Declaration.pointers_of i p l) k e = rw (not_after after e) (pointers_read room _ _ segment i p l (semicolon k))
-  inner_read after (dl.Declaration.equate i l) k e = rw (not_after after e) (equate_read room _ _ segment i l (semicolon k))
-  inner_read after (dl.Declaration.intrinsic i l) k e = rw (not_after after e) (intrinsic_read room _ _ segment i l (semicolon k))
-  inner_read after (dl.Declaration.label i l) k e = rw (not_after after e) (label_read room _ _ segment i l (semicolon k))
+  inner_read : {d : decl.Declaration} {k : Lexeme} {ts rest : List Lexeme} (after : Bool)
+      → dl.Declaration false segment d ts (k ∷ rest) → Is s.Semicolon k
+      → (is_subroutine d || not after) ≡ true
+      → Near (declaration room (λ _. refuse) false after segment) ts (k ∷ rest) (Got d (k ∷ rest))
+  inner_read after (dl.Declaration.simple o i l) k e = rw (not_after after e)
+      (simple_read room _ _ segment o i l (semicolon k))
+  inner_read after (dl.Declaration.array o c i l) k e = rw (not_after after e)
+      (array_decl_read room _ _ segment o c i l (semicolon k))
+  inner_read after (dl.Declaration.pointers_of i p l) k e = rw (not_after after e)
+      (pointers_read room _ _ segment i p l (semicolon k))
+  inner_read after (dl.Declaration.equate i l) k e = rw (not_after after e)
+      (equate_read room _ _ segment i l (semicolon k))
+  inner_read after (dl.Declaration.intrinsic i l) k e = rw (not_after after e)
+      (intrinsic_read room _ _ segment i l (semicolon k))
+  inner_read after (dl.Declaration.label i l) k e = rw (not_after after e)
+      (label_read room _ _ segment i l (semicolon k))
   inner_read after (dl.Declaration.subroutine h x) k e = subroutine_decl room _ _ segment after h x k
 
-  inner_first : {d : decl.Declaration} {ts rest : List Lexeme} → dl.Declaration false segment d ts rest → Begins (declares room (λ _. refuse) false) true ts
+  inner_first : {d : decl.Declaration} {ts rest : List Lexeme} → dl.Declaration false segment d ts rest
+      → Begins (declares room (λ _. refuse) false) true ts
   unfolding declares
   inner_first (dl.Declaration.simple dl.Own.absent i l) = by_is _ _ _ _ _ i refl
   inner_first (dl.Declaration.simple (dl.Own.given o) i l) = by_is _ _ _ _ _ o refl
@@ -378,37 +489,51 @@ module _ (room : ℕ) (segment : ℕ) where
   inner_first (dl.Declaration.equate i l) = by_is _ _ _ _ _ i refl
   inner_first (dl.Declaration.intrinsic i l) = by_is _ _ _ _ _ i refl
   inner_first (dl.Declaration.label i l) = by_is _ _ _ _ _ i refl
-  inner_first (dl.Declaration.subroutine (dl.SubroutineHeading.heading dl.Result.absent p i ns vs ss k) x) = by_is _ _ _ _ _ p refl
-  inner_first (dl.Declaration.subroutine (dl.SubroutineHeading.heading (dl.Result.given r) p i ns vs ss k) x) = by_is _ _ _ _ _ r refl
+  inner_first (dl.Declaration.subroutine (dl.SubroutineHeading.heading dl.Result.absent p i ns vs ss k) x) = by_is _ _
+      _ _ _ p refl
+  inner_first (dl.Declaration.subroutine (dl.SubroutineHeading.heading (dl.Result.given r) p i ns vs ss k) x) = by_is _
+      _ _ _ _ r refl
 
-  inners_read : {after : Bool} {ds : List decl.Declaration} {ts rest : List Lexeme} → dl.Declarations false after segment ds ts rest
+  inners_read : {after : Bool} {ds : List decl.Declaration} {ts rest : List Lexeme}
+      → dl.Declarations false after segment ds ts rest
       → Begins (declares room (λ _. refuse) false) false rest → (so_far : List decl.Declaration)
-      → Near (repeat (more_declarations room (λ _. refuse) false segment) (decl_state after so_far)) ts rest (Got (decl_state (after_all after ds) (so_far ++ ds)) rest)
+      → Near (repeat (more_declarations room (λ _. refuse) false segment) (decl_state after so_far)) ts rest
+      (Got (decl_state (after_all after ds) (so_far ++ ds)) rest)
   unfolding more_declarations after_all
-  inners_read {after = after} {rest = rest} dl.Declarations.none b so_far = near_to (near_last _ (choose_else (declares room (λ _. refuse) false) _ b (near_pure _ _)))
+  inners_read {after = after} {rest = rest} dl.Declarations.none b so_far = near_to
+      (near_last _ (choose_else (declares room (λ _. refuse) false) _ b (near_pure _ _)))
       (ap (λ xs. Got (decl_state after xs) rest) (sym (append-nil so_far)))
   inners_read {after = after} {rest = rest} (dl.Declarations.more {d = d} {ds = ds} {mid = mid} x e k l) b so_far =
       let r = inner_read after x k e in
-      near_turn {v = decl_state (is_subroutine d) (so_far ++ d ∷ [])} {m = mid} (takes_more_declarations room (λ _. refuse) false no_body segment) (let n = r.within in omega arith)
-      (choose_then (declares room (λ _. refuse) false) _ (inner_first x) (near_then _ r (near_then _ (near_expect k) (near_pure _ _))))
-      (near_to (inners_read l b (so_far ++ d ∷ [])) (ap (λ xs. Got (decl_state (after_all (is_subroutine d) ds) xs) rest) (append_assoc so_far (d ∷ []) ds)))
+      near_turn {v = decl_state (is_subroutine d) (so_far ++ d ∷ [])} {m = mid}
+      (takes_more_declarations room (λ _. refuse) false no_body segment) (let n = r.within in omega arith)
+      (choose_then (declares room (λ _. refuse) false) _ (inner_first x)
+      (near_then _ r (near_then _ (near_expect k) (near_pure _ _))))
+      (near_to (inners_read l b (so_far ++ d ∷ []))
+      (ap (λ xs. Got (decl_state (after_all (is_subroutine d) ds) xs) rest) (append_assoc so_far (d ∷ []) ds)))
 
-  inner_list_read : {ds : List decl.Declaration} {ts rest : List Lexeme} → dl.Declarations false false segment ds ts rest → Begins (declares room (λ _. refuse) false) false rest
+  inner_list_read : {ds : List decl.Declaration} {ts rest : List Lexeme}
+      → dl.Declarations false false segment ds ts rest → Begins (declares room (λ _. refuse) false) false rest
       → Near (declaration_list room (λ _. refuse) false segment) ts rest (Got ds rest)
   unfolding declaration_list
   inner_list_read l b = near_then _ (inners_read l b []) (near_pure _ _)
 
 -- the body of a procedure
-body_read : (room n : ℕ) (ds : List decl.Declaration) (xs : List stat.Statement) (k : Lexeme) (ts rest : List Lexeme) → dl.Body n ds xs ts (k ∷ rest) → Is s.Semicolon k
+body_read : (room n : ℕ) (ds : List decl.Declaration) (xs : List stat.Statement) (k : Lexeme) (ts rest : List Lexeme)
+    → dl.Body n ds xs ts (k ∷ rest) → Is s.Semicolon k
     → Near (body room n) ts (k ∷ rest) (Got (body_pair ds xs) (k ∷ rest))
 unfolding body
-body_read room n ds xs k ts rest (dl.Body.block i l x z) j = near_symbol _ i (near_if _ (same_self (s.Word w.Begin)) (near_then _ near_take (near_then _ (inner_list_read room n l (list_first room _ _ x z))
+body_read room n ds xs k ts rest (dl.Body.block i l x z) j = near_symbol _ i
+    (near_if _ (same_self (s.Word w.Begin))
+    (near_then _ near_take (near_then _ (inner_list_read room n l (list_first room _ _ x z))
     (near_then _ (list_read (complete_list x z) room) (near_then _ (near_expect z) (near_pure _ _))))))
-body_read room n ds xs k ts rest (dl.Body.single x c) j = choose_else (is (s.Word w.Begin)) _ (single_no_begin x c) (near_then _ ((complete_statement x (af.semicolon j)).reads room)
+body_read room n ds xs k ts rest (dl.Body.single x c) j = choose_else (is (s.Word w.Begin)) _ (single_no_begin x c)
+    (near_then _ ((complete_statement x (af.semicolon j)).reads room)
     (near_if _ c (near_pure _ _)))
 
 -- A declaration of a unit, said of another segment.
-of_unit : {u : Bool} {m n : ℕ} {d : decl.Declaration} {ts rest : List Lexeme} → dl.Declaration u m d ts rest → dl.Declaration u n (of_segment n d) ts rest
+of_unit : {u : Bool} {m n : ℕ} {d : decl.Declaration} {ts rest : List Lexeme} → dl.Declaration u m d ts rest
+    → dl.Declaration u n (of_segment n d) ts rest
 of_unit (dl.Declaration.simple o i l) = dl.Declaration.simple o i l
 of_unit (dl.Declaration.array o c i l) = dl.Declaration.array o c i l
 of_unit (dl.Declaration.pointers_of i p l) = dl.Declaration.pointers_of i p l
@@ -419,9 +544,11 @@ of_unit (dl.Declaration.procedure h b) = dl.Declaration.procedure h b
 of_unit (dl.Declaration.procedure_with h p o f g j b) = dl.Declaration.procedure_with h p o f g j b
 of_unit (dl.Declaration.forward h p o f) = dl.Declaration.forward h p o f
 of_unit (dl.Declaration.external h p o f) = dl.Declaration.external h p o f
-of_unit (dl.Declaration.subroutine (dl.SubroutineHeading.heading r p i ns vs ss k) x) = dl.Declaration.subroutine (dl.SubroutineHeading.heading r p i ns vs ss k) x
+of_unit (dl.Declaration.subroutine (dl.SubroutineHeading.heading r p i ns vs ss k) x) = dl.Declaration.subroutine
+    (dl.SubroutineHeading.heading r p i ns vs ss k) x
 
-back_again : {u : Bool} {m : ℕ} (n : ℕ) {d : decl.Declaration} {ts rest : List Lexeme} → dl.Declaration u m d ts rest → of_segment m (of_segment n d) ≡ d
+back_again : {u : Bool} {m : ℕ} (n : ℕ) {d : decl.Declaration} {ts rest : List Lexeme} → dl.Declaration u m d ts rest
+    → of_segment m (of_segment n d) ≡ d
 back_again n (dl.Declaration.simple o i l) = refl
 back_again n (dl.Declaration.array o c i l) = refl
 back_again n (dl.Declaration.pointers_of i p l) = refl
@@ -444,11 +571,14 @@ same_sort n (decl.Declaration.external h) = refl
 same_sort n (decl.Declaration.procedure h ds xs) = refl
 same_sort n (decl.Declaration.subroutine h x) = refl
 
-of_units : {u after : Bool} {m : ℕ} (n : ℕ) {ds : List decl.Declaration} {ts rest : List Lexeme} → dl.Declarations u after m ds ts rest → dl.Declarations u after n (map (of_segment n) ds) ts rest
+of_units : {u after : Bool} {m : ℕ} (n : ℕ) {ds : List decl.Declaration} {ts rest : List Lexeme}
+    → dl.Declarations u after m ds ts rest → dl.Declarations u after n (map (of_segment n) ds) ts rest
 of_units n dl.Declarations.none = dl.Declarations.none
-of_units {after = after} n (dl.Declarations.more {d = d} x e k l) = dl.Declarations.more (of_unit x) (rw (same_sort n d) e) k (rw (same_sort n d) (of_units n l))
+of_units {after = after} n (dl.Declarations.more {d = d} x e k l) = dl.Declarations.more (of_unit x)
+    (rw (same_sort n d) e) k (rw (same_sort n d) (of_units n l))
 
-all_back : {u after : Bool} {m : ℕ} (n : ℕ) {ds : List decl.Declaration} {ts rest : List Lexeme} → dl.Declarations u after m ds ts rest → map (of_segment m) (map (of_segment n) ds) ≡ ds
+all_back : {u after : Bool} {m : ℕ} (n : ℕ) {ds : List decl.Declaration} {ts rest : List Lexeme}
+    → dl.Declarations u after m ds ts rest → map (of_segment m) (map (of_segment n) ds) ≡ ds
 all_back n dl.Declarations.none = refl
 all_back {m = m} n (dl.Declarations.more {d = d} {ds = ds} x e k l) = rw (back_again n x, all_back n l) refl
 
@@ -461,6 +591,10 @@ segment_read {ts = t ∷ us} e = near_same (omega arith) refl
 -- a unit
 pub unit_read : {u : UnitTree} {ts : List Lexeme} → Unit_of u ts → (room : ℕ) → Near (rd.unit room) ts [] (Got u [])
 unfolding rd.unit
-unit_read (unit {ds = ds} {xs = xs} {b = b} {mid = mid} i l x z d e) room = near_then _ (near_expect i) (near_then _ (declaration_list_read room (body room) 0 (body_read room) (local_body room) (of_units 0 l) (list_first room _ _ x z))
-    (near_then _ (segment_read (let n = tk.no_longer_list x in omega arith)) (near_then _ (list_read (complete_list x z) room) (near_then _ (near_expect z) (near_then _ (near_expect d) (near_then _ (near_expect e)
+unit_read (unit {ds = ds} {xs = xs} {b = b} {mid = mid} i l x z d e) room = near_then _ (near_expect i)
+    (near_then _ (declaration_list_read room (body room) 0 (body_read room) (local_body room) (of_units 0 l)
+    (list_first room _ _ x z))
+    (near_then _ (segment_read (let n = tk.no_longer_list x in omega arith))
+    (near_then _ (list_read (complete_list x z) room)
+    (near_then _ (near_expect z) (near_then _ (near_expect d) (near_then _ (near_expect e)
     (near_to (near_pure _ _) (ap (λ ds. Got (unit_tree_of ds xs (segment_at mid) b.at) []) (all_back 0 l)))))))))

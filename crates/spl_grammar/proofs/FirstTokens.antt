@@ -16,14 +16,16 @@ use Rattle.spl_grammar.specs.Readers.{same_symbol, symbol_number}
 pub data Begins (test : Symbol → Bool) (b : Bool) : List Lexeme → Type 0 where
   with_first : {t : Lexeme} {ts : List Lexeme} → test t.symbol ≡ b → Begins test b (t ∷ ts)
 
-pub by_is : (test : Symbol → Bool) (b : Bool) (k : Symbol) (t : Lexeme) (ts : List Lexeme) → Is k t → test k ≡ b → Begins test b (t ∷ ts)
+pub by_is : (test : Symbol → Bool) (b : Bool) (k : Symbol) (t : Lexeme) (ts : List Lexeme) → Is k t → test k ≡ b
+    → Begins test b (t ∷ ts)
 by_is test b k t ts e f = with_first (ap test e ∙ f)
 
 sign_of : Symbol → Bool
 sign_of k = is_sign (operator_of k)
 
 -- a primary is no sign,
-primary_no_sign : {f : Option At} {x : Form} {e : tree.Tree} {ts rest : List Lexeme} → g.Primary f x e ts rest → Begins (λ k. is_sign (operator_of k)) false ts
+primary_no_sign : {f : Option At} {x : Form} {e : tree.Tree} {ts rest : List Lexeme} → g.Primary f x e ts rest
+    → Begins (λ k. is_sign (operator_of k)) false ts
 unfolding operator_of
 primary_no_sign (g.Primary.number i) = by_is _ _ _ _ _ i refl
 primary_no_sign (g.Primary.wide i) = by_is _ _ _ _ _ i refl
@@ -38,7 +40,8 @@ primary_no_sign (g.Primary.address_of i _ _ _ _) = by_is _ _ _ _ _ i refl
 primary_no_sign (g.Primary.parens i _ _) = by_is _ _ _ _ _ i refl
 primary_no_sign (g.Primary.transfer i _ _ _) = by_is _ _ _ _ _ i refl
 
-unary_no_sign : {f : Option At} {x : Form} {e : tree.Tree} {ts rest : List Lexeme} → g.Unary f x e ts rest → Begins (λ k. is_sign (operator_of k)) false ts
+unary_no_sign : {f : Option At} {x : Form} {e : tree.Tree} {ts rest : List Lexeme} → g.Unary f x e ts rest
+    → Begins (λ k. is_sign (operator_of k)) false ts
 unfolding operator_of
 unary_no_sign (g.Unary.inverse i _) = by_is _ _ _ _ _ i refl
 unary_no_sign (g.Unary.plain p) = primary_no_sign p
@@ -48,7 +51,8 @@ below_sum : (h : ℕ) → suc h ≤ 2 → (suc h == 3) ≡ true → ⊥
 below_sum h l e = grind (arith, nat_tests, e)
 
 -- and so is a part below the sums
-pub no_sign : {c : Bool} {f : Option At} {h n : ℕ} {x : Form} {e : tree.Tree} {ts rest : List Lexeme} → g.Level c f h n x e ts rest
+pub no_sign : {c : Bool} {f : Option At} {h n : ℕ} {x : Form} {e : tree.Tree} {ts rest : List Lexeme}
+    → g.Level c f h n x e ts rest
     → h ≤ 2 → Begins (λ k. is_sign (operator_of k)) false ts
 no_sign (g.Level.operand u) l = unary_no_sign u
 no_sign (g.Level.up _ d) l = no_sign d (omega arith)
@@ -61,11 +65,13 @@ no_sign (g.Level.shifted _ d _ _ _ _ v _) l = no_sign d l
 no_sign (g.Level.bytes _ d _ _ r _) l = no_sign d (omega arith)
 
 -- what a minus negates begins with a number
-primary_number : {f : At} {x : Form} {e : tree.Tree} {ts rest : List Lexeme} → g.Primary (Some f) x e ts rest → Begins is_number true ts
+primary_number : {f : At} {x : Form} {e : tree.Tree} {ts rest : List Lexeme} → g.Primary (Some f) x e ts rest
+    → Begins is_number true ts
 primary_number (g.Primary.negative_number i) = by_is _ _ _ _ _ i refl
 primary_number (g.Primary.negative_wide i) = by_is _ _ _ _ _ i refl
 
-pub number_first : {c : Bool} {f : At} {h n : ℕ} {x : Form} {e : tree.Tree} {ts rest : List Lexeme} → g.Level c (Some f) h n x e ts rest
+pub number_first : {c : Bool} {f : At} {h n : ℕ} {x : Form} {e : tree.Tree} {ts rest : List Lexeme}
+    → g.Level c (Some f) h n x e ts rest
     → Begins is_number true ts
 number_first (g.Level.operand (g.Unary.plain p)) = primary_number p
 number_first (g.Level.operand (g.Unary.bits p _ _ _ _ _ _)) = primary_number p
@@ -76,7 +82,8 @@ number_first (g.Level.shifted _ d _ _ _ _ v _) = number_first d
 number_first (g.Level.bytes _ d _ _ r _) = number_first d
 
 -- a primary does not begin with NOT
-pub primary_no_not : {f : Option At} {x : Form} {e : tree.Tree} {ts rest : List Lexeme} → g.Primary f x e ts rest → Begins (is s.Not) false ts
+pub primary_no_not : {f : Option At} {x : Form} {e : tree.Tree} {ts rest : List Lexeme} → g.Primary f x e ts rest
+    → Begins (is s.Not) false ts
 unfolding same_symbol symbol_number
 primary_no_not (g.Primary.number i) = by_is _ _ _ _ _ i refl
 primary_no_not (g.Primary.wide i) = by_is _ _ _ _ _ i refl
@@ -96,7 +103,8 @@ abbrev pub is_reserved : Symbol → Bool
 is_reserved (s.Word w) = true
 is_reserved _ = false
 
-primary_no_word : {f : Option At} {x : Form} {e : tree.Tree} {ts rest : List Lexeme} → g.Primary f x e ts rest → Begins is_reserved false ts
+primary_no_word : {f : Option At} {x : Form} {e : tree.Tree} {ts rest : List Lexeme} → g.Primary f x e ts rest
+    → Begins is_reserved false ts
 primary_no_word (g.Primary.number i) = by_is _ _ _ _ _ i refl
 primary_no_word (g.Primary.wide i) = by_is _ _ _ _ _ i refl
 primary_no_word (g.Primary.negative_number i) = by_is _ _ _ _ _ i refl
@@ -110,7 +118,8 @@ primary_no_word (g.Primary.address_of i _ _ _ _) = by_is _ _ _ _ _ i refl
 primary_no_word (g.Primary.parens i _ _) = by_is _ _ _ _ _ i refl
 primary_no_word (g.Primary.transfer i _ _ _) = by_is _ _ _ _ _ i refl
 
-pub no_word : {c : Bool} {f : Option At} {h n : ℕ} {x : Form} {e : tree.Tree} {ts rest : List Lexeme} → g.Level c f h n x e ts rest → Begins is_reserved false ts
+pub no_word : {c : Bool} {f : Option At} {h n : ℕ} {x : Form} {e : tree.Tree} {ts rest : List Lexeme}
+    → g.Level c f h n x e ts rest → Begins is_reserved false ts
 no_word (g.Level.operand (g.Unary.inverse i u)) = by_is _ _ _ _ _ i refl
 no_word (g.Level.operand (g.Unary.plain p)) = primary_no_word p
 no_word (g.Level.operand (g.Unary.bits p _ _ _ _ _ _)) = primary_no_word p
@@ -123,7 +132,8 @@ no_word (g.Level.related _ d _ _ r _) = no_word d
 no_word (g.Level.shifted _ d _ _ _ _ v _) = no_word d
 no_word (g.Level.bytes _ d _ _ r _) = no_word d
 
-primary_no_relation : {f : Option At} {x : Form} {e : tree.Tree} {ts rest : List Lexeme} → g.Primary f x e ts rest → Begins (λ k. is_relation (operator_of k)) false ts
+primary_no_relation : {f : Option At} {x : Form} {e : tree.Tree} {ts rest : List Lexeme} → g.Primary f x e ts rest
+    → Begins (λ k. is_relation (operator_of k)) false ts
 unfolding operator_of
 primary_no_relation (g.Primary.number i) = by_is _ _ _ _ _ i refl
 primary_no_relation (g.Primary.wide i) = by_is _ _ _ _ _ i refl
@@ -142,7 +152,8 @@ sign_no_relation : (op : ℕ) → is_sign op ≡ true → is_relation op ≡ fal
 sign_no_relation op e = grind (arith, nat_tests, e)
 
 -- nor does it begin with a relation
-pub no_relation : {c : Bool} {f : Option At} {h n : ℕ} {x : Form} {e : tree.Tree} {ts rest : List Lexeme} → g.Level c f h n x e ts rest → Begins (λ k. is_relation (operator_of k)) false ts
+pub no_relation : {c : Bool} {f : Option At} {h n : ℕ} {x : Form} {e : tree.Tree} {ts rest : List Lexeme}
+    → g.Level c f h n x e ts rest → Begins (λ k. is_relation (operator_of k)) false ts
 unfolding operator_of
 no_relation (g.Level.operand (g.Unary.inverse i u)) = by_is _ _ _ _ _ i refl
 no_relation (g.Level.operand (g.Unary.plain p)) = primary_no_relation p

@@ -22,7 +22,8 @@ stops_below c h j k l st = record {
   comma = q st.comma;
 }
   where
-    o : (binds (operator_of k) ≡ 0) ⊎ (h < binds (operator_of k)) → (binds (operator_of k) ≡ 0) ⊎ (j < binds (operator_of k))
+    o : (binds (operator_of k) ≡ 0) ⊎ (h < binds (operator_of k))
+        → (binds (operator_of k) ≡ 0) ⊎ (j < binds (operator_of k))
     o (inl e) = inl e
     o (inr e) = inr (omega arith)
 
@@ -39,7 +40,8 @@ pub follow_below : (c : Bool) (h j : ℕ) {ts : List Lexeme} → j ≤ h → Fol
 follow_below c h j l (behind {t = t} st) = behind (stops_below c h j t.symbol l st)
 
 -- a token of this symbol stops, if the symbol does
-pub follow_is : {c : Bool} {h : ℕ} {k : Symbol} {t : Lexeme} {ts : List Lexeme} → Is k t → Stops c h k → Follow c h (t ∷ ts)
+pub follow_is : {c : Bool} {h : ℕ} {k : Symbol} {t : Lexeme} {ts : List Lexeme} → Is k t → Stops c h k
+    → Follow c h (t ∷ ts)
 follow_is e st = behind (rw e st)
 
 -- "," and ")" stop an expression
@@ -54,7 +56,8 @@ stops_comma h = record { dot = refl; opening = refl; operator = inl refl; mark =
 -- an operator stops what binds more
 pub stops_operator : (c : Bool) (h op : ℕ) → h < binds op → Stops c h (s.Operator op)
 unfolding same_symbol symbol_number operator_of
-stops_operator c h op l = record { dot = refl; opening = refl; operator = inr l; mark = inr refl; comma = inr (inr refl) }
+stops_operator c h op l = record
+    { dot = refl; opening = refl; operator = inr l; mark = inr refl; comma = inr (inr refl) }
 
 -- `&` stops an operand
 pub stops_mark : (c : Bool) → Stops c 0 s.Ampersand
@@ -64,7 +67,8 @@ stops_mark c = record { dot = refl; opening = refl; operator = inl refl; mark = 
 -- a comma stops what is below the comparisons of bytes
 pub stops_comma_below : (c : Bool) (h : ℕ) → h < 8 → Stops c h s.Comma
 unfolding same_symbol symbol_number operator_of binds
-stops_comma_below c h l = record { dot = refl; opening = refl; operator = inl refl; mark = inr refl; comma = inr (inl l) }
+stops_comma_below c h l = record
+    { dot = refl; opening = refl; operator = inl refl; mark = inr refl; comma = inr (inl l) }
 
 -- the tests of a turn at what stops its level
 pub not_operator : (h b : ℕ) → (b ≡ 0) ⊎ (suc h < b) → (b == suc h) ≡ false
@@ -79,7 +83,8 @@ not_mark h b (inr e) = rw e (go (suc h == 1))
     go true = refl
     go false = refl
 
-pub not_bytes : (c : Bool) (h : ℕ) (b x : Bool) → (c ≡ false) ⊎ ((suc h < 8) ⊎ (b ≡ false)) → (c && (suc h == 8) && b && x) ≡ false
+pub not_bytes : (c : Bool) (h : ℕ) (b x : Bool) → (c ≡ false) ⊎ ((suc h < 8) ⊎ (b ≡ false))
+    → (c && (suc h == 8) && b && x) ≡ false
 not_bytes c h b x (inl e) = rw e (go (suc h == 8) b x)
   where
     go : (a b x : Bool) → (false && a && b && x) ≡ false
@@ -100,12 +105,14 @@ not_bytes c h b x (inr (inr e)) = rw e (go c (suc h == 8) x)
 module _ (u : ℕ → Option At → Parser Found) (count : ℕ → Parser tree.Tree) (room : ℕ) (c : Bool) (taken : ℕ)
     (below : ℕ → Option At → Parser Found) (h : ℕ) (at : At) (r : Found) where
   -- a loop ends at what stops its level
-  pub repeat_stops : (ts : List Lexeme) → Follow c (suc h) ts → Near (repeat (turn u count room c taken below h at) r) ts ts (Got r ts)
+  pub repeat_stops : (ts : List Lexeme) → Follow c (suc h) ts
+      → Near (repeat (turn u count room c taken below h at) r) ts ts (Got r ts)
   unfolding turn turn_by
   repeat_stops _ (behind st) = near_last _ (near_head _ (near_else _ (not_operator h _ st.operator)
       (near_else _ (not_mark h _ st.mark) (near_else _ (not_bytes c h _ _ st.comma) (near_pure _ _)))))
 
-  pub turn_stops : (ts : List Lexeme) → Follow c (suc h) ts → turn u count room c taken below h at r ts ≡ Got (false, r) ts
+  pub turn_stops : (ts : List Lexeme) → Follow c (suc h) ts
+      → turn u count room c taken below h at r ts ≡ Got (false, r) ts
   unfolding turn turn_by by_symbol pure
   turn_stops _ (behind {t = t} {ts = ts} st) = rw (
     not_operator h (binds (operator_of t.symbol)) st.operator,
@@ -114,6 +121,7 @@ module _ (u : ℕ → Option At → Parser Found) (count : ℕ → Parser tree.T
   ) refl
 
   -- the loop answers what was read so far
-  pub repeat_is : (ts : List Lexeme) → Follow c (suc h) ts → repeat (turn u count room c taken below h at) r ts ≡ Got r ts
+  pub repeat_is : (ts : List Lexeme) → Follow c (suc h) ts
+      → repeat (turn u count room c taken below h at) r ts ≡ Got r ts
   unfolding repeat turns followed and_then pure
   repeat_is ts w = rw (turn_stops ts w) refl

@@ -44,10 +44,12 @@ unfolding and_then followed pure refuse by_symbol take at_place allowed kind_num
 readers = 0
 
 -- BEGIN INTEGER A; A:=1 END .
-reads_a_unit : rd.unit 64 (mark (s.Word w.Begin) 1 ∷ mark (s.Type kind.Integer) 2 ∷ name 65 3 ∷ mark s.Semicolon 4 ∷ name 65 5 ∷ mark s.Assign 6 ∷ mark (s.Number 1) 7
+reads_a_unit : rd.unit 64 (mark (s.Word w.Begin) 1 ∷ mark (s.Type kind.Integer) 2 ∷ name 65 3 ∷ mark s.Semicolon 4 ∷
+    name 65 5 ∷ mark s.Assign 6 ∷ mark (s.Number 1) 7
     ∷ mark (s.Word w.End) 8 ∷ mark s.Dot 9 ∷ stop 10)
     ≡ Got (record {
-      items = decl.Declaration.data_items false kind.Integer (record { name = 65 ∷ []; at = at 3; shape = decl.Shape.simple; first = [] } ∷ []) ∷ [];
+      items = decl.Declaration.data_items false kind.Integer
+          (record { name = 65 ∷ []; at = at 3; shape = decl.Shape.simple; first = [] } ∷ []) ∷ [];
       statements = stat.Statement.assign (stat.Target.plain (variable 65 5)) (tree.Tree.number 1) (at 5) ∷ [];
       segment = 0;
       at = at 1;
@@ -62,7 +64,8 @@ unfolding readers
 reads_an_empty_unit = refl
 
 -- BEGIN SUBROUTINE S;; INTEGER A: behind a subroutine only subroutines stand
-refuses_data_behind_a_subroutine : rd.unit 64 (mark (s.Word w.Begin) 1 ∷ mark (s.Word w.Subroutine) 2 ∷ name 83 3 ∷ mark s.Semicolon 4 ∷ mark s.Semicolon 5
+refuses_data_behind_a_subroutine : rd.unit 64
+    (mark (s.Word w.Begin) 1 ∷ mark (s.Word w.Subroutine) 2 ∷ name 83 3 ∷ mark s.Semicolon 4 ∷ mark s.Semicolon 5
     ∷ mark (s.Type kind.Integer) 6 ∷ name 65 7 ∷ stop 8) ≡ Bad (name 65 7 ∷ stop 8)
 unfolding readers
 refuses_data_behind_a_subroutine = refl

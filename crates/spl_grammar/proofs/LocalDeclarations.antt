@@ -22,11 +22,13 @@ use Rattle.spl_grammar.proofs.LocalStatements.{local_statement, local_list}
 module _ {A : Type 0} (part : Parser A) (lp : IsLocal part) where
   local_more_parts : (xs : List A) → IsLocal (more_parts part xs)
   unfolding more_parts
-  local_more_parts xs = local_symbol (λ k. local_if _ (local_then local_take (λ _. local_then lp (λ x. local_pure _))) (local_pure _))
+  local_more_parts xs = local_symbol
+      (λ k. local_if _ (local_then local_take (λ _. local_then lp (λ x. local_pure _))) (local_pure _))
 
   pub takes_more_parts : (xs : List A) (ts : List Lexeme) → Taking (length ts) (more_parts part xs ts)
   unfolding more_parts
-  takes_more_parts xs = taking_symbol (λ k. taking_if _ (taking (takes_then takes_take (λ _. local_then lp (λ x. local_pure _)))) (taking_none xs))
+  takes_more_parts xs = taking_symbol
+      (λ k. taking_if _ (taking (takes_then takes_take (λ _. local_then lp (λ x. local_pure _)))) (taking_none xs))
 
   pub local_separated : IsLocal (separated part)
   unfolding separated
@@ -54,17 +56,22 @@ local_array = search (locals, local_shape) depth 7
 
 local_more_arrays : (r : List decl.Item × decl.Item) → IsLocal (more_arrays r)
 unfolding more_arrays
-local_more_arrays r = local_symbol (λ k. local_if _ (local_then local_take (λ _. local_then local_array (λ i. local_pure _)))
-    (local_if _ (local_then local_take (λ _. local_then (local_separated constant local_constant) (λ vs. local_pure _))) (local_pure _)))
+local_more_arrays r = local_symbol
+    (λ k. local_if _ (local_then local_take (λ _. local_then local_array (λ i. local_pure _)))
+    (local_if _ (local_then local_take
+    (λ _. local_then (local_separated constant local_constant) (λ vs. local_pure _))) (local_pure _)))
 
 pub takes_more_arrays : (r : List decl.Item × decl.Item) (ts : List Lexeme) → Taking (length ts) (more_arrays r ts)
 unfolding more_arrays
-takes_more_arrays r = taking_symbol (λ k. taking_if _ (taking (takes_then takes_take (λ _. local_then local_array (λ i. local_pure _))))
-    (taking_if _ (taking (takes_then takes_take (λ _. local_then (local_separated constant local_constant) (λ vs. local_pure _)))) (taking_none r)))
+takes_more_arrays r = taking_symbol
+    (λ k. taking_if _ (taking (takes_then takes_take (λ _. local_then local_array (λ i. local_pure _))))
+    (taking_if _ (taking (takes_then takes_take
+    (λ _. local_then (local_separated constant local_constant) (λ vs. local_pure _)))) (taking_none r)))
 
 pub local_arrays : IsLocal arrays
 unfolding arrays
-local_arrays = local_then local_array (λ i. local_then (local_repeat ([], i) local_more_arrays takes_more_arrays) (λ r. local_pure _))
+local_arrays = local_then local_array
+    (λ i. local_then (local_repeat ([], i) local_more_arrays takes_more_arrays) (λ r. local_pure _))
 
 local_more_terms : (ts : List decl.Term) → IsLocal (more_terms ts)
 unfolding more_terms
@@ -72,19 +79,26 @@ local_more_terms ts = search (locals, local_constant) depth 7
 
 pub takes_more_terms : (xs : List decl.Term) (ts : List Lexeme) → Taking (length ts) (more_terms xs ts)
 unfolding more_terms
-takes_more_terms xs = taking_symbol (λ k. taking_if _ (taking (takes_then takes_take (λ _. local_then local_constant (λ v. local_pure _)))) (taking_none xs))
+takes_more_terms xs = taking_symbol
+    (λ k. taking_if _ (taking (takes_then takes_take (λ _. local_then local_constant (λ v. local_pure _))))
+    (taking_none xs))
 
 pub local_equal : IsLocal equal
 unfolding equal
-local_equal = local_then (local_expect _) (λ t. local_then (local_expect _) (λ _. local_then local_constant (λ v. local_then (local_repeat _ local_more_terms takes_more_terms) (λ ts. local_pure _))))
+local_equal = local_then (local_expect _)
+    (λ t. local_then (local_expect _)
+    (λ _. local_then local_constant
+    (λ v. local_then (local_repeat _ local_more_terms takes_more_terms) (λ ts. local_pure _))))
 
 -- a choice by the first token
-token_shrinks : {A : Type 0} (f : Lexeme → Parser A) → ((t : Lexeme) → IsLocal (f t)) → (ts : List Lexeme) → length (end_of (by_token f ts)) ≤ length ts
+token_shrinks : {A : Type 0} (f : Lexeme → Parser A) → ((t : Lexeme) → IsLocal (f t)) → (ts : List Lexeme)
+    → length (end_of (by_token f ts)) ≤ length ts
 unfolding by_token
 token_shrinks f l [] = omega arith
 token_shrinks f l (t ∷ ts) = (l t).shrinks (t ∷ ts)
 
-token_alike : {A : Type 0} (f : Lexeme → Parser A) → ((t : Lexeme) → IsLocal (f t)) → (us vs ts more : List Lexeme) → Agrees us vs ts more → Like us vs (by_token f ts) (by_token f more)
+token_alike : {A : Type 0} (f : Lexeme → Parser A) → ((t : Lexeme) → IsLocal (f t)) → (us vs ts more : List Lexeme)
+    → Agrees us vs ts more → Like us vs (by_token f ts) (by_token f more)
 unfolding by_token
 token_alike f l us vs _ _ (here {t = t}) = (l t).alike us vs _ _ here
 token_alike f l us vs _ _ (there {t = t} h) = (l t).alike us vs _ _ (there h)
@@ -103,11 +117,14 @@ local_option a = local_token (λ t. local_if _ (local_among a _) local_refuse)
 
 local_more_options : (a : Options) → IsLocal (more_options a)
 unfolding more_options
-local_more_options a = local_symbol (λ k. local_if _ (local_then local_take (λ _. local_then (local_option a) (λ b. local_pure _))) (local_pure _))
+local_more_options a = local_symbol
+    (λ k. local_if _ (local_then local_take (λ _. local_then (local_option a) (λ b. local_pure _))) (local_pure _))
 
 pub takes_more_options : (a : Options) (ts : List Lexeme) → Taking (length ts) (more_options a ts)
 unfolding more_options
-takes_more_options a = taking_symbol (λ k. taking_if _ (taking (takes_then takes_take (λ _. local_then (local_option a) (λ b. local_pure _)))) (taking_none a))
+takes_more_options a = taking_symbol
+    (λ k. taking_if _ (taking (takes_then takes_take (λ _. local_then (local_option a) (λ b. local_pure _))))
+    (taking_none a))
 
 local_options : IsLocal options
 unfolding options
@@ -128,7 +145,9 @@ local_spec_behind c = search (locals, local_spec_names)
 local_spec_by : (ss : List decl.Spec) (k : Symbol) → IsLocal (spec_by ss k)
 unfolding spec_by
 local_spec_by ss (s.Type c) = search (locals, local_spec_behind)
-local_spec_by ss _ = local_symbol (λ k. local_if _ (local_then local_take (λ _. local_then (local_spec_names kind.Logical true) (λ x. local_pure _))) (local_pure _))
+local_spec_by ss _ = local_symbol
+    (λ k. local_if _ (local_then local_take (λ _. local_then (local_spec_names kind.Logical true) (λ x. local_pure _)))
+    (local_pure _))
 
 local_more_specs : (ss : List decl.Spec) → IsLocal (more_specs ss)
 unfolding more_specs
@@ -137,7 +156,9 @@ local_more_specs ss = local_symbol (local_spec_by ss)
 takes_spec_by : (ss : List decl.Spec) (k : Symbol) (ts : List Lexeme) → Taking (length ts) (spec_by ss k ts)
 unfolding spec_by
 takes_spec_by ss (s.Type c) = taking (takes_then takes_take (λ _. local_then (local_spec_behind c) (λ x. local_pure _)))
-takes_spec_by ss _ = taking_symbol (λ k. taking_if _ (taking (takes_then takes_take (λ _. local_then (local_spec_names kind.Logical true) (λ x. local_pure _)))) (taking_none ss))
+takes_spec_by ss _ = taking_symbol
+    (λ k. taking_if _ (taking (takes_then takes_take
+    (λ _. local_then (local_spec_names kind.Logical true) (λ x. local_pure _)))) (taking_none ss))
 
 pub takes_more_specs : (ss : List decl.Spec) (ts : List Lexeme) → Taking (length ts) (more_specs ss ts)
 unfolding more_specs
@@ -148,7 +169,10 @@ local_specs ss = local_repeat ss local_more_specs takes_more_specs
 
 local_tail : IsLocal heading_tail
 unfolding heading_tail
-local_tail = local_then (local_expect _) (λ _. local_symbol (λ k. local_if _ (local_then local_take (λ _. local_then local_names (λ vs. local_then (local_expect _) (λ _. local_then (local_specs []) (λ ss. local_pure _)))))
+local_tail = local_then (local_expect _)
+    (λ _. local_symbol (λ k. local_if _
+    (local_then local_take (λ _. local_then local_names
+    (λ vs. local_then (local_expect _) (λ _. local_then (local_specs []) (λ ss. local_pure _)))))
     (local_then (local_specs []) (λ ss. local_pure _))))
 
 local_heading : (r : Option Kind) (segment : Lexeme → ℕ) → IsLocal (heading r segment)
@@ -166,9 +190,14 @@ module _ (room : ℕ) (body_of : ℕ → Parser BodyRead) (u : Bool) (lb : (segm
 
   local_behind_heading : (h : Bool → decl.Heading) → IsLocal (behind_heading room body_of u h)
   unfolding behind_heading
-  local_behind_heading h = local_symbol (λ k. local_if _ (local_then local_take (λ _. local_then local_options (λ a. local_if a.forward (local_pure (decl.Declaration.forward (h a.split)))
-      (local_if a.external (local_pure (decl.Declaration.external (h a.split))) (local_then (local_expect s.Semicolon) (λ _. local_then (lb (h a.split).segment) (λ b.
-      local_pure (decl.Declaration.procedure (h a.split) (decl.declarations b.0) b.1)))))))) (local_then (lb (h false).segment) (λ b. local_pure (decl.Declaration.procedure (h false) (decl.declarations b.0) b.1))))
+  local_behind_heading h = local_symbol
+      (λ k. local_if _ (local_then local_take
+      (λ _. local_then local_options (λ a. local_if a.forward (local_pure (decl.Declaration.forward (h a.split)))
+      (local_if a.external (local_pure (decl.Declaration.external (h a.split)))
+      (local_then (local_expect s.Semicolon) (λ _. local_then (lb (h a.split).segment) (λ b.
+      local_pure (decl.Declaration.procedure (h a.split) (decl.declarations b.0) b.1))))))))
+      (local_then (lb (h false).segment)
+      (λ b. local_pure (decl.Declaration.procedure (h false) (decl.declarations b.0) b.1))))
 
   local_procedure : (r : Option Kind) → IsLocal (procedure room body_of u r)
   unfolding procedure
@@ -176,18 +205,24 @@ module _ (room : ℕ) (body_of : ℕ → Parser BodyRead) (u : Bool) (lb : (segm
 
   local_subroutine : (segment : ℕ) (r : Option Kind) → IsLocal (subroutine room body_of u segment r)
   unfolding subroutine
-  local_subroutine segment r = local_then (local_heading r _) (λ h. local_then (local_statement room) (λ x. local_pure _))
+  local_subroutine segment r = local_then (local_heading r _)
+      (λ h. local_then (local_statement room) (λ x. local_pure _))
 
   local_owned : (k : Symbol) → IsLocal (owned_by room body_of u k)
   unfolding owned_by
   local_owned (s.Type c) = search (locals, local_array_data, local_item_data)
   local_owned k = search (locals, local_array_data)
 
-  local_typed_by : (after : Bool) (segment : ℕ) (c : Kind) (k : Symbol) → IsLocal (typed_by room body_of u after segment c k)
+  local_typed_by : (after : Bool) (segment : ℕ) (c : Kind) (k : Symbol)
+      → IsLocal (typed_by room body_of u after segment c k)
   unfolding typed_by
-  local_typed_by after segment c k = local_if (is (s.Word w.Subroutine) k) (local_subroutine segment (Some c)) (local_if after local_refuse (local_if (is (s.Word w.Array) k) (local_array_data false c)
-      (local_if (is (s.Word w.Pointer) k) (local_then local_take (λ _. local_then local_names (λ ns. local_pure (decl.Declaration.data_items false c (pointers ns)))))
-      (local_if (is (s.Word w.Procedure) k) (local_if u (local_procedure (Some c)) local_refuse) (local_item_data false c)))))
+  local_typed_by after segment c k = local_if (is (s.Word w.Subroutine) k) (local_subroutine segment (Some c))
+      (local_if after local_refuse (local_if (is (s.Word w.Array) k) (local_array_data false c)
+      (local_if (is (s.Word w.Pointer) k)
+      (local_then local_take (λ _. local_then local_names
+      (λ ns. local_pure (decl.Declaration.data_items false c (pointers ns)))))
+      (local_if (is (s.Word w.Procedure) k) (local_if u (local_procedure (Some c)) local_refuse)
+      (local_item_data false c)))))
 
   local_typed : (after : Bool) (segment : ℕ) (c : Kind) → IsLocal (typed room body_of u after segment c)
   unfolding typed
@@ -198,13 +233,17 @@ module _ (room : ℕ) (body_of : ℕ → Parser BodyRead) (u : Bool) (lb : (segm
   local_by_word after segment w.Subroutine = local_subroutine segment None
   local_by_word after segment w.Own = local_if _ local_refuse (local_then local_take (λ _. local_symbol local_owned))
   local_by_word after segment w.Array = local_if _ local_refuse (local_array_data false kind.Logical)
-  local_by_word after segment w.Equate = local_if _ local_refuse (local_then local_take (λ _. local_then (local_separated equal local_equal) (λ es. local_pure _)))
-  local_by_word after segment w.Intrinsic = local_if _ local_refuse (local_then local_take (λ _. local_then local_names (λ ns. local_pure _)))
-  local_by_word after segment w.Label = local_if _ local_refuse (local_then local_take (λ _. local_then local_names (λ ns. local_pure _)))
+  local_by_word after segment w.Equate = local_if _ local_refuse
+      (local_then local_take (λ _. local_then (local_separated equal local_equal) (λ es. local_pure _)))
+  local_by_word after segment w.Intrinsic = local_if _ local_refuse
+      (local_then local_take (λ _. local_then local_names (λ ns. local_pure _)))
+  local_by_word after segment w.Label = local_if _ local_refuse
+      (local_then local_take (λ _. local_then local_names (λ ns. local_pure _)))
   local_by_word after segment w.Procedure = local_if _ local_refuse (local_if _ (local_procedure None) local_refuse)
   local_by_word after segment _ = local_refuse
 
-  local_declaration_by : (after : Bool) (segment : ℕ) (k : Symbol) → IsLocal (declaration_by room body_of u after segment k)
+  local_declaration_by : (after : Bool) (segment : ℕ) (k : Symbol)
+      → IsLocal (declaration_by room body_of u after segment k)
   unfolding declaration_by
   local_declaration_by after segment (s.Type c) = local_then local_take (λ _. local_typed after segment c)
   local_declaration_by after segment (s.Word k) = local_by_word after segment k
@@ -216,7 +255,9 @@ module _ (room : ℕ) (body_of : ℕ → Parser BodyRead) (u : Bool) (lb : (segm
 
   local_more : (segment : ℕ) (r : Bool × List decl.Declaration) → IsLocal (more_declarations room body_of u segment r)
   unfolding more_declarations
-  local_more segment r = local_symbol (λ k. local_if _ (local_then (local_declaration r.0 segment) (λ d. local_then (local_expect _) (λ _. local_pure _))) (local_pure _))
+  local_more segment r = local_symbol
+      (λ k. local_if _ (local_then (local_declaration r.0 segment)
+      (λ d. local_then (local_expect _) (λ _. local_pure _))) (local_pure _))
 
   takes_heading : (r : Option Kind) (segment : Lexeme → ℕ) → Takes (heading r segment)
   unfolding heading
@@ -224,20 +265,27 @@ module _ (room : ℕ) (body_of : ℕ → Parser BodyRead) (u : Bool) (lb : (segm
 
   takes_subroutine : (segment : ℕ) (r : Option Kind) → Takes (subroutine room body_of u segment r)
   unfolding subroutine
-  takes_subroutine segment r = takes_then (takes_heading r _) (λ h. local_then (local_statement room) (λ x. local_pure _))
+  takes_subroutine segment r = takes_then (takes_heading r _)
+      (λ h. local_then (local_statement room) (λ x. local_pure _))
 
   takes_by_word : (after : Bool) (segment : ℕ) (k : Reserved) → Takes (by_word room body_of u after segment k)
   unfolding by_word array_data procedure
   takes_by_word after segment w.Subroutine = takes_subroutine segment None
   takes_by_word after segment w.Own = takes_if _ takes_refuse (takes_then takes_take (λ _. local_symbol local_owned))
-  takes_by_word after segment w.Array = takes_if _ takes_refuse (takes_then takes_take (λ _. local_then local_arrays (λ is. local_pure _)))
-  takes_by_word after segment w.Equate = takes_if _ takes_refuse (takes_then takes_take (λ _. local_then (local_separated equal local_equal) (λ es. local_pure _)))
-  takes_by_word after segment w.Intrinsic = takes_if _ takes_refuse (takes_then takes_take (λ _. local_then local_names (λ ns. local_pure _)))
-  takes_by_word after segment w.Label = takes_if _ takes_refuse (takes_then takes_take (λ _. local_then local_names (λ ns. local_pure _)))
-  takes_by_word after segment w.Procedure = takes_if _ takes_refuse (takes_if _ (takes_then (takes_heading None _) local_behind_heading) takes_refuse)
+  takes_by_word after segment w.Array = takes_if _ takes_refuse
+      (takes_then takes_take (λ _. local_then local_arrays (λ is. local_pure _)))
+  takes_by_word after segment w.Equate = takes_if _ takes_refuse
+      (takes_then takes_take (λ _. local_then (local_separated equal local_equal) (λ es. local_pure _)))
+  takes_by_word after segment w.Intrinsic = takes_if _ takes_refuse
+      (takes_then takes_take (λ _. local_then local_names (λ ns. local_pure _)))
+  takes_by_word after segment w.Label = takes_if _ takes_refuse
+      (takes_then takes_take (λ _. local_then local_names (λ ns. local_pure _)))
+  takes_by_word after segment w.Procedure = takes_if _ takes_refuse
+      (takes_if _ (takes_then (takes_heading None _) local_behind_heading) takes_refuse)
   takes_by_word after segment _ = takes_refuse
 
-  takes_declaration_by : (after : Bool) (segment : ℕ) (k : Symbol) → Takes (declaration_by room body_of u after segment k)
+  takes_declaration_by : (after : Bool) (segment : ℕ) (k : Symbol)
+      → Takes (declaration_by room body_of u after segment k)
   unfolding declaration_by
   takes_declaration_by after segment (s.Type c) = takes_then takes_take (λ _. local_typed after segment c)
   takes_declaration_by after segment (s.Word k) = takes_by_word after segment k
@@ -247,18 +295,25 @@ module _ (room : ℕ) (body_of : ℕ → Parser BodyRead) (u : Bool) (lb : (segm
   unfolding declaration
   takes_declaration after segment = takes_symbol (takes_declaration_by after segment)
 
-  pub takes_more_declarations : (segment : ℕ) (r : Bool × List decl.Declaration) (ts : List Lexeme) → Taking (length ts) (more_declarations room body_of u segment r ts)
+  pub takes_more_declarations : (segment : ℕ) (r : Bool × List decl.Declaration) (ts : List Lexeme)
+      → Taking (length ts) (more_declarations room body_of u segment r ts)
   unfolding more_declarations
-  takes_more_declarations segment r = taking_symbol (λ k. taking_if _ (taking (takes_then (takes_declaration r.0 segment) (λ d. local_then (local_expect _) (λ _. local_pure _)))) (taking_none r))
+  takes_more_declarations segment r = taking_symbol
+      (λ k. taking_if _ (taking (takes_then (takes_declaration r.0 segment)
+      (λ d. local_then (local_expect _) (λ _. local_pure _)))) (taking_none r))
 
   pub local_declaration_list : (segment : ℕ) → IsLocal (declaration_list room body_of u segment)
   unfolding declaration_list
-  local_declaration_list segment = local_then (local_repeat _ (local_more segment) (takes_more_declarations segment)) (λ r. local_pure _)
+  local_declaration_list segment = local_then (local_repeat _ (local_more segment) (takes_more_declarations segment))
+      (λ r. local_pure _)
 
 pub local_body : (room segment : ℕ) → IsLocal (body room segment)
 unfolding body
-local_body room segment = local_symbol (λ k. local_if _ (local_then local_take (λ _. local_then (local_declaration_list room (λ _. refuse) false (λ _. local_refuse) segment) (λ ds.
-    local_then (local_list (statement room) (local_statement room)) (λ xs. local_then (local_expect _) (λ _. local_pure _)))))
+local_body room segment = local_symbol
+    (λ k. local_if _ (local_then local_take
+    (λ _. local_then (local_declaration_list room (λ _. refuse) false (λ _. local_refuse) segment) (λ ds.
+    local_then (local_list (statement room) (local_statement room))
+    (λ xs. local_then (local_expect _) (λ _. local_pure _)))))
     (local_then (local_statement room) (λ x. local_if _ (local_pure _) local_refuse)))
 
 segment_shrinks : (ts : List Lexeme) → length (end_of (next_segment ts)) ≤ length ts
@@ -276,5 +331,9 @@ local_segment = record { shrinks = segment_shrinks; alike = segment_alike }
 
 pub local_unit : (room : ℕ) → IsLocal (unit room)
 unfolding unit
-local_unit room = local_then (local_expect _) (λ b. local_then (local_declaration_list room (body room) true (local_body room) 0) (λ ds. local_then local_segment (λ segment.
-    local_then (local_list (statement room) (local_statement room)) (λ xs. local_then (local_expect _) (λ _. local_then (local_expect _) (λ _. local_then (local_expect _) (λ _. local_pure _)))))))
+local_unit room = local_then (local_expect _)
+    (λ b. local_then (local_declaration_list room (body room) true (local_body room) 0)
+    (λ ds. local_then local_segment (λ segment.
+    local_then (local_list (statement room) (local_statement room))
+    (λ xs. local_then (local_expect _)
+    (λ _. local_then (local_expect _) (λ _. local_then (local_expect _) (λ _. local_pure _)))))))

@@ -48,19 +48,23 @@ unfolding opening enter
 local_opening room taken = search locals
 
 -- a further argument takes its comma
-pub takes_more : (room : ℕ) (inner : Parser Found) (whole_one : Parser tree.Tree) (taken : ℕ) → IsLocal whole_one → (es : List tree.Tree) (ts : List Lexeme)
+pub takes_more : (room : ℕ) (inner : Parser Found) (whole_one : Parser tree.Tree) (taken : ℕ) → IsLocal whole_one
+    → (es : List tree.Tree) (ts : List Lexeme)
     → Taking (length ts) (more_arguments room inner whole_one taken es ts)
 unfolding more_arguments
-takes_more room inner whole_one taken lw es = taking_symbol (λ k. taking_if _ (taking (takes_then (takes_then takes_take (λ _. lw)) (λ _. local_pure _))) (taking_none es))
+takes_more room inner whole_one taken lw es = taking_symbol
+    (λ k. taking_if _ (taking (takes_then (takes_then takes_take (λ _. lw)) (λ _. local_pure _))) (taking_none es))
 
-module _ (room : ℕ) (inner : Parser Found) (whole_one : Parser tree.Tree) (taken : ℕ) (li : IsLocal inner) (lw : IsLocal whole_one) where
+module _ (room : ℕ) (inner : Parser Found) (whole_one : Parser tree.Tree) (taken : ℕ) (li : IsLocal inner)
+    (lw : IsLocal whole_one) where
   pub local_enclosed : IsLocal (enclosed room inner whole_one taken)
   unfolding enclosed
   local_enclosed = local_then (local_opening room taken) (λ _. local_then lw (λ e. search locals))
 
   pub local_more : (es : List tree.Tree) → IsLocal (more_arguments room inner whole_one taken es)
   unfolding more_arguments
-  local_more es = local_symbol (λ k. local_if _ (local_then (local_then local_take (λ _. lw)) (λ e. local_pure _)) (local_pure _))
+  local_more es = local_symbol (λ k. local_if _ (local_then (local_then local_take (λ _. lw)) (λ e. local_pure _))
+      (local_pure _))
 
   pub local_arguments : IsLocal (arguments room inner whole_one taken)
   unfolding arguments
@@ -102,22 +106,26 @@ module _ (room : ℕ) (inner : Parser Found) (whole_one : Parser tree.Tree) (tak
 
 module _ (u : ℕ → Option At → Parser Found) (count : ℕ → Parser tree.Tree) (room : ℕ) (c : Bool) (taken : ℕ)
     (lu : (k : ℕ) (f : Option At) → IsLocal (u k f)) (lc : (k : ℕ) → IsLocal (count k)) where
-  pub local_next : (below : ℕ → Option At → Parser Found) → ((n : ℕ) (f : Option At) → IsLocal (below n f)) → (n : ℕ) (t : Lexeme) (k : Symbol)
+  pub local_next : (below : ℕ → Option At → Parser Found) → ((n : ℕ) (f : Option At) → IsLocal (below n f))
+      → (n : ℕ) (t : Lexeme) (k : Symbol)
       → IsLocal (signed_by_next u count room c taken below n t k)
   unfolding signed_by_next
   local_next below l n t k = search (locals, l)
 
-  pub local_first : (below : ℕ → Option At → Parser Found) → ((n : ℕ) (f : Option At) → IsLocal (below n f)) → (h n : ℕ) (f : Option At)
+  pub local_first : (below : ℕ → Option At → Parser Found) → ((n : ℕ) (f : Option At) → IsLocal (below n f))
+      → (h n : ℕ) (f : Option At)
       → IsLocal (first u count room c taken below h n f)
   unfolding first
   local_first below l h n f = search (locals, l, local_next below l) depth 7
 
-  pub local_join : (below : ℕ → Option At → Parser Found) → ((n : ℕ) (f : Option At) → IsLocal (below n f)) → (h : ℕ) (at : At) (r : Found)
+  pub local_join : (below : ℕ → Option At → Parser Found) → ((n : ℕ) (f : Option At) → IsLocal (below n f))
+      → (h : ℕ) (at : At) (r : Found)
       → IsLocal (join u count room c taken below h at r)
   unfolding join counted
   local_join below l h at r = search (locals, l)
 
-  takes_join : (below : ℕ → Option At → Parser Found) → ((n : ℕ) (f : Option At) → IsLocal (below n f)) → (h : ℕ) (at : At) (r : Found)
+  takes_join : (below : ℕ → Option At → Parser Found) → ((n : ℕ) (f : Option At) → IsLocal (below n f))
+      → (h : ℕ) (at : At) (r : Found)
       → Takes (join u count room c taken below h at r)
   unfolding join counted
   takes_join below l h at r = takes_then (takes_allowed _) (λ o. search (locals, l))
@@ -138,12 +146,14 @@ module _ (u : ℕ → Option At → Parser Found) (count : ℕ → Parser tree.T
   unfolding bytes
   takes_bytes r = takes_then takes_take (λ o. search (locals, local_opening, lc) depth 8)
 
-  pub local_turn : (below : ℕ → Option At → Parser Found) → ((n : ℕ) (f : Option At) → IsLocal (below n f)) → (h : ℕ) (at : At) (r : Found)
+  pub local_turn : (below : ℕ → Option At → Parser Found) → ((n : ℕ) (f : Option At) → IsLocal (below n f))
+      → (h : ℕ) (at : At) (r : Found)
       → IsLocal (turn u count room c taken below h at r)
   unfolding turn turn_by
   local_turn below l h at r = search (locals, local_join below l, local_shifted, local_bytes) depth 7
 
-  pub takes_turn : (below : ℕ → Option At → Parser Found) → ((n : ℕ) (f : Option At) → IsLocal (below n f)) → (h : ℕ) (at : At) (r : Found)
+  pub takes_turn : (below : ℕ → Option At → Parser Found) → ((n : ℕ) (f : Option At) → IsLocal (below n f))
+      → (h : ℕ) (at : At) (r : Found)
       (ts : List Lexeme) → Taking (length ts) (turn u count room c taken below h at r ts)
   unfolding turn turn_by
   takes_turn below l h at r = taking_symbol (λ k. taking_if _ (taking (takes_join below l h at r))
@@ -153,16 +163,20 @@ module _ (u : ℕ → Option At → Parser Found) (count : ℕ → Parser tree.T
   unfolding level
   local_level zero n f = search (locals, lu)
   local_level (suc h) n f = local_then local_place (λ at. local_then (local_first _ (local_level h) h n f)
-      (λ r. local_repeat r (local_turn _ (local_level h) h (begins f at)) (takes_turn _ (local_level h) h (begins f at))))
+      (λ r. local_repeat r (local_turn _ (local_level h) h (begins f at))
+      (takes_turn _ (local_level h) h (begins f at))))
 
-pub local_whole : (u : ℕ → Option At → Parser Found) (room taken : ℕ) → ((k : ℕ) (f : Option At) → IsLocal (u k f)) → IsLocal (whole u room taken)
+pub local_whole : (u : ℕ → Option At → Parser Found) (room taken : ℕ) → ((k : ℕ) (f : Option At) → IsLocal (u k f))
+    → IsLocal (whole u room taken)
 unfolding whole
-local_whole u room taken lu = local_then (local_level u _ room false taken lu (λ _. local_refuse) 10 0 None) (λ r. local_pure _)
+local_whole u room taken lu = local_then (local_level u _ room false taken lu (λ _. local_refuse) 10 0 None)
+    (λ r. local_pure _)
 
 pub local_unary : (room taken : ℕ) (f : Option At) → IsLocal (unary room taken f)
 unfolding unary
 local_unary zero taken f = local_unary_step _ _ _ _ local_refuse local_refuse f
-local_unary (suc room) taken f = local_unary_step _ _ _ _ (local_unary room taken None) (local_whole _ _ _ (local_unary room)) f
+local_unary (suc room) taken f = local_unary_step _ _ _ _ (local_unary room taken None)
+    (local_whole _ _ _ (local_unary room)) f
 
 pub local_expression : (room taken : ℕ) → IsLocal (expression room taken)
 unfolding expression
@@ -175,4 +189,5 @@ local_within (suc room) taken = local_expression room taken
 
 pub local_condition : (room taken : ℕ) → IsLocal (condition room taken)
 unfolding condition
-local_condition room taken = local_then (local_level _ _ room true taken (local_unary room) (local_within room) 10 0 None) (λ r. local_pure _)
+local_condition room taken = local_then
+    (local_level _ _ room true taken (local_unary room) (local_within room) 10 0 None) (λ r. local_pure _)

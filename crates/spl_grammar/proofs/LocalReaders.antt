@@ -1,4 +1,5 @@
--- What a reader answers depends on no token behind the one that it stops at. Stated of two lists that agree up to a token.
+-- What a reader answers depends on no token behind the one that it stops at. Stated of two lists that agree up to a
+-- token.
 use Rattle.std.proofs.Common.{ℕ, zero, suc, ◌+◌, ◌≡◌, ◌<◌, ◌≤◌, Bool, true, false, List, [], ◌∷◌, length, Option, Some, None, if◌then◌else◌, refl, arith, ◌⊎◌, inl, inr}
 use Rattle.spl_tree.specs.declared.symbols.Symbol.{Symbol}
 use Rattle.spl_tree.specs.declared.symbols.Symbol.TheVariants as s
@@ -59,14 +60,16 @@ pub local_place : IsLocal at_place
 local_place = record { shrinks = place_shrinks; alike = place_alike }
 
 -- one part after another
-then_shrinks : {A B : Type 0} (f : A → Parser B) (n : ℕ) → ((a : A) → IsLocal (f a)) → (o : Outcome A) → length (end_of o) ≤ n
+then_shrinks : {A B : Type 0} (f : A → Parser B) (n : ℕ) → ((a : A) → IsLocal (f a)) → (o : Outcome A)
+    → length (end_of o) ≤ n
     → length (end_of (and_then o f)) ≤ n
 unfolding and_then
 then_shrinks f n l (Got a rest) h = let s = (l a).shrinks rest in omega arith
 then_shrinks f n l (Bad rest) h = h
 then_shrinks f n l (Deep rest) h = h
 
-then_alike : {A B : Type 0} (f : A → Parser B) (us vs : List Lexeme) → ((a : A) → IsLocal (f a)) → (o p : Outcome A) → Like us vs o p
+then_alike : {A B : Type 0} (f : A → Parser B) (us vs : List Lexeme) → ((a : A) → IsLocal (f a)) → (o p : Outcome A)
+    → Like us vs o p
     → Like us vs (and_then o f) (and_then p f)
 unfolding and_then
 then_alike f us vs l _ _ (got {a = a} h) = (l a).alike us vs _ _ h
@@ -74,7 +77,8 @@ then_alike f us vs l _ _ (bad h) = bad h
 then_alike f us vs l _ _ (deep h) = deep h
 then_alike f us vs l o p (past h) = past (then_shrinks f _ l o h)
 
-pub local_then : {A B : Type 0} {p : Parser A} {f : A → Parser B} → IsLocal p → ((a : A) → IsLocal (f a)) → IsLocal (followed p f)
+pub local_then : {A B : Type 0} {p : Parser A} {f : A → Parser B} → IsLocal p → ((a : A) → IsLocal (f a))
+    → IsLocal (followed p f)
 unfolding followed
 local_then {p = p} {f = f} l m = record {
   shrinks = λ ts. then_shrinks f _ m (p ts) (l.shrinks ts);
@@ -122,7 +126,8 @@ local_numbered (Some n) = local_then local_take (λ _. local_pure n)
 local_bad : {A : Type 0} → IsLocal {A = A} (λ ts. Bad ts)
 local_bad = record { shrinks = λ ts. omega arith; alike = λ us vs ts more h. bad h }
 
-named_at : (table : List ℕ → Option ℕ) (t : Lexeme) → IsLocal (λ ts. if same_symbol t.symbol s.Name then numbered (table t.letters) ts else Bad ts)
+named_at : (table : List ℕ → Option ℕ) (t : Lexeme)
+    → IsLocal (λ ts. if same_symbol t.symbol s.Name then numbered (table t.letters) ts else Bad ts)
 named_at table t = go (same_symbol t.symbol s.Name)
   where
     go : (b : Bool) → IsLocal (λ ts. if b then numbered (table t.letters) ts else Bad ts)
@@ -172,21 +177,25 @@ then_same p q n _ bad h = refl
 then_same p q n _ deep h = refl
 
 -- with more turns than there are tokens, no further turn changes what is read
-pub turns_enough : {S : Type 0} (step : S → Parser (Bool × S)) → ((s : S) (ts : List Lexeme) → Taking (length ts) (step s ts))
+pub turns_enough : {S : Type 0} (step : S → Parser (Bool × S))
+    → ((s : S) (ts : List Lexeme) → Taking (length ts) (step s ts))
     → (n m : ℕ) (s : S) (ts : List Lexeme) → length ts < n → length ts < m → turns step n s ts ≡ turns step m s ts
 unfolding turns followed pure
 turns_enough step t zero m s ts h g = absurd (omega arith)
 turns_enough step t (suc n) zero s ts h g = absurd (omega arith)
-turns_enough {S} step t (suc n) (suc m) s ts h g = then_same _ _ (length ts) (step s ts) (t s ts) (next (turns_enough step t n m))
+turns_enough {S} step t (suc n) (suc m) s ts h g = then_same _ _ (length ts) (step s ts) (t s ts)
+    (next (turns_enough step t n m))
   where
-    next : ((u : S) (rest : List Lexeme) → length rest < n → length rest < m → turns step n u rest ≡ turns step m u rest)
+    next : ((u : S) (rest : List Lexeme) → length rest < n → length rest < m
+        → turns step n u rest ≡ turns step m u rest)
         → (b : Bool) (u : S) (rest : List Lexeme) → (b ≡ false) ⊎ (length rest < length ts)
         → (if b then turns step n u else pure u) rest ≡ (if b then turns step m u else pure u) rest
     next same false u rest l = refl
     next same true u rest (inl e) = cc
     next same true u rest (inr l) = same u rest (omega arith) (omega arith)
 
-local_turns : {S : Type 0} (step : S → Parser (Bool × S)) → ((s : S) → IsLocal (step s)) → (n : ℕ) (s : S) → IsLocal (turns step n s)
+local_turns : {S : Type 0} (step : S → Parser (Bool × S)) → ((s : S) → IsLocal (step s)) → (n : ℕ) (s : S)
+    → IsLocal (turns step n s)
 unfolding turns
 local_turns step l zero s = local_refuse
 local_turns step l (suc n) s = local_then (l s) (λ r. local_if r.0 (local_turns step l n r.1) (local_pure r.1))
@@ -222,7 +231,8 @@ unfolding take
 takes_take [] = bad
 takes_take (t ∷ ts) = got (omega arith)
 
-takes_then_go : {A B : Type 0} (f : A → Parser B) (n : ℕ) → ((a : A) → IsLocal (f a)) → (o : Outcome A) → Shorter n o → Shorter n (and_then o f)
+takes_then_go : {A B : Type 0} (f : A → Parser B) (n : ℕ) → ((a : A) → IsLocal (f a)) → (o : Outcome A) → Shorter n o
+    → Shorter n (and_then o f)
 unfolding and_then
 takes_then_go {B = B} f n l _ (got {a = a} {rest = rest} h) = go (f a rest) (let s = (l a).shrinks rest in omega arith)
   where
@@ -234,7 +244,8 @@ takes_then_go f n l _ bad = bad
 takes_then_go f n l _ deep = deep
 
 -- a part that begins with one that takes a token
-pub takes_then : {A B : Type 0} {p : Parser A} {f : A → Parser B} → Takes p → ((a : A) → IsLocal (f a)) → Takes (followed p f)
+pub takes_then : {A B : Type 0} {p : Parser A} {f : A → Parser B} → Takes p → ((a : A) → IsLocal (f a))
+    → Takes (followed p f)
 unfolding followed
 takes_then {p = p} {f = f} h l ts = takes_then_go f (length ts) l (p ts) (h ts)
 
@@ -263,11 +274,13 @@ unfolding pure
 taking_none s ts = stop
 
 pub taking_if : {S : Type 0} {p q : Parser (Bool × S)} (b : Bool) → ((ts : List Lexeme) → Taking (length ts) (p ts))
-    → ((ts : List Lexeme) → Taking (length ts) (q ts)) → (ts : List Lexeme) → Taking (length ts) ((if b then p else q) ts)
+    → ((ts : List Lexeme) → Taking (length ts) (q ts)) → (ts : List Lexeme)
+    → Taking (length ts) ((if b then p else q) ts)
 taking_if true h g = h
 taking_if false h g = g
 
-pub taking_symbol : {S : Type 0} {f : Symbol → Parser (Bool × S)} → ((k : Symbol) (ts : List Lexeme) → Taking (length ts) (f k ts))
+pub taking_symbol : {S : Type 0} {f : Symbol → Parser (Bool × S)}
+    → ((k : Symbol) (ts : List Lexeme) → Taking (length ts) (f k ts))
     → (ts : List Lexeme) → Taking (length ts) (by_symbol f ts)
 unfolding by_symbol
 taking_symbol h [] = bad
@@ -283,4 +296,15 @@ unfolding refuse
 takes_refuse ts = bad
 
 -- how the readers are put together
-pub ruleset locals = (local_pure, local_refuse, local_take, local_place, local_then, local_symbol, local_if, local_allowed, local_expect, local_named)
+pub ruleset locals = (
+  local_pure,
+  local_refuse,
+  local_take,
+  local_place,
+  local_then,
+  local_symbol,
+  local_if,
+  local_allowed,
+  local_expect,
+  local_named,
+)

@@ -73,11 +73,14 @@ local_go g = search locals
 module _ (inner : Parser stat.Statement) (li : IsLocal inner) where
   local_more : (xs : List stat.Statement) → IsLocal (more_statements inner xs)
   unfolding more_statements
-  local_more xs = local_symbol (λ k. local_if _ (local_then local_take (λ _. local_then li (λ x. local_pure _))) (local_pure _))
+  local_more xs = local_symbol (λ k. local_if _ (local_then local_take (λ _. local_then li (λ x. local_pure _)))
+      (local_pure _))
 
-  pub takes_more_statements : (xs : List stat.Statement) (ts : List Lexeme) → Taking (length ts) (more_statements inner xs ts)
+  pub takes_more_statements : (xs : List stat.Statement) (ts : List Lexeme)
+      → Taking (length ts) (more_statements inner xs ts)
   unfolding more_statements
-  takes_more_statements xs = taking_symbol (λ k. taking_if _ (taking (takes_then takes_take (λ _. local_then li (λ x. local_pure _)))) (taking_none xs))
+  takes_more_statements xs = taking_symbol
+      (λ k. taking_if _ (taking (takes_then takes_take (λ _. local_then li (λ x. local_pure _)))) (taking_none xs))
 
   pub local_list : IsLocal (statement_list inner)
   unfolding statement_list
@@ -94,7 +97,8 @@ module _ (room below : ℕ) (inner : Parser stat.Statement) (li : IsLocal inner)
 
   local_with : (t : Lexeme) → IsLocal (with_arguments room below inner t)
   unfolding with_arguments
-  local_with t = local_then (local_arguments room refuse (within room 0) 0 local_refuse (local_within room 0)) (λ es. local_if _ (local_behind room _ _ _) (local_pure _))
+  local_with t = local_then (local_arguments room refuse (within room 0) 0 local_refuse (local_within room 0))
+      (λ es. local_if _ (local_behind room _ _ _) (local_pure _))
 
   local_named_statement : (t : Lexeme) → IsLocal (named_statement room below inner t)
   unfolding named_statement
@@ -110,28 +114,41 @@ module _ (room below : ℕ) (inner : Parser stat.Statement) (li : IsLocal inner)
 
   local_else : (i : Lexeme) (q : stat.Test) (x : stat.Statement) → IsLocal (else_behind room below inner i q x)
   unfolding else_behind
-  local_else i q x = local_symbol (λ k. local_if _ (local_then local_take (λ _. local_then li (λ y. local_pure _))) (local_pure _))
+  local_else i q x = local_symbol
+      (λ k. local_if _ (local_then local_take (λ _. local_then li (λ y. local_pure _))) (local_pure _))
 
   local_if_statement : IsLocal (if_statement room below inner)
   unfolding if_statement
-  local_if_statement = local_then local_enter (λ i. local_then (local_test below) (λ q. local_then (local_expect _) (λ _. local_then li (local_else i q))))
+  local_if_statement = local_then local_enter
+      (λ i. local_then (local_test below) (λ q. local_then (local_expect _) (λ _. local_then li (local_else i q))))
 
   local_while : IsLocal (while_statement room below inner)
   unfolding while_statement
-  local_while = local_then local_enter (λ t. local_then (local_condition below 0) (λ e. local_then (local_expect _) (λ _. local_then li (λ x. local_pure _))))
+  local_while = local_then local_enter
+      (λ t. local_then (local_condition below 0)
+      (λ e. local_then (local_expect _) (λ _. local_then li (λ x. local_pure _))))
 
   local_do : IsLocal (do_statement room below inner)
   unfolding do_statement
-  local_do = local_then local_enter (λ t. local_then li (λ x. local_then (local_expect _) (λ _. local_then (local_condition below 0) (λ e. local_pure _))))
+  local_do = local_then local_enter
+      (λ t. local_then li (λ x. local_then (local_expect _)
+      (λ _. local_then (local_condition below 0) (λ e. local_pure _))))
 
   local_for : IsLocal (for_statement room below inner)
   unfolding for_statement
-  local_for = local_then local_enter (λ f. local_then (local_expect _) (λ t. local_then (local_expect _) (λ _. local_then (local_expression below 0) (λ a. local_then (local_stepped below) (λ es.
-      local_then (local_expect _) (λ _. local_then (local_expression below 0) (λ b. local_then (local_expect _) (λ _. local_then li (λ x. local_pure _)))))))))
+  local_for = local_then local_enter
+      (λ f. local_then (local_expect _)
+      (λ t. local_then (local_expect _)
+      (λ _. local_then (local_expression below 0) (λ a. local_then (local_stepped below) (λ es.
+      local_then (local_expect _) (λ _. local_then (local_expression below 0)
+      (λ b. local_then (local_expect _) (λ _. local_then li (λ x. local_pure _)))))))))
 
   local_case : IsLocal (case_statement room below inner)
   unfolding case_statement
-  local_case = local_then local_enter (λ c. local_then (local_expression below 0) (λ e. local_then (local_expect _) (λ _. local_then (local_expect _) (λ _. local_then (local_list inner li) (λ xs. search locals)))))
+  local_case = local_then local_enter
+      (λ c. local_then (local_expression below 0)
+      (λ e. local_then (local_expect _)
+      (λ _. local_then (local_expect _) (λ _. local_then (local_list inner li) (λ xs. search locals)))))
 
   local_go_statement : IsLocal (go_statement room below inner)
   unfolding go_statement

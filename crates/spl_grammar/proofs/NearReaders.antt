@@ -12,7 +12,8 @@ pub record Near {A : Type 0} (p : Parser A) (ts m : List Lexeme) (y : Outcome A)
   pub within : length m ≤ length ts
   pub outcome : (p ts ≡ y) ⊎ DeepBefore (length m) (p ts)
 
-pub near_same : {A : Type 0} {p : Parser A} {ts m : List Lexeme} {y : Outcome A} → length m ≤ length ts → p ts ≡ y → Near p ts m y
+pub near_same : {A : Type 0} {p : Parser A} {ts m : List Lexeme} {y : Outcome A} → length m ≤ length ts → p ts ≡ y
+    → Near p ts m y
 near_same h e = record { within = h; outcome = inl e }
 
 -- to an equal outcome
@@ -20,7 +21,8 @@ pub near_to : {A : Type 0} {p : Parser A} {ts m : List Lexeme} {y z : Outcome A}
 near_to {p = p} {ts = ts} {m = m} n e = rw (← e) n
 
 -- by another reader that reads the same there
-pub near_from : {A : Type 0} {p q : Parser A} {ts m : List Lexeme} {y : Outcome A} → p ts ≡ q ts → Near q ts m y → Near p ts m y
+pub near_from : {A : Type 0} {p q : Parser A} {ts m : List Lexeme} {y : Outcome A} → p ts ≡ q ts → Near q ts m y
+    → Near p ts m y
 near_from {p = p} {q = q} {ts = ts} {m = m} {y = y} e n = record { within = n.within; outcome = go (p ts) e }
   where
     go : (o : Outcome _) → o ≡ q ts → (o ≡ y) ⊎ DeepBefore (length m) o
@@ -54,7 +56,8 @@ pub near_place : {t : Lexeme} {ts : List Lexeme} → Near at_place (t ∷ ts) (t
 unfolding at_place
 near_place = near_same (omega arith) refl
 
-pub near_symbol : {A : Type 0} (f : Symbol → Parser A) {k : Symbol} {t : Lexeme} {ts m : List Lexeme} {y : Outcome A} → Is k t
+pub near_symbol : {A : Type 0} (f : Symbol → Parser A) {k : Symbol} {t : Lexeme} {ts m : List Lexeme} {y : Outcome A}
+    → Is k t
     → Near (f k) (t ∷ ts) m y → Near (by_symbol f) (t ∷ ts) m y
 unfolding by_symbol
 near_symbol f {t = t} {ts = ts} e n = near_from (ap (λ k. f k (t ∷ ts)) e) n
@@ -69,11 +72,13 @@ pub same_self : (k : Symbol) → same_symbol k k ≡ true
 unfolding same_symbol
 same_self k = search rules
 
-pub near_if : {A : Type 0} {p : Parser A} (q : Parser A) {b : Bool} {ts m : List Lexeme} {y : Outcome A} → b ≡ true → Near p ts m y
+pub near_if : {A : Type 0} {p : Parser A} (q : Parser A) {b : Bool} {ts m : List Lexeme} {y : Outcome A} → b ≡ true
+    → Near p ts m y
     → Near (if b then p else q) ts m y
 near_if q e n = rw e n
 
-pub near_else : {A : Type 0} (p : Parser A) {q : Parser A} {b : Bool} {ts m : List Lexeme} {y : Outcome A} → b ≡ false → Near q ts m y
+pub near_else : {A : Type 0} (p : Parser A) {q : Parser A} {b : Bool} {ts m : List Lexeme} {y : Outcome A} → b ≡ false
+    → Near q ts m y
     → Near (if b then p else q) ts m y
 near_else p e n = rw e n
 
@@ -82,19 +87,23 @@ unfolding expect
 near_expect {k = k} e = near_symbol _ e (near_if refuse (same_self k) near_take)
 
 -- a token that opens a construct, where so many may be open
-pub near_allowed : {A : Type 0} (b : Bool) (f : Lexeme → Parser A) {t : Lexeme} {ts m : List Lexeme} {y : Outcome A} → length m ≤ length ts
+pub near_allowed : {A : Type 0} (b : Bool) (f : Lexeme → Parser A) {t : Lexeme} {ts m : List Lexeme} {y : Outcome A}
+    → length m ≤ length ts
     → (b ≡ true → Near (f t) ts m y) → Near (followed (allowed b) f) (t ∷ ts) m y
 unfolding followed allowed and_then take by_symbol
 near_allowed true f h k = let n = k refl in record { within = omega arith; outcome = n.outcome }
 near_allowed false f h k = record { within = omega arith; outcome = inr (deep (omega arith)) }
 
-pub near_numbered : (table : List ℕ → Option ℕ) {n : ℕ} {t : Lexeme} {ts : List Lexeme} → Is s.Name t → table t.letters ≡ Some n
+pub near_numbered : (table : List ℕ → Option ℕ) {n : ℕ} {t : Lexeme} {ts : List Lexeme} → Is s.Name t
+    → table t.letters ≡ Some n
     → Near (named_number table) (t ∷ ts) ts (Got n ts)
 unfolding named_number numbered followed and_then take pure
-near_numbered table {n = n} {t = t} {ts = ts} e f = near_same (omega arith) (go (same_symbol t.symbol s.Name) (table t.letters)
+near_numbered table {n = n} {t = t} {ts = ts} e f = near_same (omega arith)
+    (go (same_symbol t.symbol s.Name) (table t.letters)
     (ap (λ k. same_symbol k s.Name) e ∙ same_self s.Name) f)
   where
-    go : (b : Bool) (o : Option ℕ) → b ≡ true → o ≡ Some n → (if b then numbered o (t ∷ ts) else Bad (t ∷ ts)) ≡ Got n ts
+    go : (b : Bool) (o : Option ℕ) → b ≡ true → o ≡ Some n
+        → (if b then numbered o (t ∷ ts) else Bad (t ∷ ts)) ≡ Got n ts
     go b o x y = rw (x, y) refl
 
 -- one more turn of a loop that goes on
@@ -104,8 +113,10 @@ pub near_turn : {S : Type 0} {step : S → Parser (Bool × S)} {u v : S} {ts m r
 unfolding repeat turns
 near_turn {step = step} {u = u} {v = v} {ts = ts} {m = m} {r = r} {y = y} t h n k = near_from refl (go n k)
   where
-    go : Near (step u) ts m (Got (true, v) m) → Near (repeat step v) m r y → Near (turns step (suc (length ts)) u) ts r y
-    go n k = near_then _ n (near_from (turns_enough step t (length ts) (suc (length m)) v m (omega arith) (omega arith)) k)
+    go : Near (step u) ts m (Got (true, v) m) → Near (repeat step v) m r y
+        → Near (turns step (suc (length ts)) u) ts r y
+    go n k = near_then _ n (near_from
+        (turns_enough step t (length ts) (suc (length m)) v m (omega arith) (omega arith)) k)
 
 -- the last turn
 pub near_last : {S : Type 0} (step : S → Parser (Bool × S)) {u v : S} {ts m : List Lexeme}

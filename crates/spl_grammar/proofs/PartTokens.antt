@@ -18,7 +18,8 @@ shorter_constant (g.Constant.name _) = omega arith
 
 mutual
   -- so does a part of each level,
-  pub shorter : {c : Bool} {f : Option At} {h n : ℕ} {x : Form} {e : tree.Tree} {ts rest : List Lexeme} → g.Level c f h n x e ts rest
+  pub shorter : {c : Bool} {f : Option At} {h n : ℕ} {x : Form} {e : tree.Tree} {ts rest : List Lexeme}
+      → g.Level c f h n x e ts rest
       → length rest < length ts
   shorter (g.Level.operand u) = shorter_unary u
   shorter (g.Level.up _ l) = shorter l
@@ -31,10 +32,12 @@ mutual
   shorter (g.Level.bytes _ l _ _ r _) = let a = shorter l in let b = shorter r in omega arith
 
   -- an operand,
-  pub shorter_unary : {f : Option At} {x : Form} {e : tree.Tree} {ts rest : List Lexeme} → g.Unary f x e ts rest → length rest < length ts
+  pub shorter_unary : {f : Option At} {x : Form} {e : tree.Tree} {ts rest : List Lexeme} → g.Unary f x e ts rest
+      → length rest < length ts
   shorter_unary (g.Unary.inverse _ u) = let a = shorter_unary u in omega arith
   shorter_unary (g.Unary.plain p) = shorter_primary p
-  shorter_unary (g.Unary.bits p _ _ a _ b _) = let x = shorter_primary p in let y = shorter_constant a in let z = shorter_constant b in omega arith
+  shorter_unary (g.Unary.bits p _ _ a _ b _) = let x = shorter_primary p in let y = shorter_constant a in let z =
+      shorter_constant b in omega arith
 
   -- a primary
   pub shorter_primary : {f : Option At} {x : Form} {e : tree.Tree} {ts rest : List Lexeme} → g.Primary f x e ts rest
@@ -53,6 +56,7 @@ mutual
   shorter_primary (g.Primary.transfer _ _ l _) = let a = shorter l in omega arith
 
   -- and arguments
-  pub shorter_arguments : {es : List tree.Tree} {ts rest : List Lexeme} → g.Arguments es ts rest → length rest < length ts
+  pub shorter_arguments : {es : List tree.Tree} {ts rest : List Lexeme} → g.Arguments es ts rest
+      → length rest < length ts
   shorter_arguments (g.Arguments.one l) = shorter l
   shorter_arguments (g.Arguments.several l _ r) = let a = shorter l in let b = shorter_arguments r in omega arith

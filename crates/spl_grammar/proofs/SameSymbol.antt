@@ -13,14 +13,18 @@ kinds : List Kind
 kinds = kind.Integer ∷ kind.Logical ∷ kind.Byte ∷ kind.Double ∷ []
 
 words : List Reserved
-words = w.Array ∷ w.Begin ∷ w.Case ∷ w.Do ∷ w.Else ∷ w.End ∷ w.Equate ∷ w.For ∷ w.Go ∷ w.Goto ∷ w.If ∷ w.Intrinsic ∷ w.Label ∷ w.Move ∷ w.Of
-    ∷ w.Options ∷ w.Own ∷ w.Pointer ∷ w.Procedure ∷ w.Return ∷ w.Scan ∷ w.Step ∷ w.Subroutine ∷ w.Then ∷ w.To ∷ w.Until ∷ w.Value ∷ w.While ∷ w.Unused ∷ []
+words = w.Array ∷ w.Begin ∷ w.Case ∷ w.Do ∷ w.Else ∷ w.End ∷ w.Equate ∷ w.For ∷ w.Go ∷ w.Goto ∷ w.If ∷ w.Intrinsic ∷
+    w.Label ∷ w.Move ∷ w.Of
+    ∷ w.Options ∷ w.Own ∷ w.Pointer ∷ w.Procedure ∷ w.Return ∷ w.Scan ∷ w.Step ∷ w.Subroutine ∷ w.Then ∷ w.To ∷ w.Until
+    ∷ w.Value ∷ w.While ∷ w.Unused ∷ []
 
 -- the symbol that has these numbers
 symbol_again : ℕ → ℕ → Symbol
 unfolding kinds words
-symbol_again m n = get_or (s.Name ∷ s.Number n ∷ s.Wide n ∷ s.Text ∷ s.Truth (n == 1) ∷ s.Operator n ∷ s.Not ∷ s.Type (get_or kinds n kind.Integer)
-    ∷ s.Open ∷ s.Close ∷ s.Comma ∷ s.Semicolon ∷ s.Colon ∷ s.Dot ∷ s.Ampersand ∷ s.AtSign ∷ s.Assign ∷ s.Word (get_or words n w.Unused) ∷ s.Stop ∷ []) m s.Stop
+symbol_again m n = get_or (s.Name ∷ s.Number n ∷ s.Wide n ∷ s.Text ∷ s.Truth (n == 1) ∷ s.Operator n ∷ s.Not ∷ s.Type
+    (get_or kinds n kind.Integer)
+    ∷ s.Open ∷ s.Close ∷ s.Comma ∷ s.Semicolon ∷ s.Colon ∷ s.Dot ∷ s.Ampersand ∷ s.AtSign ∷ s.Assign ∷ s.Word
+    (get_or words n w.Unused) ∷ s.Stop ∷ []) m s.Stop
 
 kind_again : (k : Kind) → get_or kinds (kind_number k) kind.Integer ≡ k
 unfolding kinds kind_number

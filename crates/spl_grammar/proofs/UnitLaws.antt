@@ -12,7 +12,8 @@ use Rattle.spl_grammar.proofs.CalmReaders.{Shallow}
 use Rattle.spl_grammar.proofs.CalmDeclarations.{calm_unit}
 use Rattle.spl_grammar.proofs.ExpressionLaws.{same_got, like_bad, not_near}
 
-pub unit_fault : (room : ℕ) {t : Lexeme} {us vs ts more : List Lexeme} → unit room ts ≡ Bad (t ∷ us) → Agrees us vs ts more
+pub unit_fault : (room : ℕ) {t : Lexeme} {us vs ts more : List Lexeme} → unit room ts ≡ Bad (t ∷ us)
+    → Agrees us vs ts more
     → (unit room more ≡ Bad (t ∷ vs)) × ((u : UnitTree) → Unit_of u more → ⊥)
 unit_fault room {t = t} {us = us} {vs = vs} {ts = ts} {more = more} e a =
     let b = like_bad us vs t _ _ ((local_unit room).alike us vs ts more a) e in

@@ -16,12 +16,16 @@ pub data Agrees (us vs : List Lexeme) : List Lexeme → List Lexeme → Type 0 w
   here : {t : Lexeme} → Agrees us vs (t ∷ us) (t ∷ vs)
   there : {t : Lexeme} {ts more : List Lexeme} → Agrees us vs ts more → Agrees us vs (t ∷ ts) (t ∷ more)
 
--- What is read is W; a fault comes behind tokens that open the part, with at most so many constructs open; where it is too deep,
+-- What is read is W; a fault comes behind tokens that open the part, with at most so many constructs open; where it is
+-- too deep,
 -- the tokens up to and with that one open more. Around the part d constructs are open, and n operators stand before it.
-pub data Explains {A : Type 0} (most : ℕ) (W : A → List Lexeme → Type 0) (p : Part) (d n : ℕ) (ts : List Lexeme) : Outcome A → Type 0 where
+pub data Explains {A : Type 0} (most : ℕ) (W : A → List Lexeme → Type 0) (p : Part) (d n : ℕ) (ts : List Lexeme) :
+    Outcome A → Type 0 where
   got : {a : A} {rest : List Lexeme} → W a rest → Explains most W p d n ts (Got a rest)
-  bad : {rest : List Lexeme} (o : OpensAt p d n ts rest) → nesting o.constructs o.operators ≤ most → Explains most W p d n ts (Bad rest)
-  deep : {t : Lexeme} {rest : List Lexeme} (o : OpensAt p d n ts rest) → most < nesting o.constructs o.operators → Explains most W p d n ts (Deep (t ∷ rest))
+  bad : {rest : List Lexeme} (o : OpensAt p d n ts rest) → nesting o.constructs o.operators ≤ most
+      → Explains most W p d n ts (Bad rest)
+  deep : {t : Lexeme} {rest : List Lexeme} (o : OpensAt p d n ts rest) → most < nesting o.constructs o.operators
+      → Explains most W p d n ts (Deep (t ∷ rest))
 
 -- an expression that is spelled
 pub record Spelled (e : tree.Tree) (ts rest : List Lexeme) : Type 0 where

@@ -9,7 +9,8 @@ use Rattle.spl_tree.specs.StatementTrees.{closed}
 use Rattle.spl_tree.specs.Operators.{binds}
 use Rattle.spl_grammar.specs.ReadExpressions.{is, operator_of}
 
--- The symbol can't go on with a part of level h: it is no dot and no "(", no operator of that level or one below, no `&`
+-- The symbol can't go on with a part of level h: it is no dot and no "(", no operator of that level or one below, no
+-- `&`
 -- but behind an operand; and no comma behind a condition that can be a comparison of bytes.
 pub record Stops (c : Bool) (h : ℕ) (k : Symbol) : Type 0 where
   pub dot : is s.Dot k ≡ false
@@ -22,7 +23,8 @@ pub record Stops (c : Bool) (h : ℕ) (k : Symbol) : Type 0 where
 pub data Follow (c : Bool) (h : ℕ) : List Lexeme → Type 0 where
   behind : {t : Lexeme} {ts : List Lexeme} → Stops c h t.symbol → Follow c h (t ∷ ts)
 
--- What may stand behind a statement so that it ends there: ";", END, UNTIL, and ELSE where it can't belong to the statement.
+-- What may stand behind a statement so that it ends there: ";", END, UNTIL, and ELSE where it can't belong to the
+-- statement.
 pub data After (x : stat.Statement) : List Lexeme → Type 0 where
   semicolon : {t : Lexeme} {ts : List Lexeme} → Is s.Semicolon t → After x (t ∷ ts)
   end : {t : Lexeme} {ts : List Lexeme} → Is (s.Word w.End) t → After x (t ∷ ts)

@@ -9,7 +9,8 @@ use Rattle.spl_tree.specs.declared.expressions.Kind.{Kind}
 use Rattle.spl_tree.specs.declared.expressions.Kind.TheVariants as kind
 use Rattle.spl_tree.specs.Symbols.{Lexeme}
 
--- What reading a part comes to: the part and the tokens behind it, or the tokens from the first on that can't stand there,
+-- What reading a part comes to: the part and the tokens behind it, or the tokens from the first on that can't stand
+-- there,
 -- or from the first on at which more is open than may be.
 pub data Outcome (A : Type 0) : Type 0 where
   Got : A → List Lexeme → Outcome A

@@ -46,7 +46,12 @@ shape_tree (shape.View name) = decl.Shape.view (letters name)
 shape_tree shape.Pointer = decl.Shape.pointer
 
 abbrev pub item_tree : Item → decl.Item
-item_tree i = record { name = letters i.name; at = i.at; shape = shape_tree i.shape; first = map constant i.first.items }
+item_tree i = record {
+  name = letters i.name;
+  at = i.at;
+  shape = shape_tree i.shape;
+  first = map constant i.first.items;
+}
 
 abbrev pub term : Bool × Const → decl.Term
 term t = record { minus = t.0; value = constant t.1 }
@@ -59,12 +64,14 @@ pub record BodyTree : Type 0 where
 -- one layer of a declaration, and of a body
 abbrev pub declaration_step : Decl-F decl.Declaration BodyTree → decl.Declaration
 declaration_step (Decl-F.Data own kind items) = decl.Declaration.data_items own kind (map item_tree items.items)
-declaration_step (Decl-F.Equate es) = decl.Declaration.equate (map (λ e. record { name = letters e.0; at = e.1; terms = map term e.2.items }) es.items)
+declaration_step (Decl-F.Equate es) = decl.Declaration.equate
+    (map (λ e. record { name = letters e.0; at = e.1; terms = map term e.2.items }) es.items)
 declaration_step (Decl-F.Intrinsic names) = decl.Declaration.intrinsic (map placed names.items)
 declaration_step (Decl-F.Label names) = decl.Declaration.label (map placed names.items)
 declaration_step (Decl-F.Forward h) = decl.Declaration.forward (heading_tree h)
 declaration_step (Decl-F.External h) = decl.Declaration.external (heading_tree h)
-declaration_step (Decl-F.Procedure h b) = decl.Declaration.procedure (heading_tree h) (declarations b.items) b.statements
+declaration_step (Decl-F.Procedure h b) = decl.Declaration.procedure (heading_tree h) (declarations b.items)
+    b.statements
 declaration_step (Decl-F.Subroutine h s) = decl.Declaration.subroutine (heading_tree h) (statement s)
 
 abbrev pub body_step : Body-F decl.Declaration BodyTree → BodyTree
@@ -75,9 +82,16 @@ declaration = fold-Decl decl.Declaration BodyTree declaration_step body_step
 
 -- a unit, but for whether it is a subprogram and the names of its segments
 abbrev pub unit_tree : SplUnit → UnitTree
-unit_tree u = record { items = map declaration u.items.items; statements = map statement u.statements.items; segment = u.segment; at = u.at }
+unit_tree u = record {
+  items = map declaration u.items.items;
+  statements = map statement u.statements.items;
+  segment =
+      u.segment;
+  at = u.at;
+}
 
--- The unit is spelled: it is a subprogram where the text is one, has the text's segments, and the tokens spell the rest.
+-- The unit is spelled: it is a subprogram where the text is one, has the text's segments, and the tokens spell the
+-- rest.
 pub record Spells (unit : SplUnit) (lexed : Lexed) : Type 0 where
   pub subprogram : unit.subprogram ≡ lexed.subprogram
   pub segments : map letters unit.segments.items ≡ map letters lexed.segments.items

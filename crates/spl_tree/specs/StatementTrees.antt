@@ -1,4 +1,5 @@
--- The trees of statements that the grammar speaks of: those of the types, with names and strings as lists of bytes, and with a
+-- The trees of statements that the grammar speaks of: those of the types, with names and strings as lists of bytes, and
+-- with a
 -- list of one or none for what may be absent. A reference is the expression that names it.
 use Rattle.std.specs.Prelude.{ℕ, List, [], ◌∷◌, Bool, true, false}
 use Rattle.spl_tree.specs.declared.names_and_places.At.{At}

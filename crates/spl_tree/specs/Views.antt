@@ -1,4 +1,5 @@
--- The trees of the types as those that the grammar speaks of: names and strings by their bytes, boxes and vectors by what they hold.
+-- The trees of the types as those that the grammar speaks of: names and strings by their bytes, boxes and vectors by
+-- what they hold.
 use Rattle.std.specs.Prelude.{ℕ, List, [], ◌∷◌, map, Option, Some, None, Box}
 use Rattle.spl_tree.specs.declared.names_and_places.Name.{Name}
 use Rattle.spl_tree.specs.declared.expressions.Expr.{Expr}
@@ -95,10 +96,12 @@ abbrev pub statement_step : Stmt-F stat.Statement → stat.Statement
 statement_step Stmt-F.Empty = stat.Statement.empty
 statement_step (Stmt-F.Labelled name at s) = stat.Statement.labelled (letters name) at s.value
 statement_step (Stmt-F.Block ss) = stat.Statement.block (stat.statements ss.items)
-statement_step (Stmt-F.If q s no_part at) = stat.Statement.if_test (test_tree q) s.value (stat.statements (boxed_statement no_part)) at
+statement_step (Stmt-F.If q s no_part at) = stat.Statement.if_test (test_tree q) s.value
+    (stat.statements (boxed_statement no_part)) at
 statement_step (Stmt-F.While q s at) = stat.Statement.while_true (expression q) s.value at
 statement_step (Stmt-F.Until s q at) = stat.Statement.until_true s.value (expression q) at
-statement_step (Stmt-F.For name first step last s at) = stat.Statement.for_values (letters name) (expression first) (trees (optional step)) (expression last) s.value at
+statement_step (Stmt-F.For name first step last s at) = stat.Statement.for_values (letters name) (expression first)
+    (trees (optional step)) (expression last) s.value at
 statement_step (Stmt-F.Case e ss at) = stat.Statement.case_of (expression e) (stat.statements ss.items) at
 statement_step (Stmt-F.Goto name at) = stat.Statement.go_to (letters name) at
 statement_step (Stmt-F.Return at) = stat.Statement.return at
