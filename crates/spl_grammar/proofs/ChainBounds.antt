@@ -9,6 +9,7 @@ use Rattle.spl_tree.specs.OpenExpressions.{Part, Step, Opens, OpensAt}
 use Rattle.spl_tree.specs.Trees as tree
 use Rattle.spl_grammar.proofs.PartTokens as pt
 use Rattle.spl_grammar.proofs.StatementTokens.{statement_step_bound}
+use Rattle.spl_grammar.proofs.DeclarationTokens.{declaration_step_bound}
 
 -- each operator of a part is a token of it
 pub operators_bound : {c : Bool} {f : Option At} {h n : ℕ} {x : Form} {e : tree.Tree} {ts rest : List Lexeme}
@@ -65,6 +66,7 @@ step_bound op.argument = omega arith
 step_bound (op.argument_whole l) = let b = pt.shorter l in omega arith
 step_bound (op.next_argument l _) = let b = pt.shorter l in omega arith
 step_bound (op.of_statement step) = let a = statement_step_bound step in omega arith
+step_bound (op.of_declaration step) = let a = declaration_step_bound step in omega arith
 
 pub chain_bound : {p q : Part} {d n j k : ℕ} {ts mid : List Lexeme} → Opens p d n ts q j k mid
     → j + k + length mid ≤ d + n + length ts

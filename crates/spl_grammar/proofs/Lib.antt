@@ -13,6 +13,7 @@ pub mod SoundOperands
 pub mod LevelFacts
 pub mod SoundExpressions
 pub mod StatementTokens
+pub mod DeclarationTokens
 pub mod ChainBounds
 pub mod ExpressionLaws
 pub mod LocalStatements

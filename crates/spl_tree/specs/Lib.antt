@@ -4,11 +4,12 @@ pub mod Operators
 pub mod Expressions
 pub mod StatementTrees
 pub mod Statements
-pub mod Parts
-pub mod OpenStatements
-pub mod OpenExpressions
 pub mod DeclarationTrees
 pub mod Declarations
 pub mod Units
+pub mod Parts
+pub mod OpenStatements
+pub mod OpenDeclarations
+pub mod OpenExpressions
 pub mod Views
 pub mod Spells

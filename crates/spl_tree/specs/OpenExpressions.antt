@@ -12,6 +12,7 @@ use Rattle.spl_tree.specs.Operators.{Form, comparison, binds, is_sign, shift_of}
 use Rattle.spl_tree.specs.Expressions as g
 use Rattle.spl_tree.specs.Trees as tree
 use Rattle.spl_tree.specs.OpenStatements.{StatementStep}
+use Rattle.spl_tree.specs.OpenDeclarations.{DeclarationStep}
 pub use Rattle.spl_tree.specs.Parts.{Part, constant, level, unary, primary, arguments, mark}
 
 pub data Step : Part → ℕ → ℕ → List Lexeme → Part → ℕ → ℕ → List Lexeme → Type 0 where
@@ -139,6 +140,8 @@ pub data Step : Part → ℕ → ℕ → List Lexeme → Part → ℕ → ℕ �
       → Step arguments d 0 ts arguments d 0 mid
   -- in a statement
   of_statement : {p q : Part} {d j : ℕ} {ts mid : List Lexeme} → StatementStep p d ts q j mid → Step p d 0 ts q j 0 mid
+  -- in a declaration or a unit
+  of_declaration : {p q : Part} {d : ℕ} {ts mid : List Lexeme} → DeclarationStep p ts q mid → Step p d 0 ts q d 0 mid
 
 -- A chain of steps: behind the tokens before the second list, the second part is open, with what is open around it.
 pub data Opens : Part → ℕ → ℕ → List Lexeme → Part → ℕ → ℕ → List Lexeme → Type 0 where
