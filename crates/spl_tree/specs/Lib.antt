@@ -2,3 +2,14 @@ pub mod Symbols
 pub mod Trees
 pub mod Operators
 pub mod Expressions
+pub mod StatementTrees
+pub mod Statements
+pub mod DeclarationTrees
+pub mod Declarations
+pub mod Units
+pub mod Parts
+pub mod OpenStatements
+pub mod OpenDeclarations
+pub mod OpenExpressions
+pub mod Views
+pub mod Spells

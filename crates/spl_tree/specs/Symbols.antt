@@ -1,5 +1,5 @@
 -- Tokens as the grammar sees them: a symbol, the letters of a name or a string, a place and a segment.
-use Rattle.std.specs.Prelude.{ℕ, List, [], ◌∷◌, ◌≡◌, ◌==◌, Bool, true, false, if◌then◌else◌, ◌||◌, codes, nat_eq, get_or}
+use Rattle.std.specs.Prelude.{ℕ, List, [], ◌∷◌, ◌≡◌, Bool, true, false, if◌then◌else◌, codes, nat_eq, get_or}
 use Rattle.spl_tree.specs.declared.names_and_places.At.{At}
 use Rattle.spl_tree.specs.declared.symbols.Symbol.{Symbol}
 use Rattle.spl_tree.specs.declared.symbols.Symbol.TheVariants as s

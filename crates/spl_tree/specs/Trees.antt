@@ -1,6 +1,7 @@
--- The trees that the grammar speaks of: those of the types, with names and strings as lists of bytes, and with a list of
+-- The trees that the grammar speaks of: those of the types, with names and strings as lists of bytes, and with a list
+-- of
 -- one or none for what may be absent.
-use Rattle.std.specs.Prelude.{ℕ, List, [], ◌∷◌, Bool, true, false, Option, Some, None}
+use Rattle.std.specs.Prelude.{ℕ, List, [], ◌∷◌, Bool}
 use Rattle.spl_tree.specs.declared.names_and_places.At.{At}
 use Rattle.spl_tree.specs.declared.expressions.Kind.{Kind}
 

@@ -1,0 +1,37 @@
+-- What follows from the laws of the reader of units.
+use Rattle.std.proofs.Common.{ℕ, ◌≡◌, List, [], ◌∷◌, length, arith, sym, ◌∙◌, ◌⊎◌, inl, inr}
+use Rattle.spl_tree.specs.Symbols.{Lexeme}
+use Rattle.spl_tree.specs.DeclarationTrees.{UnitTree}
+use Rattle.spl_tree.specs.Units.{Unit_of}
+use Rattle.spl_grammar.specs.Readers.{Outcome, Got, Bad, Deep}
+use Rattle.spl_grammar.specs.ReadDeclarations.{unit}
+use Rattle.spl_grammar.specs.Answers.{DeepBefore, Agrees}
+use Rattle.spl_grammar.proofs.LocalDeclarations.{local_unit}
+use Rattle.spl_grammar.proofs.CompleteUnits.{unit_read}
+use Rattle.spl_grammar.proofs.CalmReaders.{Shallow}
+use Rattle.spl_grammar.proofs.CalmDeclarations.{calm_unit}
+use Rattle.spl_grammar.proofs.ExpressionLaws.{same_got, like_bad, not_near}
+
+pub unit_fault : (room : ℕ) {t : Lexeme} {us vs ts more : List Lexeme} → unit room ts ≡ Bad (t ∷ us)
+    → Agrees us vs ts more
+    → (unit room more ≡ Bad (t ∷ vs)) × ((u : UnitTree) → Unit_of u more → ⊥)
+unit_fault room {t = t} {us = us} {vs = vs} {ts = ts} {more = more} e a =
+    let b = like_bad us vs t _ _ ((local_unit room).alike us vs ts more a) e in
+    (b, λ u v. not_near (unit_read v room) b)
+
+-- an outcome that is not too deep
+not_deep : {A : Type 0} (n : ℕ) (o : Outcome A) → Shallow o → DeepBefore n o → ⊥
+not_deep n (Got a rest) s d = elim d [ ]
+not_deep n (Bad rest) s d = elim d [ ]
+not_deep n (Deep rest) s d = elim s [ ]
+
+-- where as many constructs may be open as there are tokens, the unit is read
+read_unit : {u : UnitTree} {ts : List Lexeme} → Unit_of u ts → unit (length ts) ts ≡ Got u []
+read_unit {u = u} {ts = ts} v = go (unit_read v (length ts)).outcome
+  where
+    go : (unit (length ts) ts ≡ Got u []) ⊎ DeepBefore 0 (unit (length ts) ts) → unit (length ts) ts ≡ Got u []
+    go (inl e) = e
+    go (inr d) = absurd (not_deep 0 _ ((calm_unit (length ts)).never ts (omega arith)) d)
+
+pub unit_unique : {u v : UnitTree} {ts : List Lexeme} → Unit_of u ts → Unit_of v ts → u ≡ v
+unit_unique a b = (same_got _ _ _ _ (sym (read_unit a) ∙ read_unit b)).0

@@ -1,0 +1,40 @@
+-- What is claimed of the readers' answers.
+use Rattle.std.specs.Prelude.{ℕ, ◌<◌, ◌≤◌, true, false, List, ◌∷◌, length, None}
+use Rattle.spl_tree.specs.Symbols.{Lexeme}
+use Rattle.spl_tree.specs.Operators.{Form}
+use Rattle.spl_tree.specs.Expressions as g
+use Rattle.spl_tree.specs.OpenExpressions.{Part, OpensAt, nesting}
+use Rattle.spl_tree.specs.Trees as tree
+use Rattle.spl_grammar.specs.Readers.{Outcome, Got, Bad, Deep}
+
+-- too deep where more tokens than these are left
+pub data DeepBefore {A : Type 0} (n : ℕ) : Outcome A → Type 0 where
+  deep : {rest : List Lexeme} → n < length rest → DeepBefore n (Deep rest)
+
+-- us and vs stand behind the last token up to which the two lists agree
+pub data Agrees (us vs : List Lexeme) : List Lexeme → List Lexeme → Type 0 where
+  here : {t : Lexeme} → Agrees us vs (t ∷ us) (t ∷ vs)
+  there : {t : Lexeme} {ts more : List Lexeme} → Agrees us vs ts more → Agrees us vs (t ∷ ts) (t ∷ more)
+
+-- What is read is W; a fault comes behind tokens that open the part, with at most so many constructs open; where it is
+-- too deep,
+-- the tokens up to and with that one open more. Around the part d constructs are open, and n operators stand before it.
+pub data Explains {A : Type 0} (most : ℕ) (W : A → List Lexeme → Type 0) (p : Part) (d n : ℕ) (ts : List Lexeme) :
+    Outcome A → Type 0 where
+  got : {a : A} {rest : List Lexeme} → W a rest → Explains most W p d n ts (Got a rest)
+  bad : {rest : List Lexeme} (o : OpensAt p d n ts rest) → nesting o.constructs o.operators ≤ most
+      → Explains most W p d n ts (Bad rest)
+  deep : {t : Lexeme} {rest : List Lexeme} (o : OpensAt p d n ts rest) → most < nesting o.constructs o.operators
+      → Explains most W p d n ts (Deep (t ∷ rest))
+
+-- an expression that is spelled
+pub record Spelled (e : tree.Tree) (ts rest : List Lexeme) : Type 0 where
+  pub operators : ℕ
+  pub form : Form
+  pub spelled : g.Level false None 10 operators form e ts rest
+
+-- a condition that is spelled
+pub record SpelledCondition (e : tree.Tree) (ts rest : List Lexeme) : Type 0 where
+  pub operators : ℕ
+  pub form : Form
+  pub spelled : g.Level true None 10 operators form e ts rest

@@ -1,0 +1,64 @@
+-- The laws of expressions and conditions: how the grammar and what is read by it determine each other.
+use Rattle.std.specs.Prelude.{ℕ, ◌≡◌, ◌+◌, ◌⊎◌, true, false, List, ◌∷◌, length, None}
+use Rattle.spl_tree.specs.Symbols.{Lexeme}
+use Rattle.spl_tree.specs.Operators.{Form}
+use Rattle.spl_tree.specs.Expressions as g
+use Rattle.spl_tree.specs.OpenExpressions as op
+use Rattle.spl_tree.specs.OpenExpressions.{limit}
+use Rattle.spl_tree.specs.Trees as tree
+use Rattle.spl_grammar.specs.Readers.{Got, Bad}
+use Rattle.spl_grammar.specs.ReadExpressions.{expression, condition}
+use Rattle.spl_grammar.specs.Following.{Follow}
+use Rattle.spl_grammar.specs.Answers.{DeepBefore, Agrees, Explains, Spelled, SpelledCondition}
+
+-- What is spelled as an expression, with a token behind it that can't go on with it, is read, unless it is too deep
+-- before its
+-- end; and so are conditions.
+abbrev pub ExpressionsAreRead : Type 0
+ExpressionsAreRead = (n : ℕ) (x : Form) (e : tree.Tree) (ts rest : List Lexeme) (room taken : ℕ)
+    → g.Level false None 10 n x e ts rest → Follow false 10 rest
+    → (expression room taken ts ≡ Got e rest) ⊎ DeepBefore (length rest) (expression room taken ts)
+
+abbrev pub ConditionsAreRead : Type 0
+ConditionsAreRead = (n : ℕ) (x : Form) (e : tree.Tree) (ts rest : List Lexeme) (room taken : ℕ)
+    → g.Level true None 10 n x e ts rest → Follow true 10 rest
+    → (condition room taken ts ≡ Got e rest) ⊎ DeepBefore (length rest) (condition room taken ts)
+
+-- What is read as an expression is spelled; a fault comes behind tokens that open one, at most as deep as may be; and
+-- where it is
+-- too deep, the tokens up to and with that one are the first to be so. Here d constructs are open around it.
+abbrev pub ExpressionsAreExplained : Type 0
+ExpressionsAreExplained = (room d : ℕ) (ts : List Lexeme) → d + room ≡ limit
+    → Explains limit (λ e rest. Spelled e ts rest) (op.level false None 10) d 0 ts (expression room 0 ts)
+
+abbrev pub ConditionsAreExplained : Type 0
+ConditionsAreExplained = (room d : ℕ) (ts : List Lexeme) → d + room ≡ limit
+    → Explains limit (λ e rest. SpelledCondition e ts rest) (op.level true None 10) d 0 ts (condition room 0 ts)
+
+-- A fault in an expression depends on no token behind its place: each list that agrees up to that token has the same
+-- one, and
+-- begins with no expression.
+abbrev pub ExpressionFaultsStand : Type 0
+ExpressionFaultsStand = (room taken : ℕ) (t : Lexeme) (us vs ts more : List Lexeme)
+    → expression room taken ts ≡ Bad (t ∷ us) → Agrees us vs ts more
+    → (expression room taken more ≡ Bad (t ∷ vs)) ×
+    ((n : ℕ) (x : Form) (e : tree.Tree) (rest : List Lexeme) → g.Level false None 10 n x e more rest
+    → Follow false 10 rest → ⊥)
+
+abbrev pub ConditionFaultsStand : Type 0
+ConditionFaultsStand = (room taken : ℕ) (t : Lexeme) (us vs ts more : List Lexeme)
+    → condition room taken ts ≡ Bad (t ∷ us) → Agrees us vs ts more
+    → (condition room taken more ≡ Bad (t ∷ vs)) ×
+    ((n : ℕ) (x : Form) (e : tree.Tree) (rest : List Lexeme) → g.Level true None 10 n x e more rest
+    → Follow true 10 rest → ⊥)
+
+-- A list begins with at most one expression that ends where no token goes on with it, however deep it is.
+abbrev pub ExpressionsAreUnique : Type 0
+ExpressionsAreUnique = (n m : ℕ) (x y : Form) (e d : tree.Tree) (ts rest more : List Lexeme)
+    → g.Level false None 10 n x e ts rest → Follow false 10 rest
+    → g.Level false None 10 m y d ts more → Follow false 10 more → (e ≡ d) × (rest ≡ more)
+
+abbrev pub ConditionsAreUnique : Type 0
+ConditionsAreUnique = (n m : ℕ) (x y : Form) (e d : tree.Tree) (ts rest more : List Lexeme)
+    → g.Level true None 10 n x e ts rest → Follow true 10 rest
+    → g.Level true None 10 m y d ts more → Follow true 10 more → (e ≡ d) × (rest ≡ more)

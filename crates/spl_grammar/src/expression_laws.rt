@@ -1,0 +1,42 @@
+//! Laws of expressions and conditions, each as the contract of a function that does nothing.
+ghost use Rattle.spl_grammar.specs.ExpressionLaws.{ExpressionsAreRead, ConditionsAreRead, ExpressionsAreExplained, ConditionsAreExplained, ExpressionFaultsStand, ConditionFaultsStand, ExpressionsAreUnique, ConditionsAreUnique};
+
+/// What is spelled as an expression is read, unless it is too deep before its end.
+pub fn expressions_are_read()
+    ensures { ExpressionsAreRead }
+{}
+
+/// What is spelled as a condition is read, unless it is too deep before its end.
+pub fn conditions_are_read()
+    ensures { ConditionsAreRead }
+{}
+
+/// What is read as an expression is spelled, and each fault comes behind tokens that open one.
+pub fn expressions_are_explained()
+    ensures { ExpressionsAreExplained }
+{}
+
+/// What is read as a condition is spelled, and each fault comes behind tokens that open one.
+pub fn conditions_are_explained()
+    ensures { ConditionsAreExplained }
+{}
+
+/// A fault in an expression depends on no token behind its place.
+pub fn expression_faults_stand()
+    ensures { ExpressionFaultsStand }
+{}
+
+/// A fault in a condition depends on no token behind its place.
+pub fn condition_faults_stand()
+    ensures { ConditionFaultsStand }
+{}
+
+/// A list begins with at most one expression.
+pub fn expressions_are_unique()
+    ensures { ExpressionsAreUnique }
+{}
+
+/// A list begins with at most one condition.
+pub fn conditions_are_unique()
+    ensures { ConditionsAreUnique }
+{}

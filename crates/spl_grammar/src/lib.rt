@@ -1,0 +1,16 @@
+//! Reading by the grammar: what each rule makes of a list of tokens, and the laws that tie it to the grammar.
+#![tactic(auto)]
+
+mod expression_laws;
+mod statement_laws;
+mod unit_laws;
+
+pub use expression_laws::{
+    condition_faults_stand, conditions_are_explained, conditions_are_read, conditions_are_unique,
+    expression_faults_stand, expressions_are_explained, expressions_are_read,
+    expressions_are_unique,
+};
+pub use statement_laws::{
+    statement_faults_stand, statements_are_explained, statements_are_read, statements_are_unique,
+};
+pub use unit_laws::{texts_spell_one_unit, unit_faults_stand, units_are_read, units_are_unique};

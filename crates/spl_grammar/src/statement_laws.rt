@@ -1,0 +1,22 @@
+//! Laws of statements, each as the contract of a function that does nothing.
+ghost use Rattle.spl_grammar.specs.StatementLaws.{StatementsAreRead, StatementsAreExplained, StatementFaultsStand, StatementsAreUnique};
+
+/// What is spelled as a statement is read, unless it is too deep before its end.
+pub fn statements_are_read()
+    ensures { StatementsAreRead }
+{}
+
+/// What is read as a statement is spelled, and each fault comes behind tokens that open one.
+pub fn statements_are_explained()
+    ensures { StatementsAreExplained }
+{}
+
+/// A fault in a statement depends on no token behind its place.
+pub fn statement_faults_stand()
+    ensures { StatementFaultsStand }
+{}
+
+/// A list begins with at most one statement.
+pub fn statements_are_unique()
+    ensures { StatementsAreUnique }
+{}
