@@ -3,9 +3,9 @@ use Rattle.std.proofs.Common.{◌≡◌, ℕ, Bool, true, false, List, [], ◌�
 use Rattle.std.specs.Prelude.{IfSome, IsSome, IsSomeAnd, option_map, option_and_then, if◌then◌else◌}
 use Rattle.std.proofs.lemmas.Bool.{false≢true}
 use Rattle.hp_flat.specs.declared.program.Program.{Program}
-use Rattle.hp3000_top.specs.ThinUnits as u
-use Rattle.hp3000_top.specs.ThinTexts.{unit_in}
-use Rattle.hp3000_top.specs.ThinJobs.{Job, State, start, job_lines, fed_all, is_whole, job_of, thin_job}
+use Rattle.thin_jobs.specs.ThinUnits as u
+use Rattle.thin_jobs.specs.ThinTexts.{unit_in}
+use Rattle.thin_jobs.specs.ThinJobs.{Job, State, start, job_lines, fed_all, is_whole, job_of, thin_job}
 use Rattle.hp3000_top.specs.ProgramViews.{IsMadeOf}
 use Rattle.hp3000_top.specs.Runs.{run_of}
 use Rattle.hp3000_top.specs.Answers.{IsJobOf, IsAnswered, report_of_run}

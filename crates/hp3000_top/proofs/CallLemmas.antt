@@ -1,13 +1,13 @@
 -- What the statements call and how deep their sums are, one by one.
-use Rattle.std.proofs.Common.{◌≡◌, ℕ, suc, ◌+◌, ◌<◌, ◌≤◌, Bool, true, false, List, [], ◌∷◌, length, get_or, drop, map, Option, None, Some, refl, sym, ap, ◌∙◌, add-one}
+use Rattle.std.proofs.Common.{◌≡◌, ℕ, suc, ◌+◌, ◌<◌, ◌≤◌, Bool, false, List, ◌∷◌, length, get_or, drop, None, Some, refl, sym, ap, ◌∙◌, add-one}
 use Rattle.std.specs.List.{list_any}
 use Rattle.std.proofs.Math.Seq.{drop-cons}
 use Rattle.std.proofs.lemmas.List.{drop_all}
 use Rattle.spl_tree.specs.declared.statements.Stmt.{Stmt}
-use Rattle.hp3000_top.specs.ThinUnits as u
-use Rattle.hp3000_top.specs.ThinTrees.{statement_of, statements_of}
+use Rattle.thin_jobs.specs.ThinUnits as u
+use Rattle.thin_jobs.specs.ThinTrees.{statement_of, statements_of}
 use Rattle.hp3000_top.specs.ThinCode.{call_kind, quits_first, quits, is_quit, has_long}
-use Rattle.hp3000_top.proofs.NameLemmas.{any_map}
+use Rattle.thin_jobs.proofs.NameLemmas.{any_map}
 
 pub quits_map : (xs : List Stmt) → quits (statements_of xs) ≡ list_any (λ s. is_quit (statement_of s)) xs
 quits_map xs = any_map statement_of is_quit xs

@@ -1,10 +1,9 @@
 -- The code of a tree, part by part.
-use Rattle.std.proofs.Common.{◌≡◌, ℕ, suc, ◌+◌, ◌<◌, ◌≤◌, Bool, true, false, List, [], ◌∷◌, ◌++◌, length, get_or, drop, map, refl, sym, ap, ◌∙◌, arith, add-one, append_assoc, append-nil}
-use Rattle.std.specs.Prelude.{if◌then◌else◌}
+use Rattle.std.proofs.Common.{◌≡◌, ℕ, suc, ◌+◌, ◌<◌, ◌≤◌, true, false, List, [], ◌∷◌, ◌++◌, length, get_or, drop, refl, sym, ap, ◌∙◌, arith, add-one, append_assoc, append-nil}
 use Rattle.spl_tree.specs.declared.declarations.Item.{Item}
 use Rattle.spl_tree.specs.declared.statements.Stmt.{Stmt}
-use Rattle.hp3000_top.specs.ThinUnits as u
-use Rattle.hp3000_top.specs.ThinTrees.{names_of, statement_of, statements_of}
+use Rattle.thin_jobs.specs.ThinUnits as u
+use Rattle.thin_jobs.specs.ThinTrees.{names_of, statement_of, statements_of}
 use Rattle.hp3000_top.specs.ThinCode.{Entries, place, sum_words, atom_words, statement_words, statements_words}
 use Rattle.std.proofs.Math.Seq.{drop-cons}
 use Rattle.std.proofs.lemmas.List.{drop_all}

@@ -1,9 +1,3 @@
-pub mod NameLemmas
-pub mod TreeLemmas
-pub mod TextLemmas
-pub mod GivesLemmas
-pub mod JobLemmas
-pub mod LineLemmas
 pub mod CodeLemmas
 pub mod CallLemmas
 pub mod NodeLemmas

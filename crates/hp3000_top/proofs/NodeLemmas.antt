@@ -1,10 +1,10 @@
 -- The nodes of a tree, taken off a budget one part after another.
-use Rattle.std.proofs.Common.{◌≡◌, ℕ, ◌+◌, ◌-◌, ◌<◌, ◌≤◌, Bool, true, false, List, [], ◌∷◌, suc, length, get_or, drop, add-one, Option, None, Some, refl, sym, ap, ◌∙◌, arith}
-use Rattle.std.specs.Prelude.{nat_le, if◌then◌else◌}
+use Rattle.std.proofs.Common.{◌≡◌, ℕ, ◌+◌, ◌-◌, ◌<◌, ◌≤◌, true, false, List, ◌∷◌, suc, length, get_or, drop, add-one, None, Some, refl, sym, ap, ◌∙◌, arith}
+use Rattle.std.specs.Prelude.{nat_le}
 use Rattle.std.proofs.lemmas.Bool.Decides.{nat_tests}
-use Rattle.hp3000_top.specs.ThinUnits as u
+use Rattle.thin_jobs.specs.ThinUnits as u
 use Rattle.hp3000_top.specs.ThinCode.{spent, sum_nodes, statement_nodes, nodes}
-use Rattle.hp3000_top.specs.ThinTrees.{statement_of, statements_of}
+use Rattle.thin_jobs.specs.ThinTrees.{statement_of, statements_of}
 use Rattle.spl_tree.specs.declared.statements.Stmt.{Stmt}
 use Rattle.std.proofs.Math.Seq.{drop-cons}
 use Rattle.std.proofs.lemmas.List.{drop_all}

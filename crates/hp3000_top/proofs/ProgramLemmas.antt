@@ -1,14 +1,14 @@
 -- The program of a tree by its first declaration.
-use Rattle.std.proofs.Common.{◌≡◌, ℕ, List, Option, None, Some, Result, Ok, Err, sym, ap, subst, ◌∙◌}
+use Rattle.std.proofs.Common.{◌≡◌, ℕ, List, Option, None, Some, Result, Ok, Err, ap, subst, ◌∙◌}
 use Rattle.std.specs.Prelude.{IfOk, IfSome, option_and_then, slice_get}
 use Rattle.hp_flat.specs.declared.program.Program.{Program}
 use Rattle.spl_tree.specs.declared.declarations.Decl.{Decl}
 use Rattle.spl_tree.specs.declared.declarations.Item.{Item}
 use Rattle.spl_tree.specs.declared.statements.Stmt.{Stmt}
 use Rattle.spl_tree.specs.declared.units.SplUnit.{SplUnit}
-use Rattle.hp3000_top.specs.declared.unread.Unread.{Unread}
-use Rattle.hp3000_top.specs.ThinUnits as u
-use Rattle.hp3000_top.specs.ThinTrees.{names_of, statements_of, variables_of, intrinsics_of, declared_unit, thin_of}
+use Rattle.thin_jobs.specs.declared.unread.Unread.{Unread}
+use Rattle.thin_jobs.specs.ThinUnits as u
+use Rattle.thin_jobs.specs.ThinTrees.{names_of, statements_of, variables_of, intrinsics_of, declared_unit, thin_of}
 use Rattle.hp3000_top.specs.ProgramViews.{IsMadeOf}
 
 by_gates : (g : Option (List u.Gate)) (names : List (List ℕ)) (sts : List u.Statement) (p : Program) → IsMadeOf names sts p → IfSome (declared_unit (Some names) g sts) (λ unit. IsMadeOf unit.names unit.statements p)

@@ -1,13 +1,13 @@
 -- What the top call answers and writes.
-use Rattle.std.specs.Prelude.{◌≡◌, ℕ, Bool, true, false, List, [], ◌∷◌, Option, None, Some, IsSomeAnd, IfSome, codes, nat_eq, length, ◌≤◌}
+use Rattle.std.specs.Prelude.{◌≡◌, ℕ, Bool, false, List, [], ◌∷◌, Option, Some, IsSomeAnd, IfSome, codes, nat_eq, length, ◌≤◌}
 use Rattle.std.specs.Io.KnownBytes.{Appends, IsAtEnd}
 use lib.Pointwise.{pointwise}
 use Rattle.hp_flat.specs.declared.program.Program.{Program}
 use Rattle.hp_flat.specs.State.{Machine}
-use Rattle.hp3000_top.specs.ThinUnits as u
+use Rattle.thin_jobs.specs.ThinUnits as u
 use Rattle.hp3000_top.specs.declared.exit.Exit.{Exit}
 use Rattle.hp3000_top.specs.declared.exit.Exit.TheVariants as e
-use Rattle.hp3000_top.specs.ThinJobs.{Job, thin_job}
+use Rattle.thin_jobs.specs.ThinJobs.{Job, thin_job}
 use Rattle.hp3000_top.specs.ProgramViews.{IsMadeOf}
 use Rattle.hp3000_top.specs.Reports.{report_of}
 use Rattle.hp3000_top.specs.Runs.{run_of}

@@ -5,8 +5,8 @@ use Rattle.std.specs.Prelude.{◌≡◌}
 use Rattle.spl_tree.specs.declared.expressions.Expr.{Expr}
 use Rattle.hp3000_top.specs.declared.thin_code.Last.{Last}
 use Rattle.hp3000_top.specs.declared.thin_code.Last.TheVariants as l
-use Rattle.hp3000_top.specs.ThinTrees.{atom_of, sum_of}
-use Rattle.hp3000_top.specs.ThinUnits as u
+use Rattle.thin_jobs.specs.ThinTrees.{atom_of, sum_of}
+use Rattle.thin_jobs.specs.ThinUnits as u
 
 abbrev pub operand_view : Operand → u.Atom
 operand_view (o.Number n) = u.constant n

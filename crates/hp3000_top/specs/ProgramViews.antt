@@ -1,8 +1,8 @@
 -- The program that is made of a thin unit.
-use Rattle.std.specs.Prelude.{◌≡◌, ℕ, ◌+◌, List, [], ◌∷◌, ◌++◌, length, replicate}
+use Rattle.std.specs.Prelude.{◌≡◌, ℕ, List, [], ◌∷◌, length, replicate}
 use Rattle.hp_flat.specs.declared.program.Program.{Program}
 use Rattle.hp_flat.specs.Views.{segments_of}
-use Rattle.hp3000_top.specs.ThinUnits as u
+use Rattle.thin_jobs.specs.ThinUnits as u
 use Rattle.hp3000_top.specs.ThinCode as c
 
 -- one segment of the unit's code, whose first entry is the main body, and a zero word for each variable

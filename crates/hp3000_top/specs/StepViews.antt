@@ -3,8 +3,8 @@ use Rattle.hp3000_top.specs.declared.thin_statements.Step.{Step}
 use Rattle.hp3000_top.specs.declared.thin_statements.Step.TheVariants as s
 use Rattle.hp3000_top.specs.declared.thin_statements.First.{First}
 use Rattle.hp3000_top.specs.declared.thin_statements.First.TheVariants as f
-use Rattle.hp3000_top.specs.ThinTrees.{sum_of}
-use Rattle.hp3000_top.specs.ThinUnits as u
+use Rattle.thin_jobs.specs.ThinTrees.{sum_of}
+use Rattle.thin_jobs.specs.ThinUnits as u
 use Rattle.hp3000_top.specs.ThinCode as c
 
 abbrev pub step_view : Step → u.Statement

@@ -1,9 +1,7 @@
 -- The code of a thin unit, and the segment that is made of it.
-use Rattle.std.specs.Prelude.{◌≡◌, ℕ, ◌+◌, ◌-◌, ◌*◌, Bool, true, false, ◌==◌, ◌&&◌, ◌||◌, nat_lt, nat_le, List, [], ◌∷◌, ◌++◌, length, replicate, Option, None, Some, option_map, option_and_then, IfSome, IsSomeAnd, Result, Ok, Err, if◌then◌else◌}
+use Rattle.std.specs.Prelude.{ℕ, ◌+◌, ◌-◌, ◌*◌, Bool, true, false, ◌&&◌, nat_le, List, [], ◌∷◌, ◌++◌, length, Option, None, Some, if◌then◌else◌}
 use Rattle.std.specs.List.{list_any}
-use Rattle.hp3000_top.specs.declared.unread.Unread.{Unread}
-use Rattle.hp3000_top.specs.declared.unread.Unread.TheVariants.{Later, NoMemory}
-use Rattle.hp3000_top.specs.ThinUnits as u
+use Rattle.thin_jobs.specs.ThinUnits as u
 
 -- the word of a variable: its number among those that are declared
 abbrev pub place : List (List ℕ) → List ℕ → ℕ

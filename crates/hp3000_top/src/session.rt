@@ -5,10 +5,10 @@ ghost use Rattle.hp_flat.specs.Step.{after, is_running};
 ghost use Rattle.hp_flat.specs.Views.{segments_of};
 ghost use Rattle.hp3000_top.specs.Runs.{run_of};
 
-use crate::unread::Unread;
 use hp_flat::{Flat, OpenFlat, Program};
 use hp_word::Ending;
 use std::alloc::Global;
+use thin_jobs::Unread;
 
 /// The words of a session's stack, unless its job sets another number.
 const STACK: u16 = 1024;

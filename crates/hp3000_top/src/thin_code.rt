@@ -2,11 +2,11 @@
 ghost use Rattle.std.specs.Prelude.{◌≡◌, ℕ, ◌+◌, ◌<◌, ◌≤◌, ◌∷◌, ◌++◌, [], length, OnOk};
 ghost use Rattle.hp3000_top.specs.ThinCode.{place, atom_words, sum_words};
 ghost use Rattle.hp3000_top.specs.OperandViews.{operand_view, EndsWith};
-ghost use Rattle.hp3000_top.specs.ThinTrees.{names_of, atom_of, sum_of, statement_of, statements_of};
+ghost use Rattle.thin_jobs.specs.ThinTrees.{names_of, atom_of, sum_of, statement_of, statements_of};
 
-use crate::names::is_named;
 use spl_tree::{Expr, Item, Name, binary};
 use std::alloc::{AllocError, Global};
+use thin_jobs::is_named;
 
 /// LOAD DB+.
 const LOAD: u16 = 0o041000;

@@ -1,7 +1,7 @@
 //! The program that is made of a thin unit.
 ghost use Rattle.std.specs.Prelude.{◌≡◌, ◌+◌, ◌≤◌, ◌++◌, nat_le, length, map, OnOk, IfOk, IfSome, option_map};
 ghost use Rattle.hp3000_top.specs.ThinCode.{spent, sum_nodes, statement_nodes, nodes, table, entries_of, segment_words};
-ghost use Rattle.hp3000_top.specs.ThinTrees.{names_of, sum_of, statement_of, statements_of, variables_of, thin_of};
+ghost use Rattle.thin_jobs.specs.ThinTrees.{names_of, sum_of, statement_of, statements_of, variables_of, thin_of};
 ghost use Rattle.hp3000_top.specs.StepViews.{entries_view};
 ghost use Rattle.hp3000_top.specs.ProgramViews.{IsMadeOf};
 
@@ -9,10 +9,10 @@ use crate::thin_code::{Last, last_of};
 use crate::thin_statements::{
     CALL, First, Step, all, depth, quits_anywhere, quits_at_first, step_of, terminate_entry,
 };
-use crate::unread::Unread;
 use hp_flat::Program;
 use spl_tree::{Decl, Expr, Item, Kind, SplUnit, Stmt};
 use std::alloc::{AllocError, Global};
+use thin_jobs::Unread;
 
 /// ROOM.
 const ROOM: u16 = 0o033000;

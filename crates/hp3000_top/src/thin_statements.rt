@@ -2,13 +2,13 @@
 ghost use Rattle.std.specs.Prelude.{◌≡◌, ◌++◌, ◌+◌, ◌-◌, ◌≤◌, ◌<◌, ◌∷◌, [], length, nat_le, OnOk, Some, None, if◌then◌else◌};
 ghost use Rattle.std.specs.List.{list_any};
 ghost use Rattle.hp3000_top.specs.ThinCode.{place, sum_words, statement_words, statements_words, call_kind, quits_first, quits, is_quit, has_long, is_long, depth_of};
-ghost use Rattle.hp3000_top.specs.ThinTrees.{names_of, sum_of, call, statement_of, statements_of};
+ghost use Rattle.thin_jobs.specs.ThinTrees.{names_of, sum_of, call, statement_of, statements_of};
 ghost use Rattle.hp3000_top.specs.StepViews.{step_view, entries_view};
 
-use crate::names::is_word;
 use crate::thin_code::{Last, last_of, place_in, sum};
 use spl_tree::{Expr, Item, Name, Ref, Stmt, Target};
 use std::alloc::AllocError;
+use thin_jobs::is_word;
 
 /// STOR DB+.
 const STORE: u16 = 0o051000;

@@ -3,24 +3,21 @@ ghost use Rattle.std.specs.Prelude.{◌≡◌, ◌≢◌, ◌↔◌, ◌<◌, �
 ghost use Rattle.std.specs.Io.KnownBytes.{Appends};
 ghost use Rattle.hp_outside.specs.Faults.{Rose};
 ghost use Rattle.hp_outside.specs.Whole.{IsLongerThan};
-ghost use Rattle.hp3000_top.specs.Gives.{Gives};
-ghost use Rattle.hp3000_top.specs.ThinJobs.{job_lines, fed_all, job_of, thin_job};
+ghost use Rattle.thin_jobs.specs.Gives.{Gives};
+ghost use Rattle.thin_jobs.specs.ThinJobs.{job_lines, fed_all, job_of, thin_job};
 ghost use Rattle.hp3000_top.specs.Answers.{is_run, IsJobOf, IsAnswered, IsWhole, IsSilent, Delivers, report_of_run, later_line};
-ghost use Rattle.hp3000_top.specs.ThinTrees.{thin_of};
+ghost use Rattle.thin_jobs.specs.ThinTrees.{thin_of};
 ghost use Rattle.hp3000_top.specs.Runs.{run_of};
 
 use crate::exit::Exit;
 use crate::report::report;
 use crate::session::run;
-use crate::thin_job::lines;
-use crate::thin_lines::{read_lines, whole};
 use crate::thin_program::make;
-use crate::thin_unit::read_unit;
-use crate::unread::Unread;
 use hp_flat::Program;
 use hp_outside::{ReadAll, Sink, Source, read_all, write_all};
 use spl_tree::{Name, SplUnit};
 use std::alloc::Global;
+use thin_jobs::{Unread, lines, read_lines, read_unit, whole};
 
 /// The greatest number of bytes of an input.
 const LIMIT: usize = 1_048_576;

@@ -1,5 +1,5 @@
 -- The session that was opened has made its steps.
-use Rattle.std.proofs.Common.{◌≡◌, ℕ, ◌*◌, ◌∙◌, ap, List}
+use Rattle.std.proofs.Common.{◌*◌, ◌∙◌, ap, List}
 use Rattle.hp_flat.specs.declared.terminal.Line.{Line}
 use Rattle.hp_flat.specs.Step.{after}
 use Rattle.hp_flat.specs.Views.{segments_of, opened_of}

@@ -1,6 +1,6 @@
 -- The parts of a sum stand one after another.
-use Rattle.std.proofs.Common.{◌≡◌, ◌++◌, [], ◌∷◌}
-use Rattle.hp3000_top.specs.ThinTrees.{names_of, atom_of, sum_of}
+use Rattle.std.proofs.Common.{[], ◌∷◌}
+use Rattle.thin_jobs.specs.ThinTrees.{names_of, atom_of, sum_of}
 use Rattle.hp3000_top.specs.ThinCode.{sum_words, atom_words}
 use Rattle.hp3000_top.proofs.CodeLemmas.{words_plus, words_minus, words_none, appended, none_appended}
 use Rattle.hp3000_top.proofs.thin_code.+sum.Goals as goal

@@ -1,5 +1,5 @@
-use Rattle.hp3000_top.specs.ThinUnits.{atom_count}
-use Rattle.hp3000_top.specs.ThinTrees.{sum_of}
+use Rattle.thin_jobs.specs.ThinUnits.{atom_count}
+use Rattle.thin_jobs.specs.ThinTrees.{sum_of}
 use Rattle.hp3000_top.proofs.thin_code.+sum.Given as goal
 
 -- a sum has more operands than what stands before its last operator

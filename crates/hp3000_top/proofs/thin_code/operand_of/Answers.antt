@@ -1,8 +1,7 @@
 -- A name is a variable exactly where it has no arguments.
-use Rattle.std.proofs.Common.{◌≡◌, ◌<◌, ◌∙◌, sym, ap, arith, length, List, [], rules}
-use Rattle.std.proofs.lemmas.Bool.Decides.{nat_tests}
-use Rattle.hp3000_top.specs.ThinTrees.{atom_of}
-use Rattle.hp3000_top.proofs.TreeLemmas.{named_atom, named_other, no_items, nil_len, cons_len}
+use Rattle.std.proofs.Common.{◌≡◌, ◌<◌, ◌∙◌, sym, ap, length}
+use Rattle.thin_jobs.specs.ThinTrees.{atom_of}
+use Rattle.thin_jobs.proofs.TreeLemmas.{named_atom, named_other, no_items, nil_len, cons_len}
 use Rattle.hp3000_top.proofs.thin_code.operand_of.Goals as goal
 
 pub returns-then-is_empty : goal.returns-then-is_empty

@@ -1,6 +1,6 @@
 use Rattle.std.proofs.Common.{◌≡◌, ◌+◌, drop}
 use Rattle.hp3000_top.specs.ThinCode.{place}
-use Rattle.hp3000_top.specs.ThinTrees.{names_of}
+use Rattle.thin_jobs.specs.ThinTrees.{names_of}
 use Rattle.hp3000_top.proofs.thin_code.place_in.Given as goal
 
 -- the place is as many behind here as it is among those left

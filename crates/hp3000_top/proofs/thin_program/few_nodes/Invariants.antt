@@ -1,7 +1,7 @@
 use Rattle.std.proofs.Common.{◌≡◌, drop}
 use Rattle.std.specs.Prelude.{nat_le}
 use Rattle.hp3000_top.specs.ThinCode.{nodes}
-use Rattle.hp3000_top.specs.ThinTrees.{statements_of}
+use Rattle.thin_jobs.specs.ThinTrees.{statements_of}
 use Rattle.hp3000_top.proofs.thin_program.few_nodes.Given as goal
 
 -- the nodes left are within the budget left exactly where all are within the whole

@@ -1,7 +1,7 @@
 -- ROOM, the statements, the last call and the table stand one after another.
-use Rattle.std.proofs.Common.{◌≡◌, ℕ, ◌+◌, Bool, List, [], ◌∷◌, ◌++◌, ◌∙◌, ap}
-use Rattle.hp3000_top.specs.ThinCode.{Entries, entries_of, depth_of, statements_words, table, segment_words, quits_first, quits}
-use Rattle.hp3000_top.specs.ThinTrees.{names_of, statements_of}
+use Rattle.std.proofs.Common.{ℕ, ◌+◌, Bool, List, ◌∷◌, ◌++◌, ◌∙◌, ap}
+use Rattle.hp3000_top.specs.ThinCode.{Entries, entries_of, depth_of, statements_words, table, segment_words, quits_first}
+use Rattle.thin_jobs.specs.ThinTrees.{names_of, statements_of}
 use Rattle.hp3000_top.specs.StepViews.{entries_view}
 use Rattle.hp3000_top.proofs.CodeLemmas.{segment_parts}
 use Rattle.hp3000_top.proofs.thin_program.segment.Goals as goal

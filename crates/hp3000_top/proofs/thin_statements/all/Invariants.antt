@@ -1,6 +1,6 @@
 use Rattle.std.proofs.Common.{◌≡◌, ◌++◌, drop}
 use Rattle.hp3000_top.specs.ThinCode.{statements_words}
-use Rattle.hp3000_top.specs.ThinTrees.{names_of, statements_of}
+use Rattle.thin_jobs.specs.ThinTrees.{names_of, statements_of}
 use Rattle.hp3000_top.specs.StepViews.{entries_view}
 use Rattle.hp3000_top.proofs.thin_statements.all.Given as goal
 

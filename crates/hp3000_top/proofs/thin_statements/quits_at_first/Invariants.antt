@@ -1,6 +1,6 @@
 use Rattle.std.proofs.Common.{◌≡◌, drop}
 use Rattle.hp3000_top.specs.ThinCode.{quits_first}
-use Rattle.hp3000_top.specs.ThinTrees.{statements_of}
+use Rattle.thin_jobs.specs.ThinTrees.{statements_of}
 use Rattle.hp3000_top.proofs.thin_statements.quits_at_first.Given as goal
 
 -- the first call of those left is the first of all

@@ -1,7 +1,7 @@
 -- The code of a statement stands behind that of its sum.
 use Rattle.std.proofs.Common.{◌≡◌, ℕ, ◌+◌, ◌++◌, [], ◌∷◌, ◌∙◌, sym, ap}
-use Rattle.hp3000_top.specs.ThinTrees.{names_of, sum_of, statement_of}
-use Rattle.hp3000_top.specs.ThinCode.{place, sum_words, statement_words}
+use Rattle.thin_jobs.specs.ThinTrees.{names_of, sum_of, statement_of}
+use Rattle.hp3000_top.specs.ThinCode.{place, sum_words}
 use Rattle.hp3000_top.specs.StepViews.{entries_view}
 use Rattle.hp3000_top.proofs.CodeLemmas.{words_assign, words_quit, words_no_statement, appended_two, none_appended}
 use Rattle.hp3000_top.proofs.thin_statements.statement.Goals as goal

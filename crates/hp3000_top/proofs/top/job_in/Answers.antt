@@ -1,11 +1,11 @@
 -- The lines and the unit that were read are the job.
-use Rattle.std.proofs.Common.{◌≡◌, ℕ, List, map, Some, Option, ◌∙◌, ap, sym, subst}
+use Rattle.std.proofs.Common.{◌≡◌, ℕ, List, map, Some, ◌∙◌, ap, sym, subst}
 use Rattle.std.specs.Prelude.{IsSome}
 use Rattle.std.specs.Borrow.{Bor}
-use Rattle.hp3000_top.specs.ThinTexts.{unit_in}
-use Rattle.hp3000_top.specs.ThinTrees.{thin_of}
-use Rattle.hp3000_top.specs.ThinJobs.{start, job_lines, fed_all, is_whole}
-use Rattle.hp3000_top.specs.JobViews.{job_state}
+use Rattle.thin_jobs.specs.ThinTexts.{unit_in}
+use Rattle.thin_jobs.specs.ThinTrees.{thin_of}
+use Rattle.thin_jobs.specs.ThinJobs.{start, job_lines, fed_all}
+use Rattle.thin_jobs.specs.JobViews.{job_state}
 use Rattle.hp3000_top.proofs.AnswerLemmas.{job_read}
 use Rattle.hp3000_top.proofs.top.job_in.Goals as goal
 

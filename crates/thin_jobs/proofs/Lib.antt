@@ -1,0 +1,6 @@
+pub mod NameLemmas
+pub mod TreeLemmas
+pub mod TextLemmas
+pub mod GivesLemmas
+pub mod JobLemmas
+pub mod LineLemmas

@@ -1,0 +1,13 @@
+pub mod Gives
+pub mod ThinTokens
+pub mod ThinUnits
+pub mod ThinReading
+pub mod ThinTexts
+pub mod ThinJobs
+pub mod ThinTrees
+pub mod TokenViews
+pub mod PieceViews
+pub mod CommandViews
+pub mod JobViews
+pub mod ThinViews
+pub mod UnitViews
