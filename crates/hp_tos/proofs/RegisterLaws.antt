@@ -1,0 +1,39 @@
+-- What several calls in a row leave, so that a step can be told as one: it needs t words, takes them, and pushes others.
+use Rattle.std.proofs.Common.{◌≡◌, ℕ, ◌+◌, ◌-◌, ◌%◌, ◌^◌, ◌<◌, ◌≤◌, min, List, [], ◌∷◌, ◌++◌, length, arith}
+use Rattle.std.proofs.lemmas.Grind.{common_steps}
+use Rattle.hp_tos.specs.Seen.{Seen}
+use Rattle.hp_tos.specs.Calls.{filled, pushed, popped, dropped}
+
+-- words that stand in registers need no fill
+pub filled-there : (n : ℕ) (s : Seen) → n ≤ s.in_registers → filled n s ≡ s
+filled-there n s there = grind arith
+
+-- a word that stands in a register is popped as it is dropped
+pub popped-there : (s : Seen) → 1 ≤ s.in_registers → popped s ≡ dropped 1 s
+popped-there s there = grind arith
+
+-- words dropped one after the other are dropped together
+pub dropped-dropped : (m n : ℕ) (s : Seen) → dropped m (dropped n s) ≡ dropped (n + m) s
+dropped-dropped m n s = grind (arith, common_steps)
+
+-- words pushed one after the other, the first of the list first
+abbrev pub pushed_all : List ℕ → Seen → Seen
+pushed_all [] s = s
+pushed_all (w ∷ ws) s = pushed_all ws (pushed w s)
+
+-- they stand above the others
+pub words-pushed_all : (ws : List ℕ) (s : Seen) → (pushed_all ws s).words ≡ s.words ++ ws
+words-pushed_all [] s = grind (arith, common_steps)
+words-pushed_all (w ∷ ws) s = let later = words-pushed_all ws (pushed w s) in grind (arith, common_steps)
+
+-- at most four of them stay in registers
+pub in_registers-pushed_all : (ws : List ℕ) (s : Seen) → s.in_registers ≤ 4
+    → (pushed_all ws s).in_registers ≡ min 4 (s.in_registers + length ws)
+in_registers-pushed_all [] s few = grind arith
+in_registers-pushed_all (w ∷ ws) s few = let later = in_registers-pushed_all ws (pushed w s) in grind arith
+
+-- what is above four is spilled
+pub spills-pushed_all : (ws : List ℕ) (s : Seen) → s.in_registers ≤ 4 → s.spills < 2 ^ 64
+    → (pushed_all ws s).spills ≡ (s.spills + (s.in_registers + length ws - 4)) % 2 ^ 64
+spills-pushed_all [] s few fits = grind arith
+spills-pushed_all (w ∷ ws) s few fits = let later = spills-pushed_all ws (pushed w s) in grind arith

@@ -1,0 +1,6 @@
+pub mod Seen
+pub mod Calls
+pub mod References
+pub mod Lists
+pub mod Representation
+pub mod StackView
