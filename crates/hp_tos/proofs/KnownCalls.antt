@@ -3,6 +3,7 @@ use Rattle.std.proofs.Common.{◌≡◌, ℕ, ◌-◌, ◌^◌, true, List, [], 
 use Rattle.std.specs.declared.result.Result.TheVariants.{Ok, Err}
 use Rattle.hp_tos.specs.Seen.{Seen, made}
 use Rattle.hp_tos.specs.Calls.{taking, word_at, making_room, filled, pushed, popped, dropped, flushed}
+use Rattle.hp_tos.specs.Steps.{stepped}
 use Rattle.hp_tos.specs.References.{db_words, read_of, stack_written, db_written}
 
 -- an empty stack of seven words with an extra segment of two
@@ -99,3 +100,11 @@ read_of-split = refl
 -- a write there leaves the stack's words
 db_written-split : db_written 1 9 (record six { split = true }) ≡ record six { split = true; extra = 50 ∷ 9 ∷ [] }
 db_written-split = refl
+
+-- a step that takes two words from memory and leaves one: two fills, and one word in a register
+stepped-two : stepped 2 (9 ∷ []) (with (1 ∷ 2 ∷ 3 ∷ []) 0 0 0) ≡ with (1 ∷ 9 ∷ []) 1 2 0
+stepped-two = refl
+
+-- one that takes one and leaves two, with four in registers: one spill
+stepped-one : stepped 1 (6 ∷ 6 ∷ []) six ≡ with (1 ∷ 2 ∷ 3 ∷ 4 ∷ 5 ∷ 6 ∷ 6 ∷ []) 4 0 3
+stepped-one = refl

@@ -1,5 +1,5 @@
 -- A stack whose top words may stand in registers, as whoever calls it sees it: one list of words and three numbers.
-use Rattle.std.specs.Prelude.{ℕ, ◌≤◌, Bool, false, List, length, take}
+use Rattle.std.specs.Prelude.{ℕ, ◌^◌, ◌<◌, ◌≤◌, Bool, false, List, length, take}
 
 -- what a stack stands for
 pub record Seen : Type 0 where
@@ -29,6 +29,9 @@ pub record IsSound (s : Seen) : Type 0 where
   pub words : length s.words ≤ s.limit
   pub limit : s.limit ≤ 32000
   pub extra : length s.extra ≤ 32000
+  -- the counts are modulo 2 ^ 64
+  pub fills : s.fills < 2 ^ 64
+  pub spills : s.spills < 2 ^ 64
 
 -- a stack as it is made: in whole mode, the first words of its room in memory, none in a register, nothing counted
 abbrev pub made : List ℕ → ℕ → List ℕ → ℕ → ℕ → Seen
