@@ -1,4 +1,4 @@
--- Sequences of calls worked by hand from the rules: six pushes, pops, fills, drops, a flush, and the refusals at their edges.
+-- Sequences of calls worked by hand from the rules: pushes, pops, fills, drops, a flush, and refusals at their edges.
 use Rattle.std.proofs.Common.{◌≡◌, ℕ, ◌-◌, ◌^◌, true, List, [], ◌∷◌, replicate, refl}
 use Rattle.std.specs.declared.result.Result.TheVariants.{Ok, Err}
 use Rattle.hp_tos.specs.Seen.{Seen, made}

@@ -1,4 +1,4 @@
--- What several calls in a row leave, so that a step can be told as one: it needs t words, takes them, and pushes others.
+-- What several calls in a row leave, and so what a whole step does to the registers in use, the fills and the spills.
 use Rattle.std.proofs.Common.{◌≡◌, ℕ, ◌+◌, ◌-◌, ◌%◌, ◌^◌, ◌<◌, ◌≤◌, min, max, List, [], ◌∷◌, ◌++◌, length, refl, arith}
 use Rattle.std.proofs.lemmas.Grind.{common_steps}
 use Rattle.hp_tos.specs.Seen.{Seen}
@@ -34,7 +34,7 @@ pub spills-pushed_all : (ws : List ℕ) (s : Seen) → s.in_registers ≤ 4 → 
 spills-pushed_all [] s few fits = grind arith
 spills-pushed_all (w ∷ ws) s few fits = let later = spills-pushed_all ws (pushed w s) in grind arith
 
--- after a step as many words stand in registers as stood there, or were needed, less those taken and with those pushed, but at most four
+-- after a step those stand in registers that stood there or were needed, less those taken, with those pushed: at most 4
 pub in_registers-stepped : (n : ℕ) (ws : List ℕ) (s : Seen) → s.in_registers ≤ 4 → n ≤ 4
     → (stepped n ws s).in_registers ≡ min 4 (max s.in_registers n - n + length ws)
 in_registers-stepped n ws s few small =

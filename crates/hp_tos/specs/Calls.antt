@@ -6,7 +6,9 @@ use Rattle.hp_tos.specs.Seen.{Seen}
 
 -- n words are asked for: refused where fewer are there, with both numbers, the first as 255 where it is larger
 abbrev pub taking : {A : Type 0} → ℕ → Seen → A → Result A Underflow
-taking n s answer = if nat_le n (length s.words) then Ok answer else Err (record { wanted = min n 255; there = length s.words })
+taking n s answer =
+    if nat_le n (length s.words) then Ok answer
+    else Err (record { wanted = min n 255; there = length s.words })
 
 -- the word that stands `depth` words beneath the top; 0 is the top word
 abbrev pub word_at : ℕ → Seen → ℕ

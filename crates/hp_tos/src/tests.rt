@@ -93,7 +93,7 @@ fn a_stack_begins_with_the_first_words_of_its_room(rt: HostRuntime) -> Result<()
     let mut stack = Stack::make(room, Vec::new(rt.alloc()), 3);
     assert_eq!(rt; numbers(&stack), (3, 0, 0, 0));
     assert_eq!(rt; stack.limit(), 5);
-    assert_eq!(rt; stack.is_split(), false);
+    assert!(rt; !stack.is_split());
     assert_eq!(rt; stack.pop(), Ok(13));
     assert_eq!(rt; numbers(&stack), (2, 0, 1, 0));
     Ok(())
@@ -153,10 +153,10 @@ fn each_mode_has_its_own_db(rt: HostRuntime) -> Result<(), Fail> {
     for w in 1..=6 {
         assert_eq!(rt; stack.push(w), Ok(()));
     }
-    assert_eq!(rt; stack.join(), false);
+    assert!(rt; !stack.join());
     assert_eq!(rt; (stack.read_db(0), stack.read_db(5)), (Ok(1), Ok(6)));
     assert_eq!(rt; stack.write_db(4, 95), Ok(()));
-    assert_eq!(rt; stack.split(), true);
+    assert!(rt; stack.split());
     assert_eq!(rt; (stack.is_split(), stack.split()), (true, false));
     assert_eq!(rt; stack.read_db(1), Ok(51));
     assert_eq!(rt; stack.read_db(2), Err(Bounds { address: 2, top: 2 }));
@@ -170,7 +170,7 @@ fn each_mode_has_its_own_db(rt: HostRuntime) -> Result<(), Fail> {
     );
     assert_eq!(rt; (stack.read_stack(4), stack.read_stack(0)), (Ok(95), Ok(1)));
     assert_eq!(rt; stack.write_stack(3, 94), Ok(()));
-    assert_eq!(rt; stack.join(), true);
+    assert!(rt; stack.join());
     assert_eq!(rt;
         (stack.at(2), stack.at(1), stack.at(0)),
         (Ok(94), Ok(95), Ok(6))

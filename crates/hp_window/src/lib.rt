@@ -1,4 +1,5 @@
-//! A session's data in two typed states: whole mode, where DB addresses the stack, and split mode, where it addresses the extra segment.
+//! A session's data in two typed states: whole mode, where DB addresses the stack, and split mode, where it addresses
+//! the extra segment.
 #![tactic(auto)]
 
 mod bounds;

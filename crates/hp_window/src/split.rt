@@ -8,7 +8,7 @@ use crate::whole::Whole;
 /// The data of a session in split mode.
 #[derive(Debug, Drop, PartialEq, Eq)]
 pub struct Split {
-    /// The whole room of the stack, STACK words. The first of them, up to a `top` that the caller names, are on the stack.
+    /// The whole room of the stack, STACK words. The first of them, up to a `top` that the caller names, are on it.
     pub stack: Vec<u16>,
     /// The extra segment, all of which is in bounds.
     pub extra: Vec<u16>,

@@ -8,7 +8,7 @@ use crate::split::Split;
 /// The data of a session in whole mode.
 #[derive(Debug, Drop, PartialEq, Eq)]
 pub struct Whole {
-    /// The whole room of the stack, STACK words. The first of them, up to a `top` that the caller names, are on the stack.
+    /// The whole room of the stack, STACK words. The first of them, up to a `top` that the caller names, are on it.
     pub stack: Vec<u16>,
     /// The extra segment, which no address reaches in this state.
     pub extra: Vec<u16>,
