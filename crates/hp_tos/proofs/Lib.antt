@@ -1,0 +1,3 @@
+mod KnownCalls
+pub mod WriteLemmas
+pub mod RegisterLaws
