@@ -1,11 +1,10 @@
 //! The program: the top call over standard input and output.
 #![tactic(auto)]
 
-use std::env;
-use std::process::ExitCode;
-
 use hp_outside::{StdSink, StdSource};
 use hp3000_top::{Exit, hp3000_main};
+use std::env;
+use std::process::ExitCode;
 
 /// The words of the command line after the program's name, if there is memory for them.
 fn words(rt: &HostRuntime) -> Option<Vec<String>> {

@@ -37,7 +37,7 @@ pub fn lines<'a>(alloc: Global, bytes: &'a [u8]) -> Result<Vec<&'a [u8]>, AllocE
 fn blank(b: u8) -> bool
     ensures { result ≡ is_blank b }
 {
-    b == 32 || b == 9
+    b == b' ' || b == b'\t'
 }
 
 /// What stands between the blanks of a line.
@@ -55,7 +55,7 @@ fn words_of<'a>(alloc: Global, line: &'a [u8]) -> Result<Vec<&'a [u8]>, AllocErr
     let parts = parts(alloc, line)?;
     let mut words = Vec::new(alloc);
     for part in &parts {
-        if part.len() > 0 {
+        if !part.is_empty() {
             words.push(*part)?;
         }
     }
@@ -72,7 +72,7 @@ fn number(digits: &[u8]) -> Option<u64>
         if !digit(*d) {
             return None;
         }
-        value = 10 * value + (*d - 48) as u64;
+        value = 10 * value + (*d - b'0') as u64;
     }
     Some(value)
 }
@@ -178,7 +178,7 @@ fn command_of_words(words: &[&[u8]]) -> Option<Command>
 pub fn command_in(alloc: Global, line: &[u8]) -> Result<Option<Command>, AllocError>
     ensures { IfOk result (λ c. option_map command_view c ≡ command_of line.now) }
 {
-    if line.first() != Some(&33) {
+    if line.first() != Some(&b'!') {
         return Ok(None);
     }
     let mut capitals = Vec::from_slice(alloc, line)?;

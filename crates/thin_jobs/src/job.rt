@@ -4,8 +4,8 @@ ghost use Rattle.thin_jobs.specs.Gives.{Gives};
 ghost use Rattle.thin_jobs.specs.ThinJobs.{is_in_unit, is_whole, fed_all, start};
 ghost use Rattle.thin_jobs.specs.JobViews.{job_state, place_of};
 
-use crate::names::same;
 use crate::commands::{Command, command_in, lines};
+use crate::names::same;
 use crate::reader::name_of;
 use crate::unread::Unread;
 use spl_tree::Name;
@@ -48,7 +48,7 @@ impl JobReading {
             ..
         } = self;
         text.extend_from_slice(line)?;
-        text.push(10)?;
+        text.push(b'\n')?;
         Ok(JobReading {
             quantum,
             name,
@@ -62,7 +62,7 @@ impl JobReading {
     fn fed(self, alloc: Global, line: &[u8]) -> Result<JobReading, Unread>
         ensures { Gives job_state result (fed line.now (job_state self)) }
     {
-        if in_unit(self.due) && line.first() != Some(&33) {
+        if in_unit(self.due) && line.first() != Some(&b'!') {
             return self.with_line(line);
         }
         match command_in(alloc, line)? {

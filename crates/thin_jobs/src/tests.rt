@@ -26,15 +26,11 @@ fn lines_end_at_line_feeds(rt: HostRuntime) -> Result<(), Fail> {
 #[test]
 fn the_parts_of_a_job(rt: HostRuntime) -> Result<(), Fail> {
     let alloc = rt.alloc();
-    let job = match read_lines(alloc, &lines(alloc, FIRST)?) {
-        Ok(job) => job,
-        Err(_) => return Err(Fail),
-    };
+    let job = read_lines(alloc, &lines(alloc, FIRST)?)?;
     assert!(rt; whole(job.due));
     assert_eq!(rt; job.quantum, 1);
     assert_eq!(rt; job.name.text.as_slice(), b"A".as_slice());
-    assert_eq!(
-        rt;
+    assert_eq!(rt;
         job.text.as_slice(),
         b"BEGIN INTEGER I;\nINTRINSIC QUIT; QUIT(I) END.\n".as_slice()
     );
@@ -65,15 +61,23 @@ fn units_and_their_sizes(rt: HostRuntime) -> Result<(), Fail> {
     let alloc = rt.alloc();
     let cases: [(&[u8], usize, usize); 3] = [
         (b"BEGIN INTEGER I;INTRINSIC QUIT;QUIT(I)END.", 2, 1),
-        (b"BEGIN INTEGER I,J;INTRINSIC QUIT;I:=2;J:=I+-3;QUIT(J)END.", 2, 3),
-        (b"BEGIN INTEGER I;INTRINSIC TERMINATE,QUIT;QUIT(I);TERMINATE END.\n", 2, 2),
+        (
+            b"BEGIN INTEGER I,J;INTRINSIC QUIT;I:=2;J:=I-3;QUIT(J)END.",
+            2,
+            3,
+        ),
+        (
+            b"BEGIN INTEGER I;INTRINSIC TERMINATE,QUIT;QUIT(I);TERMINATE END.\n",
+            2,
+            2,
+        ),
     ];
     for (text, declarations, statements) in cases {
-        let unit = match read_unit(alloc, text) {
-            Ok(unit) => unit,
-            Err(_) => return Err(Fail),
-        };
-        assert_eq!(rt; (unit.items.len(), unit.statements.len()), (declarations, statements));
+        let unit = read_unit(alloc, text)?;
+        assert_eq!(rt;
+            (unit.items.len(), unit.statements.len()),
+            (declarations, statements)
+        );
     }
     let others: [&[u8]; 4] = [
         b"",

@@ -17,13 +17,13 @@ pub struct Piece {
 pub fn capital(b: u8) -> bool
     ensures { result ≡ is_capital b }
 {
-    65 <= b && b <= 90
+    b'A' <= b && b <= b'Z'
 }
 
 pub fn digit(b: u8) -> bool
     ensures { result ≡ is_digit b }
 {
-    48 <= b && b <= 57
+    b'0' <= b && b <= b'9'
 }
 
 pub fn name_byte(b: u8) -> bool
@@ -35,7 +35,7 @@ pub fn name_byte(b: u8) -> bool
 fn space(b: u8) -> bool
     ensures { result ≡ is_space b }
 {
-    b == 32 || b == 9 || b == 10
+    b == b' ' || b == b'\t' || b == b'\n'
 }
 
 /// The number of bytes at the front that a word goes on with.
@@ -60,7 +60,7 @@ fn number(digits: &[u8]) -> Option<u16>
 {
     let mut value: u32 = 0;
     for d in digits {
-        value = 10 * value + (*d as u32).saturating_sub(48);
+        value = 10 * value + (*d as u32).saturating_sub(b'0' as u32);
         if value > 32767 {
             return None;
         }
@@ -73,13 +73,13 @@ fn mark_number(b: u8) -> Option<u8>
     ensures { result ≡ mark_of b }
 {
     match b {
-        40 => Some(mark::OPEN),
-        41 => Some(mark::CLOSE),
-        44 => Some(mark::COMMA),
-        59 => Some(mark::SEMICOLON),
-        46 => Some(mark::DOT),
-        43 => Some(mark::PLUS),
-        45 => Some(mark::MINUS),
+        b'(' => Some(mark::OPEN),
+        b')' => Some(mark::CLOSE),
+        b',' => Some(mark::COMMA),
+        b';' => Some(mark::SEMICOLON),
+        b'.' => Some(mark::DOT),
+        b'+' => Some(mark::PLUS),
+        b'-' => Some(mark::MINUS),
         _ => None,
     }
 }
@@ -88,7 +88,7 @@ fn mark_number(b: u8) -> Option<u8>
 fn past_byte(at: At, b: u8) -> At
     ensures { result ≡ past b at }
 {
-    if b == 10 {
+    if b == b'\n' {
         At {
             unit: at.unit,
             line: at.line.saturating_add(1),
@@ -178,7 +178,7 @@ fn piece_from(first: u8, rest: &[u8], text: &[u8]) -> Option<Piece>
         word(&text[..1 + name_length(rest)])
     } else if digit(first) {
         digits_piece(&text[..1 + digits_length(rest)])
-    } else if first == 58 && rest.first() == Some(&61) {
+    } else if first == b':' && rest.first() == Some(&b'=') {
         Some(Piece {
             what: Some(What::Mark(mark::ASSIGN)),
             size: 2,
