@@ -11,6 +11,8 @@ mod registers;
 mod stack_rows;
 mod step;
 mod terminal;
+#[cfg(test)]
+mod tests;
 mod valid;
 
 pub use flat::{Flat, OpenFlat};
