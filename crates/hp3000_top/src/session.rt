@@ -1,5 +1,5 @@
 //! A session run by the flat machine.
-ghost use Rattle.std.specs.Prelude.{◌≡◌, IfOk, [], length};
+ghost use Rattle.std.specs.Prelude.{◌≡◌, ◌<◌, IfOk, [], length};
 ghost use Rattle.std.specs.Bool.{OnTrue};
 ghost use Rattle.hp_flat.specs.Step.{after, is_running};
 ghost use Rattle.hp_flat.specs.Views.{segments_of};
@@ -25,6 +25,13 @@ fn running(ending: Ending) -> bool
     matches!(ending, Ending::Running)
 }
 
+/// Whether the session stands in a segment of its program.
+fn in_program(flat: &Flat, program: &Program) -> bool
+    ensures { OnTrue result (flat.now.regs.seg < length (segments_of program.now)) }
+{
+    (flat.regs.seg as usize) < program.segments.len()
+}
+
 /// Makes steps until so many were made or the session has ended, and answers that each could be made.
 #[tactic(auto, using(crate::proofs::RunLemmas::steps))]
 fn make_steps(flat: &mut Flat, program: &Program, steps: u64) -> bool
@@ -35,7 +42,7 @@ fn make_steps(flat: &mut Flat, program: &Program, steps: u64) -> bool
         if !running(flat.ending) {
             return true;
         }
-        if !flat.can_step(program) {
+        if !in_program(flat, program) {
             return false;
         }
         flat.step(program);

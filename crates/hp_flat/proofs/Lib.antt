@@ -1,3 +1,5 @@
 pub mod ValidLemmas
 pub mod ValidLaws
 pub mod LineLemmas
+pub mod ByteLemmas
+pub mod GateLemmas

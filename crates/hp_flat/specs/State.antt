@@ -1,6 +1,7 @@
 -- A session as the flat machine has it: the registers, the stack as one list with its lowest word first, the extra
 -- segment, the terminal and the ending; and the words in which its rows are told.
 use Rattle.std.specs.Prelude.{◌≡◌, ℕ, ◌+◌, ◌-◌, ◌%◌, Bool, true, false, nat_lt, nat_le, List, [], ◌∷◌, ◌++◌, length, take, replicate, slice_index, Result, Ok, Err, MatchResult, if◌then◌else◌}
+use Rattle.hp_word.specs.declared.arithmetic.Code.{Code}
 use Rattle.hp_word.specs.declared.arithmetic.Code.TheVariants.{Equal}
 use Rattle.hp_word.specs.declared.endings.Ending.{Ending}
 use Rattle.hp_word.specs.declared.endings.Ending.TheVariants.{Running}
@@ -50,13 +51,30 @@ taking n m outcome = if nat_le n (length m.stack) then outcome else Err StackUnd
 abbrev pub without : ℕ → Machine → Machine
 without n m = record m { stack = take (length m.stack - n) m.stack }
 
+-- the machine with some words in place of its n top words, the last of them on top
+abbrev pub replaced : ℕ → List ℕ → Machine → Machine
+replaced n words m = record m { stack = take (length m.stack - n) m.stack ++ words }
+
 -- the machine with w in place of its n top words
 abbrev pub instead : ℕ → ℕ → Machine → Machine
-instead n w m = record m { stack = take (length m.stack - n) m.stack ++ w ∷ [] }
+instead n w m = replaced n (w ∷ []) m
 
 -- one more word on top, where STACK allows it
 abbrev pub pushing : ℕ → Machine → Outcome
 pushing w m = if nat_lt (length m.stack) m.stack_limit then Ok (record m { stack = m.stack ++ w ∷ [] }) else Err StackOverflow
+
+-- some more words, the last of them on top, where STACK allows them
+abbrev pub pushing_all : List ℕ → Machine → Outcome
+pushing_all words m =
+    if nat_le (length m.stack + length words) m.stack_limit then Ok (record m { stack = m.stack ++ words }) else Err StackOverflow
+
+-- the machine with another index register
+abbrev pub with_x : ℕ → Machine → Machine
+with_x x m = record m { regs = record m.regs { x = x } }
+
+-- the machine with another condition code
+abbrev pub with_code : Code → Machine → Machine
+with_code c m = record m { regs = record m.regs { code = c } }
 
 -- an address, a sum of addresses and a place are modulo 65,536
 abbrev pub wrapped : ℕ → ℕ
@@ -73,6 +91,10 @@ at_place p m = record m { regs = record m.regs { p = p; right = false } }
 -- past the word at P
 abbrev pub passed : Machine → Machine
 passed m = at_place (wrapped (m.regs.p + 1)) m
+
+-- on at P plus or minus d where it is so, and else past the word at P
+abbrev pub branching : Bool → Bool → ℕ → Machine → Machine
+branching taken back d m = at_place (if taken then displaced back d m.regs.p else wrapped (m.regs.p + 1)) m
 
 -- a row that goes on past its word
 abbrev pub passing : Outcome → Outcome

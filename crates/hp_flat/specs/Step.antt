@@ -1,37 +1,64 @@
 -- One step of the flat machine, and a run of many. The word at P is fetched, its row decides, and a trap changes the
 -- ending alone.
-use Rattle.std.specs.Prelude.{◌≡◌, ℕ, zero, suc, Bool, true, false, ◌==◌, ◌&&◌, ◌||◌, List, Option, None, Some, Ok, Err, if◌then◌else◌}
-use Rattle.hp_word.specs.Words.{added, subtracted}
+use Rattle.std.specs.Prelude.{ℕ, zero, suc, Bool, true, false, ◌==◌, nat_le, List, Option, None, Some, Ok, Err, if◌then◌else◌}
 use Rattle.hp_word.specs.declared.endings.Ending.{Ending}
 use Rattle.hp_word.specs.declared.endings.Ending.TheVariants.{Running, Trapped}
 use Rattle.hp_word.specs.declared.endings.Trap.TheVariants.{CodeBounds, Illegal}
-use Rattle.hp_flat.specs.declared.instructions.Instruction.{Instruction}
-use Rattle.hp_flat.specs.declared.instructions.Instruction.TheVariants.{Add, Subtract, Push, Call, Room, Load, Store, LoadCode, Branch, Other}
-use Rattle.hp_flat.specs.Bits.{bits}
-use Rattle.hp_flat.specs.Instructions.{instruction}
-use Rattle.hp_flat.specs.Valid.{label_of}
-use Rattle.hp_flat.specs.State.{Machine, Outcome, pushing, passing}
-use Rattle.hp_flat.specs.StackRows.{binary}
-use Rattle.hp_flat.specs.MemoryRows.{loaded, stored, code_word, code_loaded, branched}
-use Rattle.hp_flat.specs.CallRows.{roomy, called, current, is_gate}
+use Rattle.hp_instr.specs.declared.instruction.Instr.{Instr}
+use Rattle.hp_instr.specs.declared.instruction.Instr.TheVariants.{Pair, Shifted, Short, Immediate, Control, Memory, LoadCode, Branch, OnCode, Loop}
+use Rattle.hp_instr.specs.declared.instruction.Op.{Op}
+use Rattle.hp_instr.specs.Instructions.{instruction}
+use Rattle.hp_flat.specs.State.{Machine, Outcome, then_with, passing}
+use Rattle.hp_flat.specs.StackRows.{operated}
+use Rattle.hp_flat.specs.WordRows.{shifting, short_branch, immediate_row, count_row}
+use Rattle.hp_flat.specs.MemoryRows.{memory_row, code_word, code_loaded, branched, branched_on_code, loop_tested, loop_stepped}
+use Rattle.hp_flat.specs.MoveRows.{move_row}
+use Rattle.hp_flat.specs.CallRows.{called, exited, subroutine_left, subroutine_called}
 
--- what each instruction that goes on past its word does there
-unfoldable pub operated : List (List ℕ) → Instruction → Machine → Outcome
-operated segments Add m = if m.regs.right then Ok m else binary added m
-operated segments Subtract m = if m.regs.right then Ok m else binary subtracted m
-operated segments (Push n) m = pushing n m
-operated segments (Call n) m = called segments n m
-operated segments (Room n) m = roomy n m
-operated segments (Load x i mode) m = loaded x i mode m
-operated segments (Store x i mode) m = stored x i mode m
-operated segments (LoadCode back d) m = code_loaded segments back d m
-operated segments _ m = Err Illegal
+-- R is 1: the next step is the right operation of the word at P
+abbrev pub at_right : Machine → Machine
+at_right m = record m { regs = record m.regs { right = true } }
 
--- the row of each instruction. A word that is none traps; so does here each word whose row is not written
-unfoldable pub row : List (List ℕ) → Instruction → Machine → Outcome
-row segments (Branch back d) m = branched back d m
-row segments Other m = Err Illegal
-row segments i m = passing (operated segments i m)
+-- R is 0
+abbrev pub at_left : Machine → Machine
+at_left m = record m { regs = record m.regs { right = false } }
+
+-- a pair: with R at 1 its right operation, which clears R and passes P. Else its left one; then R is 1, unless the right
+-- operation is NOP: then P is passed
+unfoldable pub pair_row : Op → Op → Machine → Outcome
+pair_row left right m =
+    if m.regs.right then passing (operated right.code m) else
+    if right.code == 0 then passing (operated left.code m) else
+    then_with (operated left.code m) (λ n. Ok (at_right n))
+
+-- major 3: calls and returns, counts of words, moves
+unfoldable pub control_row : List (List ℕ) → ℕ → ℕ → Machine → Outcome
+control_row segments which n m =
+    if which == 0 then called segments n m else  -- PCAL
+    if which == 1 then exited segments n m else  -- EXIT
+    if which == 2 then subroutine_left n m else  -- SXIT
+    if which == 3 then subroutine_called segments n m else  -- SCAL
+    if nat_le which 8 then passing (count_row which n m) else
+    move_row segments which n m
+
+-- the row of each instruction that is a whole word
+unfoldable pub word_row : List (List ℕ) → Instr → Machine → Outcome
+word_row segments (Shifted kind count) m = passing (shifting kind count m)
+word_row segments (Short test back d) m = short_branch test back d m
+word_row segments (Immediate which n) m = passing (immediate_row which n m)
+word_row segments (Control which n) m = control_row segments which n m
+word_row segments (Memory major second x i mode) m = passing (memory_row major second mode i x m)
+word_row segments (LoadCode back d) m = passing (code_loaded segments back d m)
+word_row segments (Branch i back d) m = branched segments i back d m
+word_row segments (OnCode mask back d) m = branched_on_code mask back d m
+word_row segments (Loop modify back d) m = if modify then loop_stepped back d m else loop_tested back d m
+word_row segments _ m = Err Illegal
+
+-- the row of each instruction. One that is no pair is done whole, also with R at 1, which is cleared first; a word that is no
+-- instruction traps
+unfoldable pub row : List (List ℕ) → Instr → Machine → Outcome
+row segments (Pair left right) m = pair_row left right m
+row segments i m = word_row segments i (at_left m)
 
 -- what the word at P does; there must be one
 abbrev pub by_word : List (List ℕ) → Option ℕ → Machine → Outcome
@@ -59,15 +86,3 @@ is_running _ = false
 unfoldable pub after : List (List ℕ) → ℕ → Machine → Machine
 after segments zero m = m
 after segments (suc n) m = if is_running m.ending then after segments n (step segments m) else m
-
--- the word's row is written: it is one of those above, and a PCAL calls TERMINATE or QUIT
-abbrev pub is_built_word : List (List ℕ) → Machine → Option ℕ → Bool
-is_built_word segments m None = true
-is_built_word segments m (Some w) = is_built_instruction (instruction w) where
-  is_built_instruction : Instruction → Bool
-  is_built_instruction Other = false
-  is_built_instruction (Call n) = let label = label_of (current segments m) n in is_gate label && ((bits 1 7 label == 7) || (bits 1 7 label == 8))
-  is_built_instruction _ = true
-
-abbrev pub IsBuilt : List (List ℕ) → Machine → Type 0
-IsBuilt segments m = is_built_word segments m (code_word segments m.regs.seg m.regs.p) ≡ true

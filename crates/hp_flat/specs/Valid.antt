@@ -2,7 +2,7 @@
 use Rattle.std.specs.Prelude.{ℕ, zero, suc, ◌+◌, ◌-◌, Bool, false, ◌==◌, ◌&&◌, ◌||◌, nat_lt, nat_le, not, List, [], ◌∷◌, length, slice_index, slice_get, Option, None, Some, if◌then◌else◌}
 use Rattle.hp_flat.specs.declared.program.Defect.{Defect}
 use Rattle.hp_flat.specs.declared.program.Defect.TheVariants.{Head, Segment, Label, Main}
-use Rattle.hp_flat.specs.Bits.{bits, bit}
+use Rattle.hp_instr.specs.Bits.{bits, bit}
 
 -- the number of entries of a segment is its last word
 abbrev pub entries_of : List ℕ → ℕ

@@ -1,38 +1,22 @@
-//! The rows of major 3 that are written so far: ROOM, and calls of the intrinsics that end a session.
-ghost use Rattle.std.specs.Prelude.{◌≡◌, ◌<◌, ◌≤◌, length, ℕ, unwrap_or, slice_get, []};
-ghost use Rattle.hp_word.specs.Words.{signed};
+//! The rows of calls and returns.
+ghost use Rattle.std.specs.Prelude.{◌≡◌, ◌<◌, ◌≤◌, ◌+◌, ◌∷◌, [], length, ℕ, unwrap_or, slice_get};
+ghost use Rattle.hp_instr.specs.Labels.{label};
 ghost use Rattle.hp_flat.specs.Valid.{entries_of, label_of};
 ghost use Rattle.hp_flat.specs.State.{Does};
-ghost use Rattle.hp_flat.specs.CallRows.{having_room, roomy, terminated, quitted, served, current, is_gate, called};
+ghost use Rattle.hp_flat.specs.CallRows.{words_of, current, label_at, flag, code_bits, code_of_bits, status, with_status, entered, called_through, called, subroutine_at, subroutine_called, marker_at, old_q, returned, exited, subroutine_left};
 ghost use Rattle.hp_flat.specs.Views.{segments_of};
 
 use crate::flat::Flat;
+use crate::places::Place;
 use crate::program::Program;
+use crate::registers::Regs;
 use crate::valid::{entry_count, label_word};
-use hp_word::{Ending, Trap};
+use hp_instr::{Label, read_label};
+use hp_word::{Code, Trap};
 
-/// A word read with its sign.
-#[tactic(auto, unfolding(hp_word::specs::Words::signed))]
-fn signed_word(w: u16) -> i16
-    ensures { result ≡ signed w }
-{
-    if w < 32768 {
-        w as i16
-    } else {
-        (w as i32 - 65536) as i16
-    }
-}
-
-/// The label is an intrinsic's.
-pub(crate) fn gate(label: u16) -> bool
-    ensures { result ≡ is_gate label }
-{
-    label / 32768 == 1 && label % 256 == 255
-}
-
-/// The words of the current segment.
-pub(crate) fn current_words(program: &Program, seg: u8) -> &[u16]
-    ensures { result.now ≡ unwrap_or (slice_get (segments_of program.now) seg) [] }
+/// The words of a segment; none of one that is not there.
+pub(crate) fn segment_words(program: &Program, seg: u8) -> &[u16]
+    ensures { result.now ≡ words_of (segments_of program.now) seg }
 {
     match program.segments.get(seg as usize) {
         None => &[],
@@ -40,60 +24,131 @@ pub(crate) fn current_words(program: &Program, seg: u8) -> &[u16]
     }
 }
 
+/// A bit of the status word.
+#[inline]
+fn flag(on: bool, place: u16) -> u16
+    ensures { result ≡ flag on place }
+{
+    if on { place } else { 0 }
+}
+
+/// The bits of a condition code.
+#[inline]
+#[tactic(auto, unfolding(crate::specs::CallRows::code_bits))]
+fn code_bits(code: Code) -> u16
+    ensures value { result ≡ code_bits code }
+    ensures bound { result ≤ 2 }
+{
+    match code {
+        Code::Greater => 0b00,
+        Code::Less => 0b01,
+        Code::Equal => 0b10,
+    }
+}
+
+/// The condition code of two bits.
+#[inline]
+#[tactic(auto, unfolding(crate::specs::CallRows::code_of_bits))]
+fn code_of_bits(bits: u16) -> Code
+    ensures { result ≡ code_of_bits bits }
+{
+    match bits {
+        0b00 => Code::Greater,
+        0b01 => Code::Less,
+        _ => Code::Equal,
+    }
+}
+
+/// The flags of a status word: user traps, R, overflow and carry.
+#[inline]
+fn flags(r: &Regs) -> u16
+    ensures value { result ≡ flag r.now.traps 8192 + flag r.now.right 4096 + flag r.now.overflow 2048 + flag r.now.carry 1024 }
+    ensures bound { result ≤ 15360 }
+{
+    flag(r.traps, 8192) + flag(r.right, 4096) + flag(r.overflow, 2048) + flag(r.carry, 1024)
+}
+
+/// The status word.
+#[tactic(auto, unfolding(crate::specs::CallRows::status))]
+fn status_of(r: &Regs) -> u16
+    ensures { result ≡ status r.now }
+{
+    flags(r) + 256 * code_bits(r.code) + r.seg as u16
+}
+
+/// The registers with the status of a word.
+#[tactic(auto, unfolding(crate::specs::CallRows::with_status))]
+fn with_status(w: u16, r: Regs) -> Regs
+    ensures { result ≡ with_status w r }
+{
+    Regs {
+        traps: w / 8192 % 2 == 1,
+        right: w / 4096 % 2 == 1,
+        overflow: w / 2048 % 2 == 1,
+        carry: w / 1024 % 2 == 1,
+        code: code_of_bits(w / 256 % 4),
+        seg: (w % 256) as u8,
+        ..r
+    }
+}
+
+/// What a call leaves for its return.
+#[derive(Clone, Copy, Debug, PartialEq, Eq)]
+pub struct Frame {
+    /// X.
+    pub x: u16,
+    /// The offset of the word after the call.
+    pub offset: u16,
+    /// The status word.
+    pub status: u16,
+    /// How far the new Q is above the old one.
+    pub delta: u16,
+}
+
 impl Flat {
-    /// Tests the room for `n` more words.
-    fn have_room(&mut self, n: u16) -> Result<(), Trap>
-        ensures { Does (having_room n self.old) self.old result self.new }
+    /// The label of an entry of the current segment.
+    #[tactic(auto, unfolding(crate::specs::CallRows::label_at))]
+    fn label_at(&self, program: &Program, n: u8) -> Result<Label, Trap>
+        ensures { result ≡ label_at (segments_of program.now) n self.now }
     {
-        let _limit = self.stack_limit;
-        if self.stack.len() + n as usize <= self.stack_limit as usize {
-            Ok(())
-        } else {
-            Err(Trap::StackOverflow)
+        let words = segment_words(program, self.regs.seg);
+        if n == 0 || entry_count(words) < n as u16 {
+            return Err(Trap::BadEntry);
         }
+        Ok(read_label(label_word(words, n as u16)))
     }
 
-    /// ROOM.
-    #[tactic(auto, unfolding(crate::specs::CallRows::roomy))]
-    pub(crate) fn room_for(&mut self, n: u8) -> Result<(), Trap>
-        ensures { Does (roomy n self.old) self.old result self.new }
+    /// Pushes the marker, and goes to the procedure.
+    #[tactic(auto, unfolding(crate::specs::CallRows::entered, crate::specs::CallRows::marker))]
+    fn enter(&mut self, seg: u8, offset: u16) -> Result<(), Trap>
+        ensures { Does (entered seg offset self.old) self.old result self.new }
     {
-        if n != 0 {
-            return self.have_room(n as u16);
-        }
-        self.need(1)?;
-        let count = self.word(0) as usize;
-        let _limit = self.stack_limit;
-        if self.stack.len() - 1 + count > self.stack_limit as usize {
-            return Err(Trap::StackOverflow);
-        }
-        self.delete(1);
+        let new_q = self.words() + 3;
+        let regs = self.regs;
+        let delta = ((new_q + 65536 - regs.q as usize) % 65536) as u16;
+        self.push_all(&[regs.x, regs.p.wrapping_add(1), status_of(&regs), delta])?;
+        self.regs.q = new_q as u16;
+        self.regs.seg = seg;
+        self.go_to(offset);
         Ok(())
     }
 
-    /// QUIT.
-    fn quit(&mut self) -> Result<(), Trap>
-        ensures { Does (quitted self.old) self.old result self.new }
+    /// A call through a label.
+    #[tactic(auto, unfolding(crate::specs::CallRows::called_through))]
+    fn call_through(&mut self, program: &Program, label: Label) -> Result<(), Trap>
+        ensures { Does (called_through (segments_of program.now) label self.old) self.old result self.new }
     {
-        self.need(1)?;
-        let number = signed_word(self.word(0));
-        self.delete(1);
-        self.ending = Ending::Quit(number);
-        Ok(())
-    }
-
-    /// An intrinsic, by its number.
-    #[tactic(auto, unfolding(crate::specs::CallRows::served))]
-    fn serve(&mut self, number: u16) -> Result<(), Trap>
-        ensures { Does (served number self.old) self.old result self.new }
-    {
-        match number {
-            7 => {
-                self.ending = Ending::Terminated;
+        match label {
+            Label::Local(offset) => self.enter(self.regs.seg, offset),
+            Label::External { seg: 255, entry } => {
+                self.serve(entry)?;
+                self.pass();
                 Ok(())
             }
-            8 => self.quit(),
-            _ => Err(Trap::Illegal),
+            Label::External { seg, entry } => {
+                self.enter(seg, label_word(segment_words(program, seg), entry as u16))
+            }
+            Label::Bad(_) => Err(Trap::BadEntry),
         }
     }
 
@@ -105,15 +160,87 @@ impl Flat {
         if self.split {
             return Err(Trap::Mode);
         }
-        let words = current_words(program, self.regs.seg);
-        if n == 0 || entry_count(words) < n as u16 {
+        let label = self.label_at(program, n)?;
+        self.call_through(program, label)
+    }
+
+    /// SCAL.
+    #[tactic(auto, unfolding(crate::specs::CallRows::subroutine_called))]
+    pub(crate) fn call_subroutine(&mut self, program: &Program, n: u8) -> Result<(), Trap>
+        ensures { Does (subroutine_called (segments_of program.now) n self.old) self.old result self.new }
+    {
+        let Label::Local(offset) = self.label_at(program, n)? else {
+            return Err(Trap::BadEntry);
+        };
+        self.push(self.regs.p.wrapping_add(1))?;
+        self.go_to(offset);
+        Ok(())
+    }
+
+    /// The marker whose last word Q addresses.
+    #[tactic(auto, unfolding(crate::specs::CallRows::marker_at))]
+    fn marker(&self) -> Result<Frame, Trap>
+        ensures { result ≡ marker_at self.now.regs.q self.now }
+    {
+        let q = self.regs.q;
+        let x = self.read_at(Place::Stack(q.wrapping_sub(3)))?;
+        let offset = self.read_at(Place::Stack(q.wrapping_sub(2)))?;
+        let status = self.read_at(Place::Stack(q.wrapping_sub(1)))?;
+        let delta = self.read_at(Place::Stack(q))?;
+        Ok(Frame {
+            x,
+            offset,
+            status,
+            delta,
+        })
+    }
+
+    /// A return over a marker.
+    #[tactic(auto, unfolding(crate::specs::CallRows::returned))]
+    fn return_over(&mut self, program: &Program, n: u8, marker: Frame) -> Result<(), Trap>
+        ensures { Does (returned (segments_of program.now) n marker self.old) self.old result self.new }
+    {
+        if program.segments.len() <= (marker.status % 256) as usize {
             return Err(Trap::BadEntry);
         }
-        let label = label_word(words, n as u16);
-        if gate(label) {
-            self.serve(label / 256 % 128)
-        } else {
-            Err(Trap::Illegal)
+        let q = self.regs.q;
+        let gone = n as u16 + 3;
+        let old_q = q.wrapping_sub(marker.delta);
+        if q < gone || q - gone <= old_q {
+            return Err(Trap::StackUnderflow);
         }
+        self.stack.truncate((q - gone) as usize);
+        self.regs = Regs {
+            x: marker.x,
+            q: old_q,
+            p: marker.offset,
+            ..with_status(marker.status, self.regs)
+        };
+        Ok(())
+    }
+
+    /// EXIT.
+    #[tactic(auto, unfolding(crate::specs::CallRows::exited))]
+    pub(crate) fn exit(&mut self, program: &Program, n: u8) -> Result<(), Trap>
+        ensures { Does (exited (segments_of program.now) n self.old) self.old result self.new }
+    {
+        if self.split {
+            return Err(Trap::Mode);
+        }
+        let marker = self.marker()?;
+        self.return_over(program, n, marker)
+    }
+
+    /// SXIT.
+    #[tactic(auto, unfolding(crate::specs::CallRows::subroutine_left))]
+    pub(crate) fn leave_subroutine(&mut self, n: u8) -> Result<(), Trap>
+        ensures { Does (subroutine_left n self.old) self.old result self.new }
+    {
+        let count = n as usize + 1;
+        self.need(count)?;
+        let offset = self.word(0);
+        self.delete(count);
+        self.go_to(offset);
+        Ok(())
     }
 }

@@ -1,143 +1,236 @@
-//! The rows of majors 4 to 15: a place is found, and then a word is loaded, stored or branched to.
-ghost use Rattle.std.specs.Prelude.{◌≡◌, ◌<◌, ◌≤◌, length, map, slice_get, option_and_then};
-ghost use Rattle.hp_flat.specs.State.{Does, displaced, at_place};
-ghost use Rattle.hp_flat.specs.MemoryRows.{base, area, address, read_at, indexed, operand, written, loaded, stored, code_word, code_read, code_loaded, branched};
+//! The rows of majors 4 to 15 with an operand in memory, and LOAD from code.
+ghost use Rattle.std.specs.Prelude.{◌≡◌, ◌<◌, ◌≤◌, length};
+ghost use Rattle.hp_word.specs.Words.{added, subtracted, multiplied};
+ghost use Rattle.hp_flat.specs.State.{Does};
+ghost use Rattle.hp_flat.specs.MemoryRows.{loaded, stored, compared_in_memory, with_memory, settled_at, in_memory, index_loaded, byte_loaded, byte_stored, double_loaded, double_stored, address_loaded, memory_row, code_loaded};
 ghost use Rattle.hp_flat.specs.Views.{segments_of};
 
+use crate::branch_rows::displacement;
 use crate::flat::Flat;
-use crate::instructions::Mode;
+use crate::places::Place;
 use crate::program::Program;
-use hp_word::Trap;
-
-/// Where a reference leads.
-#[derive(Clone, Copy, Debug, PartialEq, Eq)]
-pub enum Place {
-    /// An address from DB on: in split mode of the extra segment.
-    Db(u16),
-    /// An address of the stack, in both modes.
-    Stack(u16),
-}
-
-/// P plus `d`, or minus `d` where it is back.
-pub(crate) fn displacement(back: bool, d: u8, p: u16) -> u16
-    ensures { result ≡ displaced back d p }
-{
-    if back {
-        p.wrapping_sub(d as u16)
-    } else {
-        p.wrapping_add(d as u16)
-    }
-}
-
-/// The word at an offset of a segment.
-#[tactic(auto, unfolding(crate::specs::MemoryRows::code_word))]
-pub(crate) fn fetch(program: &Program, seg: u8, offset: u16) -> Option<u16>
-    ensures { result ≡ code_word (segments_of program.now) seg offset }
-{
-    match program.segments.get(seg as usize) {
-        None => None,
-        Some(words) => words.get(offset as usize).copied(),
-    }
-}
+use hp_instr::{Mode, major};
+use hp_word::{Arith, Trap};
 
 impl Flat {
-    /// The place that a mode names.
-    #[tactic(auto, unfolding(crate::specs::MemoryRows::base))]
-    fn base(&self, mode: Mode) -> Place
-        ensures { result ≡ base mode self.now }
-    {
-        let q = self.regs.q;
-        match mode {
-            Mode::DbPlus(d) => Place::Db(d as u16),
-            Mode::QPlus(d) => Place::Stack(q.wrapping_add(d as u16)),
-            Mode::QMinus(d) => Place::Stack(q.wrapping_sub(d as u16)),
-            Mode::SMinus(d) => {
-                let _limit = self.stack_limit;
-                Place::Stack(((self.stack.len() as u32 + 65535 - d as u32) % 65536) as u16)
-            }
-        }
-    }
-
-    /// The word at a place.
-    #[tactic(auto, unfolding(crate::specs::MemoryRows::read_at, crate::specs::MemoryRows::area))]
-    fn read_at(&self, place: Place) -> Result<u16, Trap>
-        ensures { result ≡ read_at place self.now }
-    {
-        let word = match place {
-            Place::Db(a) if self.split => self.extra.get(a as usize),
-            Place::Db(a) => self.stack.get(a as usize),
-            Place::Stack(a) => self.stack.get(a as usize),
-        };
-        word.copied().ok_or(Trap::Bounds)
-    }
-
-    /// A place with X added where the instruction is indexed.
-    #[tactic(auto, unfolding(crate::specs::MemoryRows::indexed))]
-    fn indexed(&self, x: bool, place: Place) -> Place
-        ensures { result ≡ indexed x place self.now }
-    {
-        let by = self.regs.x;
-        match place {
-            Place::Db(a) if x => Place::Db(a.wrapping_add(by)),
-            Place::Stack(a) if x => Place::Stack(a.wrapping_add(by)),
-            _ => place,
-        }
-    }
-
-    /// The place of an operand.
-    #[tactic(auto, unfolding(crate::specs::MemoryRows::operand))]
-    fn operand(&self, mode: Mode, i: bool, x: bool) -> Result<Place, Trap>
-        ensures { result ≡ operand mode i x self.now }
-    {
-        if i {
-            let cell = self.read_at(self.base(mode))?;
-            Ok(self.indexed(x, Place::Db(cell)))
-        } else {
-            Ok(self.indexed(x, self.base(mode)))
-        }
-    }
-
-    /// Stores a word at a place.
-    #[tactic(auto, unfolding(crate::specs::MemoryRows::written, crate::specs::MemoryRows::put, crate::specs::MemoryRows::area))]
-    fn write_at(&mut self, place: Place, w: u16) -> Result<(), Trap>
-        ensures { Does (written place w self.old) self.old result self.new }
-    {
-        let (address, of_extra) = match place {
-            Place::Db(a) => (a as usize, self.split),
-            Place::Stack(a) => (a as usize, false),
-        };
-        if of_extra {
-            if address < self.extra.len() {
-                self.extra[address] = w;
-                return Ok(());
-            }
-        } else if address < self.stack.len() {
-            self.stack[address] = w;
-            return Ok(());
-        }
-        Err(Trap::Bounds)
-    }
-
     /// LOAD.
     #[tactic(auto, unfolding(crate::specs::MemoryRows::loaded))]
-    pub(crate) fn load(&mut self, x: bool, i: bool, mode: Mode) -> Result<(), Trap>
-        ensures { Does (loaded x i mode self.old) self.old result self.new }
+    fn load(&mut self, mode: Mode, i: bool, x: bool) -> Result<(), Trap>
+        ensures { Does (loaded mode i x self.old) self.old result self.new }
     {
-        let place = self.operand(mode, i, x)?;
+        let place = self.operand(1, mode, i, x)?;
         let word = self.read_at(place)?;
         self.push(word)
     }
 
     /// STOR.
     #[tactic(auto, unfolding(crate::specs::MemoryRows::stored))]
-    pub(crate) fn store(&mut self, x: bool, i: bool, mode: Mode) -> Result<(), Trap>
-        ensures { Does (stored x i mode self.old) self.old result self.new }
+    fn store(&mut self, mode: Mode, i: bool, x: bool) -> Result<(), Trap>
+        ensures { Does (stored mode i x self.old) self.old result self.new }
     {
         self.need(1)?;
-        let place = self.operand(mode, i, x)?;
+        let place = self.operand(1, mode, i, x)?;
         self.write_at(place, self.word(0))?;
         self.delete(1);
         Ok(())
+    }
+
+    /// CMPM.
+    #[tactic(auto, unfolding(crate::specs::MemoryRows::compared_in_memory))]
+    fn compare_memory(&mut self, mode: Mode, i: bool, x: bool) -> Result<(), Trap>
+        ensures { Does (compared_in_memory mode i x self.old) self.old result self.new }
+    {
+        self.need(1)?;
+        let place = self.operand(1, mode, i, x)?;
+        let word = self.read_at(place)?;
+        let code = hp_word::cmp(self.word(0), word);
+        self.delete_coded(1, code);
+        Ok(())
+    }
+
+    /// ADDM.
+    #[tactic(auto, unfolding(crate::specs::MemoryRows::with_memory))]
+    fn add_memory(&mut self, mode: Mode, i: bool, x: bool) -> Result<(), Trap>
+        ensures { Does (with_memory added mode i x self.old) self.old result self.new }
+    {
+        self.need(1)?;
+        let place = self.operand(1, mode, i, x)?;
+        let word = self.read_at(place)?;
+        let carry = self.regs.carry;
+        let r = hp_word::add(self.word(0), word);
+        self.settle(1, Arith { carry, ..r })
+    }
+
+    /// SUBM.
+    #[tactic(auto, unfolding(crate::specs::MemoryRows::with_memory))]
+    fn subtract_memory(&mut self, mode: Mode, i: bool, x: bool) -> Result<(), Trap>
+        ensures { Does (with_memory subtracted mode i x self.old) self.old result self.new }
+    {
+        self.need(1)?;
+        let place = self.operand(1, mode, i, x)?;
+        let word = self.read_at(place)?;
+        let carry = self.regs.carry;
+        let r = hp_word::sub(self.word(0), word);
+        self.settle(1, Arith { carry, ..r })
+    }
+
+    /// MPYM.
+    #[tactic(auto, unfolding(crate::specs::MemoryRows::with_memory))]
+    fn multiply_memory(&mut self, mode: Mode, i: bool, x: bool) -> Result<(), Trap>
+        ensures { Does (with_memory multiplied mode i x self.old) self.old result self.new }
+    {
+        self.need(1)?;
+        let place = self.operand(1, mode, i, x)?;
+        let word = self.read_at(place)?;
+        let carry = self.regs.carry;
+        let r = hp_word::mpy(self.word(0), word);
+        self.settle(1, Arith { carry, ..r })
+    }
+
+    /// Stores an integer result at a place.
+    #[tactic(auto, unfolding(crate::specs::MemoryRows::settled_at))]
+    pub(crate) fn settle_at(&mut self, place: Place, r: Arith) -> Result<(), Trap>
+        ensures { Does (settled_at place r self.old) self.old result self.new }
+    {
+        if r.overflow {
+            return Err(Trap::IntegerOverflow);
+        }
+        self.write_at(place, r.value)?;
+        self.regs.overflow = false;
+        Ok(())
+    }
+
+    /// INCM.
+    #[tactic(auto, unfolding(crate::specs::MemoryRows::in_memory))]
+    fn increase_memory(&mut self, mode: Mode, i: bool, x: bool) -> Result<(), Trap>
+        ensures { Does (in_memory added mode i x self.old) self.old result self.new }
+    {
+        let place = self.operand(1, mode, i, x)?;
+        let r = hp_word::add(self.read_at(place)?, 1);
+        self.settle_at(place, r)?;
+        self.regs.code = r.code;
+        Ok(())
+    }
+
+    /// DECM.
+    #[tactic(auto, unfolding(crate::specs::MemoryRows::in_memory))]
+    fn decrease_memory(&mut self, mode: Mode, i: bool, x: bool) -> Result<(), Trap>
+        ensures { Does (in_memory subtracted mode i x self.old) self.old result self.new }
+    {
+        let place = self.operand(1, mode, i, x)?;
+        let r = hp_word::sub(self.read_at(place)?, 1);
+        self.settle_at(place, r)?;
+        self.regs.code = r.code;
+        Ok(())
+    }
+
+    /// LDX.
+    #[tactic(auto, unfolding(crate::specs::MemoryRows::index_loaded))]
+    fn load_index(&mut self, mode: Mode, i: bool, x: bool) -> Result<(), Trap>
+        ensures { Does (index_loaded mode i x self.old) self.old result self.new }
+    {
+        let place = self.operand(1, mode, i, x)?;
+        self.regs.x = self.read_at(place)?;
+        Ok(())
+    }
+
+    /// LDB.
+    #[tactic(auto, unfolding(crate::specs::MemoryRows::byte_loaded))]
+    fn load_byte(&mut self, mode: Mode, i: bool, x: bool) -> Result<(), Trap>
+        ensures { Does (byte_loaded mode i x self.old) self.old result self.new }
+    {
+        let place = self.byte_operand(mode, i, x)?;
+        let byte = self.read_byte(place)?;
+        self.push(byte as u16)
+    }
+
+    /// STB.
+    #[tactic(auto, unfolding(crate::specs::MemoryRows::byte_stored))]
+    fn store_byte(&mut self, mode: Mode, i: bool, x: bool) -> Result<(), Trap>
+        ensures { Does (byte_stored mode i x self.old) self.old result self.new }
+    {
+        self.need(1)?;
+        let place = self.byte_operand(mode, i, x)?;
+        self.write_byte(place, (self.word(0) % 256) as u8)?;
+        self.delete(1);
+        Ok(())
+    }
+
+    /// LDD.
+    #[tactic(auto, unfolding(crate::specs::MemoryRows::double_loaded))]
+    fn load_double(&mut self, mode: Mode, i: bool, x: bool) -> Result<(), Trap>
+        ensures { Does (double_loaded mode i x self.old) self.old result self.new }
+    {
+        let place = self.operand(2, mode, i, x)?;
+        let high = self.read_at(place)?;
+        let low = self.read_at(place.moved(1))?;
+        self.push_all(&[high, low])
+    }
+
+    /// STD.
+    #[tactic(auto, unfolding(crate::specs::MemoryRows::double_stored))]
+    fn store_double(&mut self, mode: Mode, i: bool, x: bool) -> Result<(), Trap>
+        ensures { Does (double_stored mode i x self.old) self.old result self.new }
+    {
+        self.need(2)?;
+        let place = self.operand(2, mode, i, x)?;
+        let next = place.moved(1);
+        self.read_at(place)?;
+        self.read_at(next)?;
+        let (high, low) = (self.word(1), self.word(0));
+        self.put(place, high);
+        self.put(next, low);
+        self.delete(2);
+        Ok(())
+    }
+
+    /// LRA.
+    #[tactic(auto, unfolding(crate::specs::MemoryRows::address_loaded))]
+    fn load_address(&mut self, mode: Mode, i: bool, x: bool) -> Result<(), Trap>
+        ensures { Does (address_loaded mode i x self.old) self.old result self.new }
+    {
+        let place = self.operand(1, mode, i, x)?;
+        self.push(place.address())
+    }
+
+    /// The row of a major with an operand in memory.
+    #[tactic(auto, unfolding(crate::specs::MemoryRows::memory_row))]
+    pub(crate) fn memory(
+        &mut self,
+        which: u8,
+        second: bool,
+        mode: Mode,
+        i: bool,
+        x: bool,
+    ) -> Result<(), Trap>
+        ensures { Does (memory_row which second mode i x self.old) self.old result self.new }
+    {
+        match which {
+            major::LOAD => self.load(mode, i, x),
+            major::STOR => self.store(mode, i, x),
+            major::CMPM => self.compare_memory(mode, i, x),
+            major::ADDM => self.add_memory(mode, i, x),
+            major::SUBM => self.subtract_memory(mode, i, x),
+            major::MPYM => self.multiply_memory(mode, i, x),
+            major::INCM => if second {
+                self.decrease_memory(mode, i, x)
+            } else {
+                self.increase_memory(mode, i, x)
+            },
+            major::LDX => self.load_index(mode, i, x),
+            major::LDB => if second {
+                self.load_double(mode, i, x)
+            } else {
+                self.load_byte(mode, i, x)
+            },
+            major::STB => if second {
+                self.store_double(mode, i, x)
+            } else {
+                self.store_byte(mode, i, x)
+            },
+            major::LRA => self.load_address(mode, i, x),
+            _ => Err(Trap::Illegal),
+        }
     }
 
     /// LOAD of a code word.
@@ -145,10 +238,7 @@ impl Flat {
     pub(crate) fn load_code(&mut self, program: &Program, back: bool, d: u8) -> Result<(), Trap>
         ensures { Does (code_loaded (segments_of program.now) back d self.old) self.old result self.new }
     {
-        let offset = displacement(back, d, self.regs.p);
-        match fetch(program, self.regs.seg, offset) {
-            None => Err(Trap::CodeBounds),
-            Some(word) => self.push(word),
-        }
+        let word = self.read_code(program, displacement(back, d, self.regs.p))?;
+        self.push(word)
     }
 }

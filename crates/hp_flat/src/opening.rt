@@ -3,7 +3,7 @@ ghost use Rattle.std.specs.Prelude.{◌≡◌, ◌<◌, ◌≤◌, ◌+◌, ◌+
 ghost use Rattle.hp_flat.specs.FlatView.{lines_of};
 ghost use Rattle.hp_flat.specs.Views.{segments_of, opened_of};
 
-use crate::call_rows::current_words;
+use crate::call_rows::segment_words;
 use crate::flat::{Flat, OpenFlat};
 use crate::program::Program;
 use crate::registers::Regs;
@@ -67,7 +67,7 @@ impl Flat {
         let regs = Regs {
             x: 0,
             q: data as u16 + 3,
-            p: label_word(current_words(program, program.main), program.entry as u16),
+            p: label_word(segment_words(program, program.main), program.entry as u16),
             seg: program.main,
             traps: true,
             right: false,

@@ -1,94 +1,78 @@
-//! The rows of major 0: operations on the top words.
-ghost use Rattle.std.specs.Prelude.{◌≡◌, ◌<◌, ◌≤◌, length, MatchResult};
-ghost use Rattle.hp_word.specs.declared.endings.Trap.TheVariants.{StackUnderflow};
-ghost use Rattle.hp_word.specs.Words.{added, subtracted};
-ghost use Rattle.hp_flat.specs.State.{Does, word, without, pushing};
-ghost use Rattle.hp_flat.specs.StackRows.{settled, binary};
+//! The rows of major 0, by the operation's code.
+ghost use Rattle.std.specs.Prelude.{◌≡◌};
+ghost use Rattle.hp_flat.specs.State.{Does};
+ghost use Rattle.hp_flat.specs.StackRows.{operated};
 
 use crate::flat::Flat;
-use hp_word::{Arith, Trap};
+use hp_instr::Op;
+use hp_word::Trap;
 
 impl Flat {
-    /// The number of words on the stack.
-    pub(crate) fn words(&self) -> usize
-        ensures value { result ≡ length self.now.stack }
-        ensures limit { result ≤ self.now.stack_limit }
+    /// The row of an operation on the top words.
+    #[tactic(auto, unfolding(crate::specs::StackRows::operated))]
+    pub(crate) fn operate(&mut self, op: Op) -> Result<(), Trap>
+        ensures { Does (operated op.code self.old) self.old result self.new }
     {
-        let _limit = self.stack_limit;
-        self.stack.len()
-    }
-
-    /// The word that stands `depth` words beneath the top.
-    pub(crate) fn word(&self, depth: usize) -> u16
-        requires { depth < length self.now.stack }
-        ensures { result ≡ word depth self.now }
-    {
-        self.stack[self.stack.len() - 1 - depth]
-    }
-
-    /// Tests that there are `n` words to take.
-    pub(crate) fn need(&self, n: usize) -> Result<(), Trap>
-        ensures { MatchResult result (λ _. n ≤ length self.now.stack) (λ t. (t ≡ StackUnderflow) × (length self.now.stack < n)) }
-    {
-        if self.stack.len() < n {
-            Err(Trap::StackUnderflow)
-        } else {
-            Ok(())
+        match op {
+            Op::NOP => Ok(()),
+            Op::DELB => self.delete_below(),
+            Op::DDEL => self.take(2),
+            Op::ZROX => {
+                self.regs.x = 0;
+                Ok(())
+            }
+            Op::INCX => {
+                self.regs.x = self.regs.x.wrapping_add(1);
+                Ok(())
+            }
+            Op::DECX => {
+                self.regs.x = self.regs.x.wrapping_sub(1);
+                Ok(())
+            }
+            Op::ZERO => self.push(0),
+            Op::DZRO => self.push_all(&[0, 0]),
+            Op::DCMP => self.compare_doubles(),
+            Op::DADD => self.add_doubles(),
+            Op::DSUB => self.subtract_doubles(),
+            Op::DNEG => self.negate_double(),
+            Op::DXCH => self.exchange_doubles(),
+            Op::CMP => self.compare(),
+            Op::ADD => self.add(),
+            Op::SUB => self.subtract(),
+            Op::MPY => self.multiply(),
+            Op::DIV => self.divide(),
+            Op::NEG => self.negate(),
+            Op::TEST => self.test(),
+            Op::STBX => self.take_x_below(),
+            Op::DTST => self.test_double(),
+            Op::BTST => self.test_byte(),
+            Op::XCH => self.exchange(),
+            Op::INCA => self.increase(),
+            Op::DECA => self.decrease(),
+            Op::XAX => self.exchange_x(),
+            Op::ADAX => self.add_to_x(),
+            Op::ADXA => self.add_x(),
+            Op::DEL => self.take(1),
+            Op::ZROB => self.set_below(0),
+            Op::LDXB => self.set_below(self.regs.x),
+            Op::STAX => self.take_x(),
+            Op::LDXA => self.push(self.regs.x),
+            Op::DUP => self.copy(),
+            Op::DDUP => self.copy_double(),
+            Op::CAB => self.rotate(),
+            Op::LCMP => self.compare_logically(),
+            Op::LADD => self.add_logically(),
+            Op::LSUB => self.subtract_logically(),
+            Op::LMPY => self.multiply_logically(),
+            Op::LDIV => self.divide_double(),
+            Op::NOT => self.invert(),
+            Op::OR => self.bits_of_either(),
+            Op::XOR => self.bits_of_one(),
+            Op::AND => self.bits_of_both(),
+            Op::INCB => self.increase_below(),
+            Op::DECB => self.decrease_below(),
+            Op::XBX => self.exchange_x_below(),
+            _ => Err(Trap::Illegal),
         }
-    }
-
-    /// Pushes a word.
-    pub(crate) fn push(&mut self, w: u16) -> Result<(), Trap>
-        ensures { Does (pushing w self.old) self.old result self.new }
-    {
-        let _limit = self.stack_limit;
-        if self.stack.len() < self.stack_limit as usize {
-            self.stack.push(w).unwrap();
-            Ok(())
-        } else {
-            Err(Trap::StackOverflow)
-        }
-    }
-
-    /// Deletes `n` words.
-    pub(crate) fn delete(&mut self, n: usize)
-        ensures { self.new ≡ without n self.old }
-    {
-        self.stack.truncate(self.stack.len().saturating_sub(n));
-    }
-
-    /// Puts an integer result in place of two words.
-    #[tactic(auto, unfolding(crate::specs::StackRows::settled))]
-    fn settle(&mut self, r: Arith) -> Result<(), Trap>
-        requires { 2 ≤ length self.old.stack }
-        ensures { Does (settled 2 r self.old) self.old result self.new }
-    {
-        if r.overflow {
-            return Err(Trap::IntegerOverflow);
-        }
-        self.stack.truncate(self.stack.len() - 2);
-        self.stack.push(r.value).unwrap();
-        self.regs.overflow = false;
-        self.regs.carry = r.carry;
-        self.regs.code = r.code;
-        Ok(())
-    }
-
-    /// ADD.
-    #[tactic(auto, unfolding(crate::specs::StackRows::binary))]
-    pub(crate) fn add(&mut self) -> Result<(), Trap>
-        ensures { Does (binary added self.old) self.old result self.new }
-    {
-        self.need(2)?;
-        self.settle(hp_word::add(self.word(1), self.word(0)))
-    }
-
-    /// SUB.
-    #[tactic(auto, unfolding(crate::specs::StackRows::binary))]
-    pub(crate) fn subtract(&mut self) -> Result<(), Trap>
-        ensures { Does (binary subtracted self.old) self.old result self.new }
-    {
-        self.need(2)?;
-        self.settle(hp_word::sub(self.word(1), self.word(0)))
     }
 }
