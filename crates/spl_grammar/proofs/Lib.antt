@@ -22,6 +22,12 @@ pub mod CompleteStatements
 pub mod SoundStatementParts
 pub mod SoundStatements
 pub mod StatementLaws
+pub mod MovedParts
+pub mod MovedStatements
+pub mod CompletedParts
+pub mod CompletedStatements
+pub mod CompletedExpressions
+pub mod CompletedLaws
 pub mod KnownParts
 pub mod LocalDeclarations
 pub mod KnownUnits

@@ -1,5 +1,5 @@
 -- What is claimed of the readers' answers.
-use Rattle.std.specs.Prelude.{ℕ, ◌<◌, ◌≤◌, true, false, List, ◌∷◌, length, None}
+use Rattle.std.specs.Prelude.{ℕ, ◌≡◌, ◌<◌, ◌≤◌, ◌++◌, true, false, List, ◌∷◌, length, None}
 use Rattle.spl_tree.specs.Symbols.{Lexeme}
 use Rattle.spl_tree.specs.Operators.{Form}
 use Rattle.spl_tree.specs.Expressions as g
@@ -38,3 +38,10 @@ pub record SpelledCondition (e : tree.Tree) (ts rest : List Lexeme) : Type 0 whe
   pub operators : ℕ
   pub form : Form
   pub spelled : g.Level true None 10 operators form e ts rest
+
+-- The tokens before the second list begin a part: with those of the tail behind them one is whole, whatever follows.
+pub record Completes (P : List Lexeme → List Lexeme → Type 0) (ts mid : List Lexeme) : Type 0 where
+  pub front : List Lexeme
+  pub tail : List Lexeme
+  pub before : ts ≡ front ++ mid
+  pub whole : (more : List Lexeme) → P (front ++ (tail ++ more)) more

@@ -9,7 +9,7 @@ use Rattle.spl_tree.specs.Trees as tree
 use Rattle.spl_grammar.specs.Readers.{Got, Bad}
 use Rattle.spl_grammar.specs.ReadExpressions.{expression, condition}
 use Rattle.spl_grammar.specs.Following.{Follow}
-use Rattle.spl_grammar.specs.Answers.{DeepBefore, Agrees, Explains, Spelled, SpelledCondition}
+use Rattle.spl_grammar.specs.Answers.{DeepBefore, Agrees, Explains, Spelled, SpelledCondition, Completes}
 
 -- What is spelled as an expression, with a token behind it that can't go on with it, is read, unless it is too deep
 -- before its
@@ -62,3 +62,14 @@ abbrev pub ConditionsAreUnique : Type 0
 ConditionsAreUnique = (n m : ℕ) (x y : Form) (e d : tree.Tree) (ts rest more : List Lexeme)
     → g.Level true None 10 n x e ts rest → Follow true 10 rest
     → g.Level true None 10 m y d ts more → Follow true 10 more → (e ≡ d) × (rest ≡ more)
+
+-- Behind the tokens of each chain an expression can be completed.
+abbrev pub ExpressionPrefixesAreCompleted : Type 0
+ExpressionPrefixesAreCompleted = (q : op.Part) (d n j k : ℕ) (ts mid : List Lexeme)
+    → op.Opens (op.level false None 10) d n ts q j k mid
+    → Completes (λ us rest. (e : tree.Tree) × Spelled e us rest) ts mid
+
+abbrev pub ConditionPrefixesAreCompleted : Type 0
+ConditionPrefixesAreCompleted = (q : op.Part) (d n j k : ℕ) (ts mid : List Lexeme)
+    → op.Opens (op.level true None 10) d n ts q j k mid
+    → Completes (λ us rest. (e : tree.Tree) × SpelledCondition e us rest) ts mid

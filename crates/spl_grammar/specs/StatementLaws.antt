@@ -2,13 +2,13 @@
 use Rattle.std.specs.Prelude.{ℕ, ◌≡◌, ◌+◌, ◌⊎◌, List, ◌∷◌, length}
 use Rattle.spl_tree.specs.Symbols.{Lexeme}
 use Rattle.spl_tree.specs.Parts as part
-use Rattle.spl_tree.specs.OpenExpressions.{limit}
+use Rattle.spl_tree.specs.OpenExpressions.{Part, Opens, limit}
 use Rattle.spl_tree.specs.StatementTrees as stat
 use Rattle.spl_tree.specs.Statements as st
 use Rattle.spl_grammar.specs.Readers.{Got, Bad}
 use Rattle.spl_grammar.specs.ReadStatements.{statement}
 use Rattle.spl_grammar.specs.Following.{After}
-use Rattle.spl_grammar.specs.Answers.{DeepBefore, Agrees, Explains}
+use Rattle.spl_grammar.specs.Answers.{DeepBefore, Agrees, Explains, Completes}
 
 -- What is spelled as a statement, with a token behind it that ends it, is read, unless it is too deep before its end.
 abbrev pub StatementsAreRead : Type 0
@@ -36,3 +36,8 @@ abbrev pub StatementsAreUnique : Type 0
 StatementsAreUnique = (x y : stat.Statement) (ts rest more : List Lexeme) → st.Statement x ts rest → After x rest
     → st.Statement y ts more → After y more
     → (x ≡ y) × (rest ≡ more)
+
+-- Behind the tokens of each chain a statement can be completed.
+abbrev pub StatementPrefixesAreCompleted : Type 0
+StatementPrefixesAreCompleted = (q : Part) (d n j k : ℕ) (ts mid : List Lexeme)
+    → Opens part.statement d n ts q j k mid → Completes (λ us rest. (x : stat.Statement) × st.Statement x us rest) ts mid

@@ -1,5 +1,5 @@
 //! Laws of expressions and conditions, each as the contract of a function that does nothing.
-ghost use Rattle.spl_grammar.specs.ExpressionLaws.{ExpressionsAreRead, ConditionsAreRead, ExpressionsAreExplained, ConditionsAreExplained, ExpressionFaultsStand, ConditionFaultsStand, ExpressionsAreUnique, ConditionsAreUnique};
+ghost use Rattle.spl_grammar.specs.ExpressionLaws.{ExpressionsAreRead, ConditionsAreRead, ExpressionsAreExplained, ConditionsAreExplained, ExpressionFaultsStand, ConditionFaultsStand, ExpressionsAreUnique, ConditionsAreUnique, ExpressionPrefixesAreCompleted, ConditionPrefixesAreCompleted};
 
 /// What is spelled as an expression is read, unless it is too deep before its end.
 pub fn expressions_are_read()
@@ -39,4 +39,14 @@ pub fn expressions_are_unique()
 /// A list begins with at most one condition.
 pub fn conditions_are_unique()
     ensures { ConditionsAreUnique }
+{}
+
+/// Whatever opens an expression can be completed to one.
+pub fn expression_prefixes_are_completed()
+    ensures { ExpressionPrefixesAreCompleted }
+{}
+
+/// Whatever opens a condition can be completed to one.
+pub fn condition_prefixes_are_completed()
+    ensures { ConditionPrefixesAreCompleted }
 {}

@@ -6,11 +6,13 @@ mod statement_laws;
 mod unit_laws;
 
 pub use expression_laws::{
-    condition_faults_stand, conditions_are_explained, conditions_are_read, conditions_are_unique,
-    expression_faults_stand, expressions_are_explained, expressions_are_read,
+    condition_faults_stand, condition_prefixes_are_completed, conditions_are_explained,
+    conditions_are_read, conditions_are_unique, expression_faults_stand,
+    expression_prefixes_are_completed, expressions_are_explained, expressions_are_read,
     expressions_are_unique,
 };
 pub use statement_laws::{
-    statement_faults_stand, statements_are_explained, statements_are_read, statements_are_unique,
+    statement_faults_stand, statement_prefixes_are_completed, statements_are_explained,
+    statements_are_read, statements_are_unique,
 };
 pub use unit_laws::{texts_spell_one_unit, unit_faults_stand, units_are_read, units_are_unique};

@@ -1,5 +1,5 @@
 //! Laws of statements, each as the contract of a function that does nothing.
-ghost use Rattle.spl_grammar.specs.StatementLaws.{StatementsAreRead, StatementsAreExplained, StatementFaultsStand, StatementsAreUnique};
+ghost use Rattle.spl_grammar.specs.StatementLaws.{StatementsAreRead, StatementsAreExplained, StatementFaultsStand, StatementsAreUnique, StatementPrefixesAreCompleted};
 
 /// What is spelled as a statement is read, unless it is too deep before its end.
 pub fn statements_are_read()
@@ -19,4 +19,9 @@ pub fn statement_faults_stand()
 /// A list begins with at most one statement.
 pub fn statements_are_unique()
     ensures { StatementsAreUnique }
+{}
+
+/// Whatever opens a statement can be completed to one.
+pub fn statement_prefixes_are_completed()
+    ensures { StatementPrefixesAreCompleted }
 {}
