@@ -25,15 +25,15 @@ use Rattle.spl_grammar.proofs.CompleteExpressions.{complete_arguments}
 pub use Rattle.spl_grammar.proofs.StatementFronts.{Stopper, stopper_stops, follow_stopper, follow_after, expr_read, cond_read, boxed_of, boxed_read, reference_read, no_open, first_else, first_then, name_first, comma_open, word_open, assign_open, dot_open, name_text, word_comma, while_until, move_scan, source_read, effect_read, condition_no_relation, relation_is, code_is, test_read, not_word, expression_no_effect, effect_first, value_read, value_effect_read, after_else, not_colon, not_open, not_dot, not_assign, at_head, assign_no, open_colon, assign_colon, assign_dot, dot_colon, name_read, reference_front, assigned_read, target_read, call_read, semicolon, word}
 
 -- what is read inside a statement, where so many constructs may be opened
-pub inside : ℕ → Parser stat.Statement
+unfoldable pub inside : ℕ → Parser stat.Statement
 inside zero = refuse
 inside (suc room) = statement room
 
-pub down : ℕ → ℕ
+unfoldable pub down : ℕ → ℕ
 down zero = zero
 down (suc room) = room
 
-statement_is : (room : ℕ) → statement room ≡ statement_step room (down room) (inside room)
+pub statement_is : (room : ℕ) → statement room ≡ statement_step room (down room) (inside room)
 unfolding statement inside down
 statement_is zero = refl
 statement_is (suc room) = refl
@@ -54,7 +54,7 @@ by_step : {x : stat.Statement} {ts rest : List Lexeme}
 by_step {ts = ts} n = record { reads = λ room. near_from (ap (λ p. p ts) (statement_is room)) (n room) }
 
 -- inside a construct that is open
-inside_read : {x : stat.Statement} {ts rest : List Lexeme} → StatementRead x ts rest → (room : ℕ)
+pub inside_read : {x : stat.Statement} {ts rest : List Lexeme} → StatementRead x ts rest → (room : ℕ)
     → nat_lt 0 room ≡ true → Near (inside room) ts rest (Got x rest)
 unfolding inside
 inside_read n zero e = absurd (grind (arith, nat_tests, e))
@@ -152,7 +152,7 @@ until_step : is (s.Word w.Step) (s.Word w.Until) ≡ false
 unfolding same_symbol symbol_number reserved_number
 until_step = refl
 
-stepped_read : {es : List Tree} {u : Lexeme} {ts rest : List Lexeme} → st.Stepped es ts (u ∷ rest)
+pub stepped_read : {es : List Tree} {u : Lexeme} {ts rest : List Lexeme} → st.Stepped es ts (u ∷ rest)
     → Is (s.Word w.Until) u → (room : ℕ) → Near (stepped room) ts (u ∷ rest) (Got es (u ∷ rest))
 unfolding stepped
 stepped_read st.Stepped.absent u room = near_symbol _ u (near_else _ until_step (near_pure _ _))
@@ -161,7 +161,7 @@ stepped_read (st.Stepped.step i e) u room = near_symbol _ i
     (near_then _ near_take (near_then _ (expr_read e (follow_stopper u word) room) (near_pure _ _))))
 
 -- what follows the first value of a FOR
-follow_step : {es : List Tree} {u : Lexeme} {ts rest : List Lexeme} → st.Stepped es ts (u ∷ rest)
+pub follow_step : {es : List Tree} {u : Lexeme} {ts rest : List Lexeme} → st.Stepped es ts (u ∷ rest)
     → Is (s.Word w.Until) u → Follow false 10 ts
 follow_step st.Stepped.absent u = follow_stopper u word
 follow_step (st.Stepped.step i e) u = follow_stopper i word

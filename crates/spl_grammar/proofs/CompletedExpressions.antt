@@ -35,7 +35,7 @@ unfolding shift_of
 a_shift_is = refl
 
 -- a part of an expression or a statement is none of a declaration
-not_declared : {A : Type 0} {p q : Part} {ts mid : List Lexeme} → Inside p → DeclarationStep p ts q mid → A
+pub not_declared : {A : Type 0} {p q : Part} {ts mid : List Lexeme} → Inside p → DeclarationStep p ts q mid → A
 not_declared free e = elim e [ ]
 not_declared (minus l) e = elim e [ ]
 not_declared a_constant e = elim e [ ]

@@ -28,6 +28,12 @@ pub mod CompletedParts
 pub mod CompletedStatements
 pub mod CompletedExpressions
 pub mod CompletedLaws
+pub mod DeepReaders
+pub mod DeepExpressions
+pub mod DeepStatements
+pub mod DeepSteps
+pub mod ChainLengths
+pub mod ReachLaws
 pub mod KnownParts
 pub mod LocalDeclarations
 pub mod KnownUnits

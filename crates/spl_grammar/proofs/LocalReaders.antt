@@ -5,13 +5,7 @@ use Rattle.spl_tree.specs.declared.symbols.Symbol.{Symbol}
 use Rattle.spl_tree.specs.declared.symbols.Symbol.TheVariants as s
 use Rattle.spl_tree.specs.Symbols.{Lexeme}
 use Rattle.spl_grammar.specs.Readers.{Outcome, Got, Bad, Deep, Parser, and_then, followed, pure, refuse, by_symbol, take, at_place, allowed, same_symbol, expect, numbered, named_number, turns, repeat}
-pub use Rattle.spl_grammar.specs.Answers.{Agrees, here, there}
-
--- the list at which a reader stops
-abbrev pub end_of : {A : Type 0} → Outcome A → List Lexeme
-end_of (Got a rest) = rest
-end_of (Bad rest) = rest
-end_of (Deep rest) = rest
+pub use Rattle.spl_grammar.specs.Answers.{Agrees, here, there, end_of}
 
 -- the two outcomes are alike, unless the first is past the tokens that agree
 pub data Like {A : Type 0} (us vs : List Lexeme) : Outcome A → Outcome A → Type 0 where

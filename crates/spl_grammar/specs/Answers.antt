@@ -1,15 +1,21 @@
 -- What is claimed of the readers' answers.
-use Rattle.std.specs.Prelude.{ℕ, ◌≡◌, ◌<◌, ◌≤◌, ◌++◌, true, false, List, ◌∷◌, length, None}
+use Rattle.std.specs.Prelude.{ℕ, ◌≡◌, ◌+◌, ◌<◌, ◌≤◌, ◌++◌, true, false, List, ◌∷◌, length, None}
 use Rattle.spl_tree.specs.Symbols.{Lexeme}
 use Rattle.spl_tree.specs.Operators.{Form}
 use Rattle.spl_tree.specs.Expressions as g
-use Rattle.spl_tree.specs.OpenExpressions.{Part, OpensAt, nesting}
+use Rattle.spl_tree.specs.OpenExpressions.{Part, Opens, OpensAt, limit, nesting}
 use Rattle.spl_tree.specs.Trees as tree
-use Rattle.spl_grammar.specs.Readers.{Outcome, Got, Bad, Deep}
+use Rattle.spl_grammar.specs.Readers.{Outcome, Got, Bad, Deep, Parser}
 
 -- too deep where more tokens than these are left
 pub data DeepBefore {A : Type 0} (n : ℕ) : Outcome A → Type 0 where
   deep : {rest : List Lexeme} → n < length rest → DeepBefore n (Deep rest)
+
+-- the list at which a reader stops
+abbrev pub end_of : {A : Type 0} → Outcome A → List Lexeme
+end_of (Got a rest) = rest
+end_of (Bad rest) = rest
+end_of (Deep rest) = rest
 
 -- us and vs stand behind the last token up to which the two lists agree
 pub data Agrees (us vs : List Lexeme) : List Lexeme → List Lexeme → Type 0 where
@@ -45,3 +51,29 @@ pub record Completes (P : List Lexeme → List Lexeme → Type 0) (ts mid : List
   pub tail : List Lexeme
   pub before : ts ≡ front ++ mid
   pub whole : (more : List Lexeme) → P (front ++ (tail ++ more)) more
+
+-- A chain up to mid goes no further than what was read, where d constructs are open around its last part and n operators stand
+-- before it: reading is too deep before mid, or it ends there or behind, and no more is open than may be.
+pub data Reaches {A : Type 0} (d n : ℕ) (mid : List Lexeme) : Outcome A → Type 0 where
+  sinks : {o : Outcome A} → DeepBefore (length mid) o → Reaches d n mid o
+  goes_on : {o : Outcome A} → length (end_of o) ≤ length mid → nesting d n ≤ limit → Reaches d n mid o
+
+-- Each chain of a part goes no further than what its reader answers where so many constructs may be opened.
+abbrev pub ChainsReach : {A : Type 0} → Part → (ℕ → Parser A) → Type 0
+ChainsReach p read = (room d : ℕ) (q : Part) (j k : ℕ) (ts mid : List Lexeme) → d + room ≡ limit
+    → Opens p d 0 ts q j k mid → Reaches j k mid (read room ts)
+
+-- Where it is too deep at a token, it is at none before: no chain over the tokens before it has more open than may be.
+abbrev pub DeepFirst : {A : Type 0} → Part → (ℕ → Parser A) → Type 0
+DeepFirst p read = (room d : ℕ) (q : Part) (j k : ℕ) (ts mid us : List Lexeme) → d + room ≡ limit
+    → Opens p d 0 ts q j k mid → read room ts ≡ Deep us → length us ≤ length mid → nesting j k ≤ limit
+
+-- A part that is read is the longest: no chain goes over the token behind it.
+abbrev pub Longest : {A : Type 0} → Part → (ℕ → Parser A) → Type 0
+Longest {A} p read = (room d : ℕ) (q : Part) (j k : ℕ) (ts mid us : List Lexeme) (a : A) → d + room ≡ limit
+    → Opens p d 0 ts q j k mid → read room ts ≡ Got a us → length us ≤ length mid
+
+-- A fault stands at the first token that can't: no chain goes over it.
+abbrev pub FaultFirst : {A : Type 0} → Part → (ℕ → Parser A) → Type 0
+FaultFirst p read = (room d : ℕ) (q : Part) (j k : ℕ) (ts mid us : List Lexeme) → d + room ≡ limit
+    → Opens p d 0 ts q j k mid → read room ts ≡ Bad us → length us ≤ length mid

@@ -9,7 +9,7 @@ use Rattle.spl_tree.specs.Trees as tree
 use Rattle.spl_grammar.specs.Readers.{Got, Bad}
 use Rattle.spl_grammar.specs.ReadExpressions.{expression, condition}
 use Rattle.spl_grammar.specs.Following.{Follow}
-use Rattle.spl_grammar.specs.Answers.{DeepBefore, Agrees, Explains, Spelled, SpelledCondition, Completes}
+use Rattle.spl_grammar.specs.Answers.{DeepBefore, Agrees, Explains, Spelled, SpelledCondition, Completes, ChainsReach, DeepFirst, Longest, FaultFirst}
 
 -- What is spelled as an expression, with a token behind it that can't go on with it, is read, unless it is too deep
 -- before its
@@ -73,3 +73,29 @@ abbrev pub ConditionPrefixesAreCompleted : Type 0
 ConditionPrefixesAreCompleted = (q : op.Part) (d n j k : ℕ) (ts mid : List Lexeme)
     → op.Opens (op.level true None 10) d n ts q j k mid
     → Completes (λ us rest. (e : tree.Tree) × SpelledCondition e us rest) ts mid
+
+-- Each chain of an expression goes no further than what is read.
+abbrev pub ExpressionsReach : Type 0
+ExpressionsReach = ChainsReach (op.level false None 10) (λ room. expression room 0)
+
+abbrev pub ExpressionsSinkFirst : Type 0
+ExpressionsSinkFirst = DeepFirst (op.level false None 10) (λ room. expression room 0)
+
+abbrev pub ExpressionsAreLongest : Type 0
+ExpressionsAreLongest = Longest (op.level false None 10) (λ room. expression room 0)
+
+abbrev pub ExpressionsFailFirst : Type 0
+ExpressionsFailFirst = FaultFirst (op.level false None 10) (λ room. expression room 0)
+
+-- Each chain of a condition goes no further than what is read.
+abbrev pub ConditionsReach : Type 0
+ConditionsReach = ChainsReach (op.level true None 10) (λ room. condition room 0)
+
+abbrev pub ConditionsSinkFirst : Type 0
+ConditionsSinkFirst = DeepFirst (op.level true None 10) (λ room. condition room 0)
+
+abbrev pub ConditionsAreLongest : Type 0
+ConditionsAreLongest = Longest (op.level true None 10) (λ room. condition room 0)
+
+abbrev pub ConditionsFailFirst : Type 0
+ConditionsFailFirst = FaultFirst (op.level true None 10) (λ room. condition room 0)

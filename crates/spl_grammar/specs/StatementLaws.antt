@@ -8,7 +8,7 @@ use Rattle.spl_tree.specs.Statements as st
 use Rattle.spl_grammar.specs.Readers.{Got, Bad}
 use Rattle.spl_grammar.specs.ReadStatements.{statement}
 use Rattle.spl_grammar.specs.Following.{After}
-use Rattle.spl_grammar.specs.Answers.{DeepBefore, Agrees, Explains, Completes}
+use Rattle.spl_grammar.specs.Answers.{DeepBefore, Agrees, Explains, Completes, ChainsReach, DeepFirst, Longest, FaultFirst}
 
 -- What is spelled as a statement, with a token behind it that ends it, is read, unless it is too deep before its end.
 abbrev pub StatementsAreRead : Type 0
@@ -41,3 +41,16 @@ StatementsAreUnique = (x y : stat.Statement) (ts rest more : List Lexeme) → st
 abbrev pub StatementPrefixesAreCompleted : Type 0
 StatementPrefixesAreCompleted = (q : Part) (d n j k : ℕ) (ts mid : List Lexeme)
     → Opens part.statement d n ts q j k mid → Completes (λ us rest. (x : stat.Statement) × st.Statement x us rest) ts mid
+
+-- Each chain of a statement goes no further than what is read.
+abbrev pub StatementsReach : Type 0
+StatementsReach = ChainsReach part.statement statement
+
+abbrev pub StatementsSinkFirst : Type 0
+StatementsSinkFirst = DeepFirst part.statement statement
+
+abbrev pub StatementsAreLongest : Type 0
+StatementsAreLongest = Longest part.statement statement
+
+abbrev pub StatementsFailFirst : Type 0
+StatementsFailFirst = FaultFirst part.statement statement

@@ -7,12 +7,15 @@ mod unit_laws;
 
 pub use expression_laws::{
     condition_faults_stand, condition_prefixes_are_completed, conditions_are_explained,
-    conditions_are_read, conditions_are_unique, expression_faults_stand,
-    expression_prefixes_are_completed, expressions_are_explained, expressions_are_read,
-    expressions_are_unique,
+    conditions_are_longest, conditions_are_read, conditions_are_unique, conditions_fail_first,
+    conditions_reach, conditions_sink_first, expression_faults_stand,
+    expression_prefixes_are_completed, expressions_are_explained, expressions_are_longest,
+    expressions_are_read, expressions_are_unique, expressions_fail_first, expressions_reach,
+    expressions_sink_first,
 };
 pub use statement_laws::{
     statement_faults_stand, statement_prefixes_are_completed, statements_are_explained,
-    statements_are_read, statements_are_unique,
+    statements_are_longest, statements_are_read, statements_are_unique, statements_fail_first,
+    statements_reach, statements_sink_first,
 };
 pub use unit_laws::{texts_spell_one_unit, unit_faults_stand, units_are_read, units_are_unique};
