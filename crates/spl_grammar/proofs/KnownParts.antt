@@ -152,3 +152,10 @@ refuses_two_indices : statement 64
     (mark s.Assign 7 ∷ mark (s.Number 3) 8 ∷ stop 9)
 unfolding readers
 refuses_two_indices = refl
+
+-- behind A=B a comma begins a count of bytes: no condition is read there, though A=B is one
+comma_goes_on : condition 64 0
+    (name 65 1 ∷ mark (s.Operator 5) 2 ∷ name 66 3 ∷ mark s.Comma 4 ∷ mark s.Semicolon 5 ∷ [])
+    ≡ Bad (mark s.Semicolon 5 ∷ [])
+unfolding readers
+comma_goes_on = refl

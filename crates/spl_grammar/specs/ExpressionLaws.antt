@@ -12,13 +12,14 @@ use Rattle.spl_grammar.specs.Following.{Follow}
 use Rattle.spl_grammar.specs.Answers.{DeepBefore, Agrees, Explains, Spelled, SpelledCondition, Completes, ChainsReach, DeepFirst, Longest, FaultFirst}
 
 -- What is spelled as an expression, with a token behind it that can't go on with it, is read, unless it is too deep
--- before its
--- end; and so are conditions.
+-- before its end.
 abbrev pub ExpressionsAreRead : Type 0
 ExpressionsAreRead = (n : ℕ) (x : Form) (e : tree.Tree) (ts rest : List Lexeme) (room taken : ℕ)
     → g.Level false None 10 n x e ts rest → Follow false 10 rest
     → (expression room taken ts ≡ Got e rest) ⊎ DeepBefore (length rest) (expression room taken ts)
 
+-- And so are conditions. No comma may stand behind one: where the condition ends in two references and a relation, as A=B, a
+-- comma goes on with the count of a comparison of bytes, so A=B is not read before one. No production has a comma there.
 abbrev pub ConditionsAreRead : Type 0
 ConditionsAreRead = (n : ℕ) (x : Form) (e : tree.Tree) (ts rest : List Lexeme) (room taken : ℕ)
     → g.Level true None 10 n x e ts rest → Follow true 10 rest
