@@ -20,6 +20,8 @@ mod stack_rows;
 mod stack_words;
 mod step;
 mod terminal;
+#[cfg(test)]
+mod tests;
 mod valid;
 mod word_rows;
 
