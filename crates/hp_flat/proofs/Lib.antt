@@ -3,3 +3,4 @@ pub mod ValidLaws
 pub mod LineLemmas
 pub mod ByteLemmas
 pub mod GateLemmas
+pub mod SegmentLemmas

@@ -26,6 +26,6 @@ mod valid;
 mod word_rows;
 
 pub use flat::{Flat, OpenFlat};
-pub use program::{Defect, Program};
+pub use program::{Defect, NoMemory, Program};
 pub use registers::Regs;
 pub use terminal::Line;

@@ -19,8 +19,8 @@ impl Flat {
         ensures { Does (loaded mode i x self.old) self.old result self.new }
     {
         let place = self.operand(1, mode, i, x)?;
-        let word = self.read_at(place)?;
-        self.push(word)
+        let operand = self.read_at(place)?;
+        self.push(operand)
     }
 
     /// STOR.

@@ -1,8 +1,9 @@
 //! Programs: segments of code words, and what is wrong with one.
-ghost use Rattle.std.specs.Prelude.{◌≡◌, ℕ, List, map, Option, None};
+ghost use Rattle.std.specs.Prelude.{◌≡◌, ℕ, List, map, Option, None, IfOk, ⊤};
 ghost use Rattle.hp_flat.specs.Valid.{first_defect};
 
 use crate::valid::find_defect;
+use std::alloc::{AllocError, Global};
 
 /// A program, valid by its type.
 #[derive(Debug, Drop)]
@@ -31,8 +32,32 @@ pub enum Defect {
     Main,
 }
 
+/// Memory is wanting.
+#[derive(Clone, Copy, Debug, PartialEq, Eq)]
+pub struct NoMemory;
+
+impl From<AllocError> for NoMemory {
+    ghost from_gives = { λ _ e. ⊤ };
+
+    fn from(_e: AllocError) -> NoMemory {
+        NoMemory
+    }
+}
+
+/// Equal segments.
+#[tactic(auto, using(crate::proofs::SegmentLemmas::segment_steps))]
+fn copy_segments(alloc: Global, segments: &[Vec<u16>]) -> Result<Vec<Vec<u16>>, AllocError>
+    ensures { IfOk result (λ copies. map (λ s. s.items) copies.items ≡ map (λ s. s.items) segments.now) }
+{
+    let mut copies = Vec::with_capacity(alloc, segments.len())?;
+    for words in segments {
+        copies.push(Vec::from_slice(alloc, words)?)?;
+    }
+    Ok(copies)
+}
+
 impl Program {
-    ghost use Rattle.std.specs.Prelude.{length, IfOk, IfErr, IsErr, ◌↔◌, ◌≢◌, Some};
+    ghost use Rattle.std.specs.Prelude.{length, IfErr, IsErr, ◌↔◌, ◌≢◌, Some};
     ghost use Rattle.hp_flat.specs.Views.{segments_of};
 
     /// The program of these parts, its segments with their tables, or what is wrong with them first. Takes no memory.
@@ -54,5 +79,19 @@ impl Program {
                 globals,
             }),
         }
+    }
+
+    /// An equal program.
+    pub fn copy(&self, alloc: Global) -> Result<Program, NoMemory>
+        ensures { IfOk result (λ p. (segments_of p ≡ segments_of self.now) × (p.main ≡ self.now.main) × (p.entry ≡ self.now.entry) × (p.globals.items ≡ self.now.globals.items)) }
+    {
+        let segments = copy_segments(alloc, &self.segments)?;
+        let globals = Vec::from_slice(alloc, &self.globals)?;
+        Ok(Program {
+            segments,
+            main: self.main,
+            entry: self.entry,
+            globals,
+        })
     }
 }

@@ -103,7 +103,7 @@ fn runs_and_what_they_leave(rt: HostRuntime) -> Result<(), Fail> {
 #[test]
 fn openings(rt: HostRuntime) -> Result<(), Fail> {
     let alloc = rt.alloc();
-    let program = program(alloc, &[0, 0, 1], 1, &[7, 8])??;
+    let program = program(alloc, &[0, 0, 1], 1, &[7, 8])??.copy(alloc)?;
     let lines = vec![in alloc;
         Line {
             bytes: Vec::from_slice(alloc, b"A LINE")?
