@@ -25,7 +25,7 @@ sign_kept op same l e = absurd (omega arith)
 sign_kept op (behind a) l e = e
 
 -- a part of which nothing stands there, or some token
-nothing_or : {ts rest next us : List Lexeme} → Swap rest next ts us → (ts ≡ rest) ⊎ (length rest < length ts)
+pub nothing_or : {ts rest next us : List Lexeme} → Swap rest next ts us → (ts ≡ rest) ⊎ (length rest < length ts)
 nothing_or same = inl refl
 nothing_or (behind a) = inr (let l = swap_longer a in omega arith)
 

@@ -1,20 +1,27 @@
 -- Each open prefix of a part can be completed: the words for it, and the tokens with which a part that has not begun is whole.
-use Rattle.std.proofs.Common.{ℕ, zero, suc, ◌≡◌, ◌==◌, ◌<◌, ◌≤◌, ◌+◌, Bool, true, false, List, [], ◌∷◌, ◌++◌, length, codes, Option, Some, None, refl, arith, ap, sym, ◌∙◌, append_assoc}
+use Rattle.std.proofs.Common.{ℕ, zero, suc, ◌≡◌, ◌==◌, ◌<◌, ◌≤◌, ◌+◌, ◌||◌, not, Bool, true, false, List, [], ◌∷◌, ◌++◌, length, codes, Option, Some, None, refl, arith, ap, sym, ◌∙◌, append_assoc}
 use Rattle.std.proofs.lemmas.Bool.Decides.{nat_tests}
 use Rattle.spl_tree.specs.declared.names_and_places.At.{At}
 use Rattle.spl_tree.specs.declared.symbols.Symbol.{Symbol}
 use Rattle.spl_tree.specs.declared.symbols.Symbol.TheVariants as s
 use Rattle.spl_tree.specs.declared.symbols.Reserved.{Reserved}
 use Rattle.spl_tree.specs.declared.symbols.Reserved.TheVariants as w
-use Rattle.spl_tree.specs.Symbols.{Lexeme}
+use Rattle.spl_tree.specs.Symbols.{Lexeme, Is}
 use Rattle.spl_tree.specs.Operators.{Form, reference}
 use Rattle.spl_tree.specs.Expressions as g
 use Rattle.spl_tree.specs.Trees as tree
 use Rattle.spl_tree.specs.StatementTrees as stat
 use Rattle.spl_tree.specs.Statements as st
+use Rattle.spl_tree.specs.declared.expressions.Kind.{Kind}
+use Rattle.spl_tree.specs.DeclarationTrees as decl
+use Rattle.spl_tree.specs.DeclarationTrees.{Placed, UnitTree}
+use Rattle.spl_tree.specs.Declarations as dl
+use Rattle.spl_tree.specs.Declarations.{Options, is_subroutine}
+use Rattle.spl_tree.specs.Units.{Unit_of}
 use Rattle.spl_tree.specs.Parts as part
 use Rattle.spl_tree.specs.Parts.{Part}
 use Rattle.spl_grammar.proofs.MovedParts.{Swap, same, behind, along, swap_length, swap_longer, Moved, SomeConstant}
+use Rattle.spl_grammar.proofs.MovedDeclarations.{Some_of, SomeDeclarations, SomeBody}
 use Rattle.spl_grammar.proofs.MovedStatements.{SomeReference, SomeSource, SomeEffect, SomeTest, SomeStatements}
 
 -- some part of each kind that is spelled
@@ -42,6 +49,29 @@ pub record AnyStatement (ts rest : List Lexeme) : Type 0 where
   pub tree : stat.Statement
   pub spelled : st.Statement tree ts rest
 
+-- options that end in FORWARD or EXTERNAL
+pub record EndedOptions (a : Options) (ts rest : List Lexeme) : Type 0 where
+  pub last : Options
+  pub ends : (last.forward || last.external) ≡ true
+  pub spelled : dl.OptionList a last ts rest
+
+-- a heading of either word, without its options and its segment
+pub data RawHeading (k : Reserved) : List Lexeme → List Lexeme → Type 0 where
+  raw : {r : Option Kind} {ns vs : List Placed} {ss : List decl.Spec} {p t z : Lexeme}
+      {ts after_type after_names after_values rest : List Lexeme}
+      → dl.Result r ts (p ∷ t ∷ after_type) → Is (s.Word k) p → Is s.Name t
+      → dl.Parameters ns after_type after_names → dl.Values vs after_names after_values
+      → dl.Specs ss after_values (z ∷ rest) → Is s.Semicolon z → RawHeading k ts rest
+
+pub record AnyDeclaration (u after : Bool) (segment : ℕ) (ts rest : List Lexeme) : Type 0 where
+  pub tree : decl.Declaration
+  pub fits : (is_subroutine tree || not after) ≡ true
+  pub spelled : dl.Declaration u segment tree ts rest
+
+pub record AnyUnit (ts : List Lexeme) : Type 0 where
+  pub tree : UnitTree
+  pub spelled : Unit_of tree ts
+
 -- the part stands at the first list, whole; behind a mark nothing does
 abbrev pub Whole : Part → List Lexeme → List Lexeme → Type 0
 Whole part.constant ts rest = SomeConstant ts rest
@@ -55,7 +85,21 @@ Whole part.effect ts rest = SomeEffect ts rest
 Whole part.test ts rest = SomeTest ts rest
 Whole part.statement ts rest = AnyStatement ts rest
 Whole part.statements ts rest = SomeStatements ts rest
-Whole _ ts rest = ts ≡ rest
+Whole part.names ts rest = Some_of dl.Names ts rest
+Whole part.constants ts rest = Some_of dl.Constants ts rest
+Whole part.item ts rest = Some_of dl.Item ts rest
+Whole part.items ts rest = Some_of dl.Items ts rest
+Whole part.equal ts rest = Some_of dl.Equal ts rest
+Whole part.equals ts rest = Some_of dl.Equals ts rest
+Whole part.array ts rest = Some_of (dl.Array []) ts rest
+Whole part.arrays ts rest = Some_of dl.Arrays ts rest
+Whole (part.options a) ts rest = EndedOptions a ts rest
+Whole (part.heading k) ts rest = RawHeading k ts rest
+Whole (part.declaration u after) ts rest = (segment : ℕ) → AnyDeclaration u after segment ts rest
+Whole (part.declarations u after) ts rest = (segment : ℕ) → SomeDeclarations u after segment ts rest
+Whole part.body ts rest = (segment : ℕ) → SomeBody segment ts rest
+Whole part.unit ts rest = rest ≡ [] → AnyUnit ts
+Whole part.mark ts rest = ts ≡ rest
 
 pub any_level : {c : Bool} {f : Option At} {h n : ℕ} {x : Form} {e : tree.Tree} {ts rest : List Lexeme}
     → g.Level c f h n x e ts rest → AnyLevel c f h ts rest

@@ -24,9 +24,12 @@ pub mod SoundStatements
 pub mod StatementLaws
 pub mod MovedParts
 pub mod MovedStatements
+pub mod MovedDeclarations
 pub mod CompletedParts
 pub mod CompletedStatements
 pub mod CompletedExpressions
+pub mod CompletedDeclarations
+pub mod CompletedUnits
 pub mod CompletedLaws
 pub mod DeepReaders
 pub mod DeepExpressions

@@ -1,15 +1,19 @@
 -- The laws of units.
-use Rattle.std.specs.Prelude.{ℕ, ◌≡◌, ◌⊎◌, List, [], ◌∷◌, map}
+use Rattle.std.specs.Prelude.{ℕ, Bool, ◌≡◌, ◌⊎◌, List, [], ◌∷◌, map}
 use Rattle.spl_tree.specs.declared.tokens.Lexed.{Lexed}
 use Rattle.spl_tree.specs.declared.units.SplUnit.{SplUnit}
 use Rattle.spl_tree.specs.Symbols.{Lexeme}
 use Rattle.spl_tree.specs.DeclarationTrees.{UnitTree}
+use Rattle.spl_tree.specs.DeclarationTrees as decl
+use Rattle.spl_tree.specs.Declarations as dl
+use Rattle.spl_tree.specs.Parts as part
+use Rattle.spl_tree.specs.OpenExpressions.{Part, Opens}
 use Rattle.spl_tree.specs.Units.{Unit_of}
 use Rattle.spl_tree.specs.Views.{letters}
 use Rattle.spl_tree.specs.Spells.{Spells, unit_tree}
 use Rattle.spl_grammar.specs.Readers.{Got, Bad}
 use Rattle.spl_grammar.specs.ReadDeclarations.{unit}
-use Rattle.spl_grammar.specs.Answers.{DeepBefore, Agrees}
+use Rattle.spl_grammar.specs.Answers.{DeepBefore, Agrees, Completes}
 
 -- What is spelled as a unit is read, unless it is too deep before its end.
 abbrev pub UnitsAreRead : Type 0
@@ -34,3 +38,13 @@ abbrev pub TextsSpellOneUnit : Type 0
 TextsSpellOneUnit = (lexed : Lexed) (a b : SplUnit) → Spells a lexed → Spells b lexed
     → (unit_tree a ≡ unit_tree b) × (a.subprogram ≡ b.subprogram) ×
     (map letters a.segments.items ≡ map letters b.segments.items)
+
+-- Behind the tokens of each chain a declaration can be completed, in whatever segment, and a unit, which ends the text.
+abbrev pub DeclarationPrefixesAreCompleted : Type 0
+DeclarationPrefixesAreCompleted = (procedures after : Bool) (q : Part) (d n j k : ℕ) (ts mid : List Lexeme)
+    → Opens (part.declaration procedures after) d n ts q j k mid
+    → Completes (λ us rest. (segment : ℕ) → (x : decl.Declaration) × dl.Declaration procedures segment x us rest) ts mid
+
+abbrev pub UnitPrefixesAreCompleted : Type 0
+UnitPrefixesAreCompleted = (q : Part) (d n j k : ℕ) (ts mid : List Lexeme) → Opens part.unit d n ts q j k mid
+    → Completes (λ us rest. rest ≡ [] → (u : UnitTree) × Unit_of u us) ts mid

@@ -18,4 +18,7 @@ pub use statement_laws::{
     statements_are_longest, statements_are_read, statements_are_unique, statements_fail_first,
     statements_reach, statements_sink_first,
 };
-pub use unit_laws::{texts_spell_one_unit, unit_faults_stand, units_are_read, units_are_unique};
+pub use unit_laws::{
+    declaration_prefixes_are_completed, texts_spell_one_unit, unit_faults_stand,
+    unit_prefixes_are_completed, units_are_read, units_are_unique,
+};

@@ -1,5 +1,5 @@
 //! Laws of units, each as the contract of a function that does nothing.
-ghost use Rattle.spl_grammar.specs.UnitLaws.{UnitsAreRead, UnitFaultsStand, UnitsAreUnique, TextsSpellOneUnit};
+ghost use Rattle.spl_grammar.specs.UnitLaws.{UnitsAreRead, UnitFaultsStand, UnitsAreUnique, TextsSpellOneUnit, DeclarationPrefixesAreCompleted, UnitPrefixesAreCompleted};
 
 /// What is spelled as a unit is read, unless it is too deep before its end.
 pub fn units_are_read()
@@ -19,4 +19,14 @@ pub fn units_are_unique()
 /// The tokens of a text spell at most one unit.
 pub fn texts_spell_one_unit()
     ensures { TextsSpellOneUnit }
+{}
+
+/// Whatever opens a declaration can be completed to one.
+pub fn declaration_prefixes_are_completed()
+    ensures { DeclarationPrefixesAreCompleted }
+{}
+
+/// Whatever opens a unit can be completed to one.
+pub fn unit_prefixes_are_completed()
+    ensures { UnitPrefixesAreCompleted }
 {}
