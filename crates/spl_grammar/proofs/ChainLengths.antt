@@ -18,6 +18,7 @@ use Rattle.spl_grammar.proofs.DeclarationTokens.{declaration_step_bound}
 use Rattle.spl_grammar.proofs.StatementTokens.{no_longer, no_longer_list, no_longer_step, shorter_condition, shorter_expression, shorter_reference, shorter_target, shorter_test}
 use Rattle.spl_grammar.proofs.ChainBounds.{operators_bound}
 
+-- a step in a statement
 pub statement_step_shorter : {p q : Part} {d j : ℕ} {ts mid : List Lexeme} → StatementStep p d ts q j mid
     → length mid ≤ length ts
 statement_step_shorter (op.index _ _) = omega arith
@@ -94,6 +95,7 @@ statement_step_shorter op.first_statement = omega arith
 statement_step_shorter (op.semicolon a) = let la = no_longer a in omega arith
 statement_step_shorter (op.next_statement a _) = let la = no_longer a in omega arith
 
+-- a step in an expression
 step_shorter : {p q : Part} {d n j k : ℕ} {ts mid : List Lexeme} → Step p d n ts q j k mid
     → length mid ≤ length ts
 step_shorter (oe.constant_sign _ _) = omega arith

@@ -39,10 +39,12 @@ around_part marks a f = record {
       (let b = a.whole (marks ++ more) in f b.to (a.tail ++ (marks ++ more)) more b.swap b.whole);
 }
 
+-- some part that is spelled
 pub some : {A : Type 0} {P : A → List Lexeme → List Lexeme → Type 0} (a : A) {ts rest : List Lexeme} → P a ts rest
     → Some_of P ts rest
 some a p = record { tree = a; spelled = p }
 
+-- one name
 pub one_name : (more : List Lexeme) → Some_of dl.Names (a_name ∷ more) more
 one_name more = some _ (dl.Separated.one (dl.Name.name refl))
 
@@ -52,12 +54,14 @@ add_term : {vs : List decl.Term} {o : ℕ} {v : tree.Constant} {p : Lexeme} {ts 
 add_term dl.Terms.none i e c = some _ (dl.Terms.more i e c dl.Terms.none)
 add_term (dl.Terms.more j f d l) i e c = let a = add_term l i e c in some _ (dl.Terms.more j f d a.spelled)
 
+-- one more specification behind others
 add_words : {ss : List decl.Spec} {c : Kind} {ns : List Placed} {k t : Lexeme} {ts mid rest : List Lexeme}
     → dl.Specs ss ts (k ∷ t ∷ mid) → Is s.Semicolon k → Is (s.Type c) t → dl.Names ns mid rest → Some_of dl.Specs ts rest
 add_words dl.Specs.none i j l = some _ (dl.Specs.words i j l dl.Specs.none)
 add_words (dl.Specs.words a b d ss) i j l = let x = add_words ss i j l in some _ (dl.Specs.words a b d x.spelled)
 add_words (dl.Specs.arrays a b d e ss) i j l = let x = add_words ss i j l in some _ (dl.Specs.arrays a b d e x.spelled)
 
+-- one more specification of arrays
 add_arrays : {ss : List decl.Spec} {c : Kind} {ns : List Placed} {k a : Lexeme} {ts us mid rest : List Lexeme}
     → dl.Specs ss ts (k ∷ us) → Is s.Semicolon k → dl.OptionalKind c us (a ∷ mid) → Is (s.Word wd.Array) a
     → dl.Names ns mid rest → Some_of dl.Specs ts rest
@@ -69,31 +73,38 @@ add_arrays (dl.Specs.arrays a b d e ss) i j m l = let x = add_arrays ss i j m l 
 forward_name : Lexeme
 forward_name = record { symbol = s.Name; letters = codes "FORWARD"; at = g.place []; segment = 0 }
 
+-- EXTERNAL
 external_name : Lexeme
 external_name = record { symbol = s.Name; letters = codes "EXTERNAL"; at = g.place []; segment = 0 }
 
+-- the option that ends a list, by whether EXTERNAL is one
 last_of : Bool → Lexeme
 last_of true = external_name
 last_of false = forward_name
 
+-- the option that can end a list behind these
 pub last_option : Options → Lexeme
 last_option a = last_of a.external
 
+-- an option before others
 add_option : {a b : Options} {t k : Lexeme} {ts rest : List Lexeme} → Is s.Name t → option_of t.letters ≡ Some b
     → fit (both a b) ≡ true → Is s.Comma k → EndedOptions (both a b) ts rest → EndedOptions a (t ∷ k ∷ ts) rest
 add_option i e f k l = record { last = l.last; ends = l.ends; spelled = dl.OptionList.more i e f k l.spelled }
 
+-- FORWARD and EXTERNAL do not fit
 no_fit : (a : Options) → a.forward ≡ true → a.external ≡ true → fit a ≡ true → ⊥
 no_fit a x y f = go (rw (x, y) at f)
   where
     go : false ≡ true → ⊥
     go e = cc
 
+-- one option that ends a list
 ending : (a : Options) (more : List Lexeme) (b : Options) (t : Lexeme) → fit (both a b) ≡ true
     → ((both a b).forward || (both a b).external) ≡ true → last_of a.external ≡ t → Is s.Name t → option_of t.letters ≡ Some b
     → EndedOptions a (last_of a.external ∷ more) more
 ending a more b t f g e i o = rw e (record { last = both a b; ends = g; spelled = dl.OptionList.one i o f })
 
+-- the list of the option that can end it
 pub one_option : (a : Options) → fit a ≡ true → (more : List Lexeme) → EndedOptions a (last_option a ∷ more) more
 unfolding option_of last_option last_of forward_name external_name
 one_option a f more = go a.forward a.external refl refl
@@ -111,18 +122,22 @@ one_option a f more = go a.forward a.external refl refl
 as_heading : (split : Bool) {ts rest : List Lexeme} → RawHeading wd.Procedure ts rest → Some_of (dl.Heading split) ts rest
 as_heading split (raw r i j n v ss k) = some _ (dl.Heading.heading r i j n v ss k)
 
+-- as that of a subroutine
 pub as_subroutine : (segment : ℕ) {ts rest : List Lexeme} → RawHeading wd.Subroutine ts rest
     → Some_of (dl.SubroutineHeading segment) ts rest
 as_subroutine segment (raw r i j n v ss k) = some _ (dl.SubroutineHeading.heading r i j n v ss k)
 
+-- a heading of a subroutine without its segment
 raw_of : {segment : ℕ} {h : decl.Heading} {ts rest : List Lexeme} → dl.SubroutineHeading segment h ts rest
     → RawHeading wd.Subroutine ts rest
 raw_of (dl.SubroutineHeading.heading r i j n v ss k) = raw r i j n v ss k
 
+-- a heading, with SPLIT or without
 any_split : {a : Bool} (b : Bool) {h : decl.Heading} {ts rest : List Lexeme} → dl.Heading a h ts rest
     → Some_of (dl.Heading b) ts rest
 any_split b (dl.Heading.heading r i j n v ss k) = some _ (dl.Heading.heading r i j n v ss k)
 
+-- a heading depends on no token behind it
 move_raw : {k : Reserved} {ts rest : List Lexeme} → RawHeading k ts rest → (more : List Lexeme)
     → Moved (RawHeading k) ts rest more more
 move_raw (raw {p = p} {t = t} {z = z} r i j n v ss k) more = let e = move_specs ss (z ∷ more) in
@@ -137,14 +152,17 @@ pub of_declaration_tree : {u after : Bool} {segment : ℕ} {d : decl.Declaration
     → dl.Declaration u segment d ts rest → (is_subroutine d || not after) ≡ true → AnyDeclaration u after segment ts rest
 of_declaration_tree p e = record { tree = _; fits = e; spelled = p }
 
+-- declarations that are spelled
 pub of_declarations : {u after : Bool} {segment : ℕ} {ds : List decl.Declaration} {ts rest : List Lexeme}
     → dl.Declarations u after segment ds ts rest → SomeDeclarations u after segment ts rest
 of_declarations p = record { trees = _; spelled = p }
 
+-- a body that is spelled
 of_body : {segment : ℕ} {ds : List decl.Declaration} {xs : List stat.Statement} {ts rest : List Lexeme}
     → dl.Body segment ds xs ts rest → SomeBody segment ts rest
 of_body p = record { items = _; statements = _; spelled = p }
 
+-- RETURN as a body
 pub return_body : (segment : ℕ) (more : List Lexeme) → SomeBody segment (word wd.Return ∷ more) more
 return_body segment more = of_body (dl.Body.single (st.Statement.return refl) refl)
 
@@ -153,6 +171,7 @@ same_declaration : {u b : Bool} {segment : ℕ} {d : decl.Declaration} {ts rest 
     → dl.Declaration u segment d ts rest → SomeDeclaration u segment b ts rest
 same_declaration e p = record { tree = _; alike = e; spelled = p }
 
+-- a declaration
 resegment : {u : Bool} {old : ℕ} {d : decl.Declaration} {ts rest : List Lexeme} (segment : ℕ)
     → dl.Declaration u old d ts rest → SomeDeclaration u segment (is_subroutine d) ts rest
 resegment segment (dl.Declaration.simple o i l) = same_declaration refl (dl.Declaration.simple o i l)
@@ -169,15 +188,18 @@ resegment segment (dl.Declaration.external h i o e) = same_declaration refl (dl.
 resegment segment (dl.Declaration.subroutine h x) = let a = as_subroutine segment (raw_of h) in
     same_declaration refl (dl.Declaration.subroutine a.spelled x)
 
+-- all declarations
 resegment_all : {u after : Bool} {old : ℕ} {ds : List decl.Declaration} {ts rest : List Lexeme} (segment : ℕ)
     → dl.Declarations u after old ds ts rest → SomeDeclarations u after segment ts rest
 resegment_all segment dl.Declarations.none = of_declarations dl.Declarations.none
 resegment_all segment (dl.Declarations.more d e i l) = let a = resegment segment d in let b = resegment_all segment l in
     of_declarations (dl.Declarations.more a.spelled (test_at _ _ _ a.alike e) i (list_at (sym a.alike) b.spelled))
 
+-- the same up to an equal list
 statements_at : {xs : List stat.Statement} {ts us vs : List Lexeme} → us ≡ vs → st.Statements xs ts us → st.Statements xs ts vs
 statements_at e p = rw (← e) p
 
+-- a unit by its parts, where nothing follows
 pub of_unit : {xs : List stat.Statement} {b z d e : Lexeme} {us mid more : List Lexeme} → Is (s.Word wd.Begin) b
     → ((segment : ℕ) → SomeDeclarations true false segment us mid) → st.Statements xs mid (z ∷ d ∷ e ∷ more)
     → Is (s.Word wd.End) z → Is s.Dot d → Is s.Stop e → more ≡ [] → AnyUnit (b ∷ us)
@@ -205,6 +227,7 @@ behind_options {a = a} {p = p} {ts = ts} {rest = rest} h i l o = go a.forward a.
         (λ segment. of_declaration_tree (dl.Declaration.procedure_with m.whole.spelled i c.whole.spelled e f refl
         (return_body m.whole.tree.segment more).spelled) refl))
 
+-- one of two that is not the first is the second
 external_of : (a b : Bool) → a ≡ false → (a || b) ≡ true → b ≡ true
 external_of true b e f = cc
 external_of false b e f = f
@@ -227,16 +250,19 @@ single_whole : {ts rest next more : List Lexeme} → begins_block ts ≡ false �
 single_whole e l m a = filled a.swap (λ segment. of_body (dl.Body.single a.whole.spelled (is_body a.whole.spelled
     (still_no_block a.swap l e) (let i = swap_length a.swap in omega arith))))
 
+-- what stands behind some tokens is no longer
 more_behind : (ts more : List Lexeme) → length more ≤ length (ts ++ more)
 more_behind [] more = omega arith
 more_behind (t ∷ ts) more = let a = more_behind ts more in omega arith
 
+-- a body that has not begun
 single_return : (rest : List Lexeme) → Completed part.body rest rest
 single_return rest = record {
   tail = word wd.Return ∷ [];
   whole = λ more. filled same (λ segment. return_body segment more);
 }
 
+-- a single statement that is open
 single_completed : {ts rest : List Lexeme} → begins_block ts ≡ false → Completed part.statement ts rest
     → Completed part.body ts rest
 single_completed {ts = ts} {rest = rest} e o = let a = o.whole [] in go (nothing_or a.swap)

@@ -15,6 +15,7 @@ use Rattle.spl_grammar.proofs.MovedParts.{Swap, same, behind, along, swap_length
 use Rattle.spl_grammar.proofs.CompletedParts.{AnyLevel, any_level, any_unary, any_primary, any_constant, any_arguments, Inside, free, minus, a_constant, an_operand, a_primary, some_arguments, a_reference, a_source, an_effect, a_test, a_statement, some_statements, a_mark, inside_below, Refilled, filled, Completed, around, open_at, token, a_name, a_number, a_shift, one_level, one_expression, not_begun}
 use Rattle.spl_grammar.proofs.CompletedStatements.{statement_completed}
 
+-- a sum is of level 3
 below_sum : (h : ℕ) → (suc h == 3) ≡ true → h ≤ 2
 below_sum h e = grind (arith, nat_tests, e)
 
@@ -50,6 +51,7 @@ not_declared a_statement e = elim e [ ]
 not_declared some_statements e = elim e [ ]
 not_declared a_mark e = elim e [ ]
 
+-- behind a sign some of the term stands
 signed_whole : {c : Bool} {h op : ℕ} {t : Lexeme} {ts rest next more : List Lexeme} → (suc h == 3) ≡ true
     → Is (s.Operator op) t → is_sign op ≡ true → g.negates op ts ≡ false → length rest < length ts
     → Refilled (part.level c None h) ts rest next more → Refilled (part.level c None (suc h)) (t ∷ ts) rest next more
@@ -69,6 +71,7 @@ signed_name {c = c} {h = h} {op = op} rest q i b = record {
     no_number true = refl
     no_number false = refl
 
+-- behind a sign, whether some of the term stands there or not
 signed_completed : {c : Bool} {h op : ℕ} {t : Lexeme} {ts rest : List Lexeme} → (suc h == 3) ≡ true
     → Is (s.Operator op) t → is_sign op ≡ true → g.negates op ts ≡ false → Completed (part.level c None h) ts rest
     → Completed (part.level c None (suc h)) (t ∷ ts) rest
@@ -191,6 +194,7 @@ step_completed v (op.next_argument {k = m} l i) o = around some_arguments [] o (
 step_completed v (op.of_statement step) o = statement_completed step o
 step_completed v (op.of_declaration step) o = not_declared v step
 
+-- along the whole chain
 pub completed : {p q : Part} {d n j k : ℕ} {ts rest : List Lexeme} → Inside p → op.Opens p d n ts q j k rest
     → Completed p ts rest
 completed {ts = ts} v op.here = not_begun ts v

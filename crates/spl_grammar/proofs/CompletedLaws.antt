@@ -23,6 +23,7 @@ front_kept (suc n) same e = absurd (omega arith)
 front_kept zero (behind a) e = let l = swap_longer a in absurd (omega arith)
 front_kept (suc n) (behind {t = t} a) e = ap (λ us. t ∷ us) (front_kept n a (omega arith))
 
+-- how many tokens stand before
 so_many : {rest next ts to : List Lexeme} → Swap rest next ts to
     → (length ts - length rest) + length rest ≡ length ts
 so_many a = let l = swap_longer a in omega arith

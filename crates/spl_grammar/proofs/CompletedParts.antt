@@ -101,21 +101,26 @@ Whole part.body ts rest = (segment : ℕ) → SomeBody segment ts rest
 Whole part.unit ts rest = rest ≡ [] → AnyUnit ts
 Whole part.mark ts rest = ts ≡ rest
 
+-- a level that is spelled
 pub any_level : {c : Bool} {f : Option At} {h n : ℕ} {x : Form} {e : tree.Tree} {ts rest : List Lexeme}
     → g.Level c f h n x e ts rest → AnyLevel c f h ts rest
 any_level l = record { operators = _; form = _; tree = _; spelled = l }
 
+-- an operand
 pub any_unary : {f : Option At} {x : Form} {e : tree.Tree} {ts rest : List Lexeme} → g.Unary f x e ts rest
     → AnyUnary f ts rest
 any_unary l = record { form = _; tree = _; spelled = l }
 
+-- a primary
 pub any_primary : {f : Option At} {x : Form} {e : tree.Tree} {ts rest : List Lexeme} → g.Primary f x e ts rest
     → AnyPrimary f ts rest
 any_primary l = record { form = _; tree = _; spelled = l }
 
+-- a constant
 pub any_constant : {v : tree.Constant} {ts rest : List Lexeme} → g.Constant v ts rest → SomeConstant ts rest
 any_constant l = record { tree = _; spelled = l }
 
+-- arguments
 pub any_arguments : {es : List tree.Tree} {ts rest : List Lexeme} → g.Arguments es ts rest → AnyArguments ts rest
 any_arguments l = record { trees = _; spelled = l }
 
@@ -135,6 +140,7 @@ pub data Inside : Part → Type 0 where
   some_statements : Inside part.statements
   a_mark : Inside part.mark
 
+-- a level above one is inside too
 pub inside_below : {c : Bool} {f : Option At} {h : ℕ} → Inside (part.level c f (suc h)) → Inside (part.level c f h)
 inside_below free = free
 inside_below (minus l) = minus (omega arith)
@@ -145,6 +151,7 @@ pub record Refilled (p : Part) (ts rest next more : List Lexeme) : Type 0 where
   pub swap : Swap rest next ts to
   pub whole : Whole p to more
 
+-- a part at the end of a swap
 pub filled : {p : Part} {ts rest next to more : List Lexeme} → Swap rest next ts to → Whole p to more
     → Refilled p ts rest next more
 filled w s = record { to = _; swap = w; whole = s }
@@ -170,13 +177,16 @@ swap_same : {rest next ts us : List Lexeme} → Swap rest next ts us → length 
 swap_same same l = refl
 swap_same (behind a) l = let b = swap_longer a in absurd (omega arith)
 
+-- equal lists are as long
 same_length : {ts us : List Lexeme} → ts ≡ us → length ts ≡ length us
 same_length e = ap (λ us. length us) e
 
+-- tokens before make a list no shorter
 append_length : (ts us : List Lexeme) → length us ≤ length (ts ++ us)
 append_length [] us = omega arith
 append_length (t ∷ ts) us = let a = append_length ts us in omega arith
 
+-- what is open at a mark ends there
 at_end : {ts rest : List Lexeme} → Completed part.mark ts rest → ts ≡ rest
 at_end o = let a = o.whole [] in swap_same a.swap
     (let b = same_length a.whole in let l = swap_length a.swap in let m = append_length o.tail [] in omega arith)
@@ -192,12 +202,15 @@ open_at {p = p} {ts = ts} marks o f = rw (← at_end (o a_mark)) (record { tail 
 abbrev pub token : Symbol → Lexeme
 token k = record { symbol = k; letters = []; at = g.place []; segment = 0 }
 
+-- a reserved word
 abbrev pub word : Reserved → Lexeme
 word k = token (s.Word k)
 
+-- a name without letters
 abbrev pub a_name : Lexeme
 a_name = token s.Name
 
+-- the number 0
 abbrev pub a_number : Lexeme
 a_number = token (s.Number 0)
 
@@ -214,13 +227,16 @@ abbrev pub operand_token : Option At → Lexeme
 operand_token None = a_name
 operand_token (Some at) = a_number
 
+-- a primary of one token
 pub one_primary : (f : Option At) (more : List Lexeme) → AnyPrimary f (operand_token f ∷ more) more
 one_primary None more = any_primary (g.Primary.name refl)
 one_primary (Some at) more = any_primary (g.Primary.negative_number refl)
 
+-- an operand of one token
 pub one_unary : (f : Option At) (more : List Lexeme) → AnyUnary f (operand_token f ∷ more) more
 one_unary f more = let a = one_primary f more in any_unary (g.Unary.plain a.spelled)
 
+-- a level of one token
 pub one_level : (c : Bool) (f : Option At) (h : ℕ) → Inside (part.level c f h) → (more : List Lexeme)
     → AnyLevel c f h (operand_token f ∷ more) more
 one_level c f zero v more = let a = one_unary f more in any_level (g.Level.operand a.spelled)
@@ -232,6 +248,7 @@ one_level c None (suc h) v more = go (suc h == 3) refl (one_level c None h free 
 one_level c (Some at) (suc h) (minus l) more = let a = one_level c (Some at) h (minus (omega arith)) more in
     any_level (g.Level.up (grind (arith, nat_tests, l)) a.spelled)
 
+-- an expression of one token
 pub one_expression : (more : List Lexeme) → AnyLevel false None 10 (a_name ∷ more) more
 one_expression more = one_level false None 10 free more
 

@@ -21,6 +21,7 @@ use Rattle.spl_grammar.proofs.CompletedParts.{AnyLevel, AnyStatement, Inside, fr
 expr : {ts rest : List Lexeme} (l : AnyLevel false None 10 ts rest) → st.Expression l.tree ts rest
 expr l = st.Expression.expression l.spelled
 
+-- a condition
 cond : {ts rest : List Lexeme} (l : AnyLevel true None 10 ts rest) → st.Condition l.tree ts rest
 cond l = st.Condition.condition l.spelled
 
@@ -28,6 +29,7 @@ cond l = st.Condition.condition l.spelled
 name_expr : (more : List Lexeme) → SomeExpression (a_name ∷ more) more
 name_expr more = let a = one_expression more in record { tree = a.tree; spelled = expr a }
 
+-- a condition of one token
 name_cond : (more : List Lexeme) → SomeCondition (a_name ∷ more) more
 name_cond more = let a = one_level true None 10 free more in record { tree = a.tree; spelled = cond a }
 
@@ -35,18 +37,23 @@ name_cond more = let a = one_level true None 10 free more in record { tree = a.t
 any_reference : {x : Tree} {ts rest : List Lexeme} → st.Reference x ts rest → SomeReference ts rest
 any_reference r = record { tree = _; spelled = r }
 
+-- a source
 any_source : {x : stat.Source} {ts rest : List Lexeme} → st.Source x ts rest → SomeSource ts rest
 any_source r = record { tree = _; spelled = r }
 
+-- an effect
 any_effect : {x : stat.Effect} {ts rest : List Lexeme} → st.Effect x ts rest → SomeEffect ts rest
 any_effect r = record { tree = _; spelled = r }
 
+-- a test
 any_test : {x : stat.Test} {ts rest : List Lexeme} → st.Test x ts rest → SomeTest ts rest
 any_test r = record { tree = _; spelled = r }
 
+-- a statement
 any_statement : {x : stat.Statement} {ts rest : List Lexeme} → st.Statement x ts rest → AnyStatement ts rest
 any_statement r = record { tree = _; spelled = r }
 
+-- statements
 any_statements : {xs : List stat.Statement} {ts rest : List Lexeme} → st.Statements xs ts rest → SomeStatements ts rest
 any_statements r = record { trees = _; spelled = r }
 

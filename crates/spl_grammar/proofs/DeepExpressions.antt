@@ -69,24 +69,31 @@ pub record SinksIn (n : ℕ) (p : Part) (d k : ℕ) (ts : List Lexeme) : Type 0 
 
 -- Numbers.
 
+-- more is open than may be, and no more than may be
 pub over : {A : Type 0} (d k room taken : ℕ) → limit < d + k / 8 → d + room ≡ limit + taken → taken + k / 8 ≤ room → A
 over d k room taken m e l = absurd (omega arith)
 
+-- no construct can be opened
 pub no_more : {A : Type 0} (d room taken : ℕ) → limit < suc d → d + room ≡ limit + taken → nat_lt taken room ≡ true → A
 no_more d room taken m e ok = absurd (grind (arith, nat_tests, m, e, ok))
 
+-- a test of order as a fact
 pub le_of : (a b : ℕ) → nat_le a b ≡ true → a ≤ b
 le_of a b e = grind (arith, nat_tests, e)
 
+-- what is left behind a token that opens a construct
 pub room_left : (taken room : ℕ) → nat_lt taken (suc room) ≡ true → taken + 0 / 8 ≤ room
 room_left taken room e = grind (arith, nat_tests, e)
 
+-- there is room for one more
 pub still_room : (taken room : ℕ) → taken + 0 / 8 ≤ room → nat_lt taken (suc room) ≡ true
 still_room taken room l = grind (arith, nat_tests, l)
 
+-- no room at all
 pub none_left : {A : Type 0} (taken : ℕ) → nat_lt taken 0 ≡ true → A
 none_left taken e = absurd (grind (arith, nat_tests, e))
 
+-- a level depends on no token behind its end
 pub local_part : (c : Bool) (room taken h k : ℕ) (f : Option At) → IsLocal (part c room taken h k f)
 local_part c room taken h k f = local_level (unary room) (counts c room) room c taken (local_unary room)
     (local_counts c room) h k f
@@ -106,6 +113,7 @@ some_token P (t ∷ us) l d h = h t us d
 
 -- A part that is whole reads all its operators.
 
+-- what a level answers is explained
 pub part_explained : (c : Bool) (f : Option At) (h k : ℕ) (room taken d : ℕ) (ts : List Lexeme) → d + room ≡ limit + taken
     → lf.Front f h → taken + k / 8 ≤ room
     → er.Explains limit (lf.LevelGot room taken c f h k ts) (op.level c f h) d k ts (part c room taken h k f ts)
@@ -114,10 +122,12 @@ part_explained false f h k room taken d ts sum w l = level_explained limit (unar
 part_explained true f h k room taken d ts sum w l = level_explained limit (unary room) (counts true room) room true taken d sum
     (unary_explained room) (λ j i us q s ok. within_explained room j i us s ok) h f k ts w l
 
+-- a minus stands below the sums
 pub front_of : {c : Bool} {f : Option At} {h : ℕ} → Inside (of_kind.level c f h) → lf.Front f h
 front_of free = lf.free
 front_of (minus l) = lf.minus l
 
+-- the operators that were read fit
 pub got_fits : {room taken d k n : ℕ} {c : Bool} {f : Option At} {h : ℕ} {x : Form} {e : tree.Tree} {ts rest : List Lexeme}
     (o : Outcome Found) → er.Explains limit (lf.LevelGot room taken c f h k ts) (op.level c f h) d k ts o
     → o ≡ Got (found n x e) rest → taken + n / 8 ≤ room
@@ -129,14 +139,17 @@ got_fits _ (er.got {a = r} v) q = let i = ap (λ o. count_of o) q in rw (← i) 
 got_fits _ (er.bad a b) q = cc
 got_fits _ (er.deep a b) q = cc
 
+-- agreeing lists, the other way round
 pub agrees_back : {us vs ts more : List Lexeme} → lr.Agrees us vs ts more → lr.Agrees vs us more ts
 agrees_back lr.here = lr.here
 agrees_back (lr.there a) = lr.there (agrees_back a)
 
+-- the agreeing list is longer than its rest
 pub agrees_longer : {us vs ts more : List Lexeme} → lr.Agrees us vs ts more → length us < length ts
 agrees_longer lr.here = omega arith
 agrees_longer (lr.there a) = let l = agrees_longer a in omega arith
 
+-- too deep before its rest, a list like it is so too
 pub like_deep : {A : Type 0} (us vs : List Lexeme) (o p : Outcome A) → lr.Like us vs o p → DeepBefore (length us) o
     → DeepBefore (length vs) p
 like_deep us vs _ _ (lr.got a) d = elim d [ ]
@@ -147,9 +160,11 @@ like_deep {A} us vs o p (lr.past l) d = go o d l
     go : (o : Outcome A) → DeepBefore (length us) o → length (end_of o) ≤ length us → DeepBefore (length vs) p
     go _ (deep k) l = absurd (omega arith)
 
+-- too deep before a place is so before a later one
 pub weaker : {A : Type 0} (n m : ℕ) (o : Outcome A) → n ≤ m → DeepBefore m o → DeepBefore n o
 weaker n m _ l (deep i) = deep (omega arith)
 
+-- a part that is whole, with too many operators
 pub whole_sinks : {n : ℕ} {c : Bool} {f : Option At} {h m d k : ℕ} {x : Form} {e : tree.Tree} {ts rest : List Lexeme}
     → Inside (of_kind.level c f h) → g.Level c f h m x e ts rest → n ≤ length rest → limit < d + (k + m) / 8
     → SinksIn n (of_kind.level c f h) d k ts
@@ -171,22 +186,26 @@ whole_sinks {n = n} {c = c} {f = f} {h = h} {m = m} {d = d} {k = k} {x = x} {ts 
 
 -- What can't begin a part is refused.
 
+-- symbols that no operand begins with
 pub data Refused : Symbol → Type 0 where
   an_operator : {op : ℕ} → Refused (s.Operator op)
   a_word : {w : Reserved} → Refused (s.Word w)
 
+-- they are refused
 pub primary_refused : (k : Symbol) → Refused k → (room taken : ℕ) {t : Lexeme} {ts : List Lexeme} → Is k t
     → unary room taken None (t ∷ ts) ≡ Bad (t ∷ ts)
 unfolding unary_step by_symbol same_symbol symbol_number primary at_place followed and_then primary_by refuse
 primary_refused _ (an_operator {op = o}) room taken {t = t} {ts = ts} i = rw (unary_is room taken None, i) refl
 primary_refused _ (a_word {w = w}) room taken {t = t} {ts = ts} i = rw (unary_is room taken None, i) refl
 
+-- what is no number is refused behind its minus
 pub no_number : (k : Symbol) (at : At) (ts : List Lexeme) → is_number k ≡ false → negative_by at k ts ≡ Bad ts
 unfolding negative_by refuse
 no_number (s.Number v) at ts e = cc
 no_number (s.Wide v) at ts e = cc
 no_number _ at ts e = refl
 
+-- and so is the operand
 pub number_refused : (room taken : ℕ) (at : At) {t : Lexeme} {ts : List Lexeme} → is_number t.symbol ≡ false
     → unary room taken (Some at) (t ∷ ts) ≡ Bad (t ∷ ts)
 unfolding unary_step by_symbol followed and_then
@@ -214,6 +233,7 @@ level_refused c room taken (suc h) k {t = t} {ts = ts} z e = go (suc h == 3) ref
 
 -- One step, and what the part behind it sinks in.
 
+-- in the level below
 pub below_case : {n : ℕ} {c : Bool} {f : Option At} {h d k : ℕ} {ts : List Lexeme} → (suc h == 3) ≡ false
     → SinksIn n (of_kind.level c f h) d k ts → SinksIn n (of_kind.level c f (suc h)) d k ts
 unfolding first
@@ -223,6 +243,7 @@ below_case {n = n} {c = c} {f = f} {h = h} {k = k} {ts = ts} q o = record {
       (o.claim room taken sum fits) (λ t us d. sink_level c h k f room taken (sink_else _ q d));
 }
 
+-- in a sum without a sign
 pub unsigned_case : {n : ℕ} {c : Bool} {h d k : ℕ} {ts : List Lexeme} → (suc h == 3) ≡ true
     → SinksIn n (of_kind.level c None h) d k ts → SinksIn n (of_kind.level c None (suc h)) d k ts
 unfolding first
@@ -238,11 +259,13 @@ unsigned_case {n = n} {c = c} {h = h} {k = k} {ts = ts} q o = record {
     go room taken t us d true e = not_bad (low_refused c room taken h k None (lf.below_three h q)
         (λ j. primary_refused _ an_operator room j (lf.sign_is t.symbol e))) d
 
+-- no minus before a number
 pub no_minus_number : (o : ℕ) (k j : Symbol) → k ≡ s.Operator o → ((o == 12) && is_number j) ≡ false
     → ((operator_of k == 12) && is_number j) ≡ false
 unfolding operator_of
 no_minus_number o k j e f = rw e f
 
+-- behind a sign
 pub signed_case : {n : ℕ} {c : Bool} {h d k o : ℕ} {t : Lexeme} {ts : List Lexeme} → (suc h == 3) ≡ true
     → Is (s.Operator o) t → is_sign o ≡ true → g.negates o ts ≡ false
     → SinksIn n (of_kind.level c None h) d k ts → SinksIn n (of_kind.level c None (suc h)) d k (t ∷ ts)
@@ -255,10 +278,12 @@ signed_case {n = n} {c = c} {h = h} {k = k} {o = o} {t = t} {ts = ts} q i b z f 
       (sink_else _ (no_minus_number o t.symbol u.symbol i z) (sink_then _ d)))))))) z;
 }
 
+-- a minus before a number
 pub minus_number : (k j : Symbol) → k ≡ s.Operator 12 → is_number j ≡ true → ((operator_of k == 12) && is_number j) ≡ true
 unfolding operator_of
 minus_number k j e f = rw (e, f) refl
 
+-- a number behind its minus, or none
 pub negative_go : {n : ℕ} {t : Lexeme} (c : Bool) (h k room taken : ℕ) (u : Lexeme) (us : List Lexeme)
     → (suc h == 3) ≡ true → Is (s.Operator 12) t → Sinks n (part c room taken h k (Some t.at)) (u ∷ us)
     → (b : Bool) → is_number u.symbol ≡ b → Sinks n (part c room taken (suc h) k None) (t ∷ u ∷ us)
@@ -269,6 +294,7 @@ negative_go {t = t} c h k room taken u us q i d true e = sink_level c h k None r
 negative_go {t = t} c h k room taken u us q i d false e = not_bad
     (low_refused c room taken h k (Some t.at) (lf.below_three h q) (λ j. number_refused room j t.at e)) d
 
+-- behind the minus of a number
 pub negative_case : {n : ℕ} {c : Bool} {h d k : ℕ} {t : Lexeme} {ts : List Lexeme} → (suc h == 3) ≡ true
     → Is (s.Operator 12) t → SinksIn n (of_kind.level c (Some t.at) h) d k ts
     → SinksIn n (of_kind.level c None (suc h)) d k (t ∷ ts)
@@ -291,6 +317,7 @@ right_case {c = c} {h = h} {o = o} q l i e w y = record {
       (sink_turn _ (sink_symbol _ i (sink_if _ e (sink_allowed _ _ w (λ ok. sink_then _ (y.claim room taken sum (le_of _ _ ok)))))));
 }
 
+-- behind a relation
 pub relation_case : {n : ℕ} {c : Bool} {f : Option At} {h m d k o : ℕ} {x : Form} {a : tree.Tree} {z : Lexeme}
     {ts mid : List Lexeme} → (suc h == 4) ≡ true → g.Level c f h m x a ts (z ∷ mid) → Is (s.Operator o) z
     → (binds o == suc h) ≡ true → n ≤ length mid → SinksIn n (of_kind.level c None h) d (suc (k + m)) mid
@@ -308,6 +335,7 @@ pub too_many : {A : Type 0} (d k room taken : ℕ) → limit < d + k / 8 → d +
     → nat_le (taken + k / 8) room ≡ true → A
 too_many d k room taken m e ok = over d k room taken m e (le_of _ _ ok)
 
+-- a mark of a shift
 pub shift_case : {n : ℕ} {c : Bool} {f : Option At} {h m d k : ℕ} {x : Form} {e : tree.Tree} {a : Lexeme}
     {ts us : List Lexeme} → (suc h == 1) ≡ true → g.Level c f (suc h) m x e ts (a ∷ us) → Is s.Ampersand a
     → n ≤ length us → limit < d + suc (k + m) / 8 → SinksIn n (of_kind.level c f (suc h)) d k ts
@@ -355,11 +383,13 @@ not_case {n = n} {d = d} {t = t} {ts = ts} i w o = record {
     go zero taken sum ok = none_left taken ok
     go (suc room) taken sum ok = o.claim room taken (omega arith) (room_left taken room ok)
 
+-- NOT is no primary
 pub not_primary : (room taken : ℕ) (t : Lexeme) (us : List Lexeme) → is s.Not t.symbol ≡ true
     → primary_reader None room taken (t ∷ us) ≡ Bad (t ∷ us)
 unfolding by_symbol primary_by refuse
 not_primary room taken t us e = rw (same_is t.symbol s.Not e) refl
 
+-- a primary depends on no token behind its end
 pub local_primary_reader : (f : Option At) (room taken : ℕ) → IsLocal (primary_reader f room taken)
 local_primary_reader None room taken = lr.local_symbol (local_primary_by room (behind_not room taken) (within room taken) taken
     (local_behind_not room) (local_within room taken))
@@ -369,6 +399,7 @@ local_primary_reader None room taken = lr.local_symbol (local_primary_by room (b
     local_behind_not (suc room) = local_unary room taken None
 local_primary_reader (Some at) room taken = lr.local_symbol (local_negative at)
 
+-- in a primary
 pub operand_case : {n d : ℕ} {f : Option At} {ts : List Lexeme} → SinksIn n (of_kind.primary f) d 0 ts
     → SinksIn n (of_kind.unary f) d 0 ts
 unfolding unary_step primary
@@ -390,18 +421,21 @@ operand_case {n = n} {f = None} {ts = ts} o = record {
 
 -- Primaries.
 
+-- a name with arguments
 pub named_case : {n : ℕ} {t o : Lexeme} {ts : List Lexeme} (room taken : ℕ) → Is s.Name t → Is s.Open o
     → Sinks n (arguments room (behind_not room taken) (within room taken) taken) (o ∷ ts)
     → Sinks n (primary_reader None room taken) (t ∷ o ∷ ts)
 unfolding primary_by named
 named_case room taken i j d = sink_symbol _ i (sink_take _ (sink_symbol _ j (sink_if _ (same_self s.Open) (sink_then _ d))))
 
+-- an expression in parentheses
 pub sink_enclosed : {n : ℕ} {o : Lexeme} {ts : List Lexeme} (room taken : ℕ) (inner : Parser Found) → Is s.Open o
     → n ≤ length ts → (nat_lt taken room ≡ true → Sinks n (within room taken) ts)
     → Sinks n (enclosed room inner (within room taken) taken) (o ∷ ts)
 unfolding enclosed
 sink_enclosed room taken inner i w d = sink_opening room taken _ i w (λ ok. sink_then _ (d ok))
 
+-- arguments in parentheses
 pub sink_arguments : {n : ℕ} {o : Lexeme} {ts : List Lexeme} (room taken : ℕ) (inner : Parser Found) → Is s.Open o
     → n ≤ length ts → (nat_lt taken room ≡ true → Sinks n (followed (within room taken)
     (λ e. repeat (more_arguments room inner (within room taken) taken) (e ∷ []))) ts)
@@ -410,12 +444,14 @@ unfolding arguments
 sink_arguments room taken inner i w d = sink_opening room taken _ i w (λ ok. sink_from
     (followed_assoc _ _ _ _) (sink_then _ (d ok)))
 
+-- what the first arguments sink in
 pub arguments_of : {n d : ℕ} {ts : List Lexeme} (room taken : ℕ) (inner : Parser Found)
     → SinksIn n of_kind.arguments (suc d) 0 ts → d + room ≡ limit + taken → nat_lt taken room ≡ true
     → Sinks n (followed (within room taken) (λ e. repeat (more_arguments room inner (within room taken) taken) (e ∷ []))) ts
 arguments_of zero taken inner o sum ok = none_left taken ok
 arguments_of (suc room) taken inner o sum ok = o.claim room taken inner [] (omega arith) (room_left taken room ok)
 
+-- an address with an index
 pub address_case : {n : ℕ} {a t o : Lexeme} {ts : List Lexeme} (room taken : ℕ) → Is s.AtSign a → Is s.Name t → Is s.Open o
     → n ≤ length ts → (nat_lt taken room ≡ true → Sinks n (within room taken) ts)
     → Sinks n (primary_reader None room taken) (a ∷ t ∷ o ∷ ts)
@@ -423,18 +459,21 @@ unfolding primary_by addressed
 address_case room taken i j k w d = sink_symbol _ i (sink_take _ (sink_behind _ (near_expect j) (omega arith)
     (sink_symbol _ k (sink_if _ (same_self s.Open) (sink_then _ (sink_enclosed room taken _ k w d))))))
 
+-- parentheses
 pub parens_case : {n : ℕ} {o : Lexeme} {ts : List Lexeme} (room taken : ℕ) → Is s.Open o
     → n ≤ length ts → (nat_lt taken room ≡ true → Sinks n (within room taken) ts)
     → Sinks n (primary_reader None room taken) (o ∷ ts)
 unfolding primary_by
 parens_case room taken k w d = sink_symbol _ k (sink_then _ (sink_enclosed room taken _ k w d))
 
+-- a transfer
 pub transfer_case : {n : ℕ} {k : Kind} {t o : Lexeme} {ts : List Lexeme} (room taken : ℕ) → Is (s.Type k) t → Is s.Open o
     → n ≤ length ts → (nat_lt taken room ≡ true → Sinks n (within room taken) ts)
     → Sinks n (primary_reader None room taken) (t ∷ o ∷ ts)
 unfolding primary_by
 transfer_case room taken i j w d = sink_symbol _ i (sink_take _ (sink_then _ (sink_enclosed room taken _ j w d)))
 
+-- a choice whose test holds
 pub chosen : {A : Type 0} (p q : Parser A) (b : Bool) (ts : List Lexeme) → b ≡ true → (if b then p else q) ts ≡ p ts
 chosen p q b ts e = rw e refl
 
@@ -445,6 +484,7 @@ pub comma_turn : (room taken : ℕ) (inner : Parser Found) (es : List tree.Tree)
 unfolding more_arguments followed by_symbol take and_then
 comma_turn room taken inner es z mid i = chosen _ _ (is s.Comma z.symbol) (z ∷ mid) (ap (is s.Comma) i ∙ same_self s.Comma)
 
+-- behind a comma or a semicolon
 pub next_case : {n d k : ℕ} {x : Form} {e : tree.Tree} {z : Lexeme} {ts mid : List Lexeme}
     → g.Level false None 10 k x e ts (z ∷ mid) → Is s.Comma z → n ≤ length mid
     → SinksIn n of_kind.arguments d 0 mid → SinksIn n of_kind.arguments d 0 ts

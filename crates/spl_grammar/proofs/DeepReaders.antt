@@ -20,14 +20,17 @@ on_go : {A : Type 0} (n : ℕ) (m : List Lexeme) (o y : Outcome A) → (o ≡ y)
 on_go n m o y (inl e) l d = rw e d
 on_go n m _ y (inr (deep k)) l d = deep (omega arith)
 
+-- and so the reader is
 deep_on : {A : Type 0} {n : ℕ} {p : Parser A} {ts m : List Lexeme} {y : Outcome A} → Near p ts m y → n ≤ length m
     → DeepBefore n y → Sinks n p ts
 deep_on {n = n} {p = p} {ts = ts} {m = m} {y = y} a l d = record { sinks = on_go n m (p ts) y a.outcome l d }
 
+-- one reader that comes to another
 pub sink_on : {A : Type 0} {n : ℕ} {p q : Parser A} {ts m : List Lexeme} → Near p ts m (q m) → n ≤ length m
     → Sinks n q m → Sinks n p ts
 sink_on a l d = deep_on a l d.sinks
 
+-- a reader that reads the same
 pub sink_from : {A : Type 0} {n : ℕ} {p q : Parser A} {ts : List Lexeme} → p ts ≡ q ts → Sinks n q ts → Sinks n p ts
 sink_from e d = record { sinks = rw e d.sinks }
 
@@ -36,11 +39,13 @@ then_go : {A B : Type 0} (n : ℕ) (f : A → Parser B) (o : Outcome A) → Deep
 unfolding and_then
 then_go n f _ (deep l) = deep l
 
+-- the first of two parts sinks
 pub sink_then : {A B : Type 0} {n : ℕ} {p : Parser A} (f : A → Parser B) {ts : List Lexeme} → Sinks n p ts
     → Sinks n (followed p f) ts
 unfolding followed
 sink_then {n = n} {p = p} f {ts = ts} d = record { sinks = then_go n f (p ts) d.sinks }
 
+-- the second of two parts sinks
 pub sink_behind : {A B : Type 0} {n : ℕ} {p : Parser A} (f : A → Parser B) {a : A} {ts m : List Lexeme}
     → Near p ts m (Got a m) → n ≤ length m → Sinks n (f a) m → Sinks n (followed p f) ts
 sink_behind f a l d = deep_on (near_then f a stays) l d.sinks
@@ -51,14 +56,17 @@ pub sink_symbol : {A : Type 0} {n : ℕ} (f : Symbol → Parser A) {k : Symbol} 
 unfolding by_symbol
 sink_symbol f {t = t} {ts = ts} e d = sink_from (ap (λ k. f k (t ∷ ts)) e) d
 
+-- a choice by whatever symbol
 pub sink_head : {A : Type 0} {n : ℕ} (f : Symbol → Parser A) {t : Lexeme} {ts : List Lexeme}
     → Sinks n (f t.symbol) (t ∷ ts) → Sinks n (by_symbol f) (t ∷ ts)
 sink_head f d = sink_symbol f refl d
 
+-- a choice whose test holds
 pub sink_if : {A : Type 0} {n : ℕ} {p : Parser A} (q : Parser A) {b : Bool} {ts : List Lexeme} → b ≡ true
     → Sinks n p ts → Sinks n (if b then p else q) ts
 sink_if q e d = rw e d
 
+-- a choice whose test fails
 pub sink_else : {A : Type 0} {n : ℕ} (p : Parser A) {q : Parser A} {b : Bool} {ts : List Lexeme} → b ≡ false
     → Sinks n q ts → Sinks n (if b then p else q) ts
 sink_else p e d = rw e d
@@ -69,6 +77,7 @@ pub sink_place : {A : Type 0} {n : ℕ} (f : At → Parser A) {t : Lexeme} {ts :
 unfolding followed at_place and_then
 sink_place f d = record { sinks = d.sinks }
 
+-- behind a token
 pub sink_take : {A : Type 0} {n : ℕ} (f : Lexeme → Parser A) {t : Lexeme} {ts : List Lexeme} → Sinks n (f t) ts
     → Sinks n (followed take f) (t ∷ ts)
 unfolding followed take and_then
@@ -81,6 +90,7 @@ unfolding followed allowed and_then take by_symbol
 sink_allowed true f l d = record { sinks = (d refl).sinks }
 sink_allowed false f l d = record { sinks = deep (omega arith) }
 
+-- behind a parenthesis
 pub sink_opening : {A : Type 0} {n : ℕ} (room taken : ℕ) (f : Lexeme → Parser A) {o : Lexeme} {ts : List Lexeme}
     → Is s.Open o → n ≤ length ts → (nat_lt taken room ≡ true → Sinks n (f o) ts)
     → Sinks n (followed (opening room taken) f) (o ∷ ts)
@@ -95,6 +105,7 @@ sink_opening {A} {n = n} room taken f {o = o} {ts = ts} i l d = go (nat_lt taken
 not_both : {A B : Type 0} (n : ℕ) (us : List Lexeme) (o : Outcome A) → o ≡ Bad us → DeepBefore n o → B
 not_both n us _ e (deep l) = cc
 
+-- a reader that refuses does not sink
 pub not_bad : {A B : Type 0} {n : ℕ} {p : Parser A} {ts us : List Lexeme} → p ts ≡ Bad us → Sinks n p ts → B
 not_bad {n = n} {p = p} {ts = ts} {us = us} e d = not_both n us (p ts) e d.sinks
 
@@ -102,6 +113,7 @@ not_bad {n = n} {p = p} {ts = ts} {us = us} e d = not_both n us (p ts) e d.sinks
 shorter_go : {A : Type 0} {n : ℕ} (o : Outcome A) → DeepBefore n o → n < length (end_of o)
 shorter_go _ (deep l) = l
 
+-- where a reader sinks there is a token
 pub sink_shorter : {A : Type 0} {n : ℕ} {p : Parser A} {ts : List Lexeme} → IsLocal p → Sinks n p ts → n < length ts
 sink_shorter {p = p} {ts = ts} l d = let a = shorter_go (p ts) d.sinks in let b = l.shrinks ts in omega arith
 
@@ -118,6 +130,7 @@ sink_turn {n = n} step {u = u} {ts = ts} d = record { sinks = go d }
 abbrev pub goes_on : {S : Type 0} → S → Bool × S
 goes_on u = (true, u)
 
+-- by the outcome of what the turn begins with
 next_go : {S A : Type 0} (n : ℕ) (step : S → Parser (Bool × S))
     → ((w : S) (us : List Lexeme) → Taking (length us) (step w us)) → (g : A → S) (m : ℕ) (o : Outcome A)
     → length (end_of o) < m → DeepBefore n (and_then o (λ e. repeat step (g e)))
@@ -128,6 +141,7 @@ next_go n step t g m (Got a rest) l d =
 next_go n step t g m (Bad rest) l d = elim d [ ]
 next_go n step t g m (Deep rest) l d = d
 
+-- the next turn of a loop sinks
 pub sink_next : {S A : Type 0} {n : ℕ} (step : S → Parser (Bool × S)) (q : Parser A) (g : A → S) {u : S} {k : Lexeme}
     {mid : List Lexeme} → ((w : S) (us : List Lexeme) → Taking (length us) (step w us)) → IsLocal q
     → step u (k ∷ mid) ≡ followed q (λ e. pure (goes_on (g e))) mid

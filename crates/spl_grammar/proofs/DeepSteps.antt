@@ -40,6 +40,7 @@ use Rattle.spl_grammar.proofs.DeepExpressions.{full, of_level, SinksReference, S
 use Rattle.spl_grammar.proofs.DeepStatements.{statement_sinks}
 use Rattle.spl_grammar.proofs.CompletedExpressions.{not_declared}
 
+-- a primary
 by_primary : {n d : ℕ} {f : Option At} {ts : List Lexeme}
     → ((room taken : ℕ) → d + room ≡ limit + taken → Sinks n (primary_reader f room taken) ts)
     → SinksIn n (of_kind.primary f) d 0 ts
@@ -49,30 +50,37 @@ by_primary h = record { claim = λ room taken sum fits. h room taken sum }
 no_unary : {n d : ℕ} {f : Option At} {ts us : List Lexeme} → SinksIn n of_kind.mark d 0 us → SinksIn n (of_kind.unary f) d 0 ts
 no_unary {d = d} o = record { claim = λ room taken sum fits. over d 0 room taken o.claim sum fits }
 
+-- at a constant of an operand neither
 no_unary_constant : {n d : ℕ} {f : Option At} {ts us : List Lexeme} → SinksIn n of_kind.constant d 0 us
     → SinksIn n (of_kind.unary f) d 0 ts
 no_unary_constant {d = d} o = record { claim = λ room taken sum fits. over d 0 room taken o.claim sum fits }
 
+-- at a mark of a primary neither
 no_primary : {n d : ℕ} {f : Option At} {ts us : List Lexeme} → SinksIn n of_kind.mark d 0 us
     → SinksIn n (of_kind.primary f) d 0 ts
 no_primary {d = d} o = record { claim = λ room taken sum fits. over d 0 room taken o.claim sum fits }
 
+-- the first of some arguments
 argument_case : {n d : ℕ} {ts : List Lexeme} → SinksIn n (of_kind.level false None 10) d 0 ts
     → SinksIn n of_kind.arguments d 0 ts
 unfolding within expression whole
 argument_case o = record { claim = λ room taken inner so_far sum fits. sink_then _ (sink_then _ (o.claim room taken sum fits)) }
 
+-- behind the sign of a constant
 constant_case : {n d k : ℕ} {ts us : List Lexeme} → SinksIn n of_kind.mark d k us → SinksIn n of_kind.constant d k ts
 constant_case o = record { claim = o.claim }
 
+-- the operand of a level
 operand_level : {n d k : ℕ} {c : Bool} {f : Option At} {ts : List Lexeme} → SinksIn n (of_kind.unary f) (d + k / 8) 0 ts
     → SinksIn n (of_kind.level c f 0) d k ts
 unfolding level
 operand_level {k = k} o = record { claim = λ room taken sum fits. sink_then _ (o.claim room (taken + k / 8) (omega arith) (omega arith)) }
 
+-- behind an argument
 arguments_whole : {n d : ℕ} {ts us : List Lexeme} → SinksIn n of_kind.mark d 0 us → SinksIn n of_kind.arguments d 0 ts
 arguments_whole {d = d} o = record { claim = λ room taken inner so_far sum fits. over d 0 room taken o.claim sum fits }
 
+-- by the step
 pub step_sinks : {n d k j m : ℕ} {p q : Part} {ts mid : List Lexeme} → Inside p → Step p d k ts q j m mid → n ≤ length mid
     → (Inside q → SinksIn n q j m mid) → SinksIn n p d k ts
 step_sinks v (op.constant_sign i e) w o = constant_case (o a_mark)

@@ -34,26 +34,32 @@ moved_to a w p = record { to = _; swap = w; whole = record { tree = a; spelled =
 abbrev pub Moves : {A : Type 0} → (A → List Lexeme → List Lexeme → Type 0) → Type 0
 Moves {A} P = (a : A) (ts rest : List Lexeme) → P a ts rest → (more : List Lexeme) → Moved (Some_of P) ts rest more more
 
+-- parts between commas
 pub move_separated : {A : Type 0} {P : A → List Lexeme → List Lexeme → Type 0} {xs : List A} {ts rest : List Lexeme}
     → Moves P → Separated P xs ts rest → (more : List Lexeme) → Moved (Some_of (Separated P)) ts rest more more
 move_separated m (dl.Separated.one p) more = let a = m _ _ _ p more in moved_to _ a.swap (dl.Separated.one a.whole.spelled)
 move_separated m (dl.Separated.more {k = k} p i l) more = let b = move_separated m l more in let a = m _ _ _ p (k ∷ b.to) in
     moved_to _ (along a.swap (behind b.swap)) (dl.Separated.more a.whole.spelled i b.whole.spelled)
 
+-- a name
 moves_name : Moves dl.Name
 moves_name _ _ _ (dl.Name.name i) more = moved_to _ (behind same) (dl.Name.name i)
 
+-- a constant
 moves_constant : Moves g.Constant
 moves_constant _ _ _ v more = let a = move_constant v more in moved_to _ a.swap a.whole.spelled
 
+-- names
 pub move_names : {ns : List Placed} {ts rest : List Lexeme} → dl.Names ns ts rest → (more : List Lexeme)
     → Moved (Some_of dl.Names) ts rest more more
 move_names l more = move_separated moves_name l more
 
+-- constants
 pub move_constants : {vs : List tree.Constant} {ts rest : List Lexeme} → dl.Constants vs ts rest → (more : List Lexeme)
     → Moved (Some_of dl.Constants) ts rest more more
 move_constants l more = move_separated moves_constant l more
 
+-- one name
 pub move_name : {a : Placed} {ts rest : List Lexeme} → dl.Name a ts rest → (more : List Lexeme)
     → Moved (Some_of dl.Name) ts rest more more
 move_name n more = moves_name _ _ _ n more
@@ -64,11 +70,13 @@ pub move_kind : {k : Kind} {ts rest : List Lexeme} → dl.OptionalKind k ts rest
 move_kind dl.OptionalKind.absent more = moved_to _ same dl.OptionalKind.absent
 move_kind (dl.OptionalKind.given i) more = moved_to _ (behind same) (dl.OptionalKind.given i)
 
+-- the type of a result
 pub move_result : {r : Option Kind} {ts rest : List Lexeme} → dl.Result r ts rest → (more : List Lexeme)
     → Moved (Some_of dl.Result) ts rest more more
 move_result dl.Result.absent more = moved_to _ same dl.Result.absent
 move_result (dl.Result.given i) more = moved_to _ (behind same) (dl.Result.given i)
 
+-- OWN
 pub move_own : {b : Bool} {ts rest : List Lexeme} → dl.Own b ts rest → (more : List Lexeme)
     → Moved (Some_of dl.Own) ts rest more more
 move_own dl.Own.absent more = moved_to _ same dl.Own.absent
@@ -80,14 +88,17 @@ moves_item _ _ _ (dl.Item.plain i) more = moved_to _ (behind same) (dl.Item.plai
 moves_item _ _ _ (dl.Item.valued i k v) more = let a = move_constant v more in
     moved_to _ (behind (behind a.swap)) (dl.Item.valued i k a.whole.spelled)
 
+-- an item
 pub move_item : {a : decl.Item} {ts rest : List Lexeme} → dl.Item a ts rest → (more : List Lexeme)
     → Moved (Some_of dl.Item) ts rest more more
 move_item n more = moves_item _ _ _ n more
 
+-- items
 pub move_items : {is : List decl.Item} {ts rest : List Lexeme} → dl.Items is ts rest → (more : List Lexeme)
     → Moved (Some_of dl.Items) ts rest more more
 move_items l more = move_separated moves_item l more
 
+-- an array, with any initial values
 pub move_array : {vs : List tree.Constant} (us : List tree.Constant) {a : decl.Item} {ts rest : List Lexeme}
     → dl.Array vs a ts rest → (more : List Lexeme) → Moved (Some_of (dl.Array us)) ts rest more more
 move_array us (dl.Array.bounds {k = k} {z = z} i o a j b y) more = let n = move_constant b (z ∷ more) in
@@ -97,6 +108,7 @@ move_array us (dl.Array.bounds {k = k} {z = z} i o a j b y) more = let n = move_
 move_array us (dl.Array.view i o m z e b) more =
     moved_to _ (behind (behind (behind (behind (behind (behind same)))))) (dl.Array.view i o m z e b)
 
+-- arrays
 pub move_arrays : {is : List decl.Item} {ts rest : List Lexeme} → dl.Arrays is ts rest → (more : List Lexeme)
     → Moved (Some_of dl.Arrays) ts rest more more
 move_arrays (dl.Arrays.one a) more = let m = move_array [] a more in moved_to _ m.swap (dl.Arrays.one m.whole.spelled)
@@ -113,14 +125,17 @@ move_terms dl.Terms.none more = moved_to _ same dl.Terms.none
 move_terms (dl.Terms.more i b v l) more = let n = move_terms l more in let m = move_constant v n.to in
     moved_to _ (behind (along m.swap n.swap)) (dl.Terms.more i b m.whole.spelled n.whole.spelled)
 
+-- an equation
 moves_equal : Moves dl.Equal
 moves_equal _ _ _ (dl.Equal.equal i j v l) more = let n = move_terms l more in let m = move_constant v n.to in
     moved_to _ (behind (behind (along m.swap n.swap))) (dl.Equal.equal i j m.whole.spelled n.whole.spelled)
 
+-- one equation
 pub move_equal : {a : decl.Equal} {ts rest : List Lexeme} → dl.Equal a ts rest → (more : List Lexeme)
     → Moved (Some_of dl.Equal) ts rest more more
 move_equal n more = moves_equal _ _ _ n more
 
+-- equations
 pub move_equals : {es : List decl.Equal} {ts rest : List Lexeme} → dl.Equals es ts rest → (more : List Lexeme)
     → Moved (Some_of dl.Equals) ts rest more more
 move_equals l more = move_separated moves_equal l more
@@ -132,12 +147,14 @@ move_parameters dl.Parameters.absent more = moved_to _ same dl.Parameters.absent
 move_parameters (dl.Parameters.given {z = z} i l y) more = let m = move_names l (z ∷ more) in
     moved_to _ (behind (along m.swap (behind same))) (dl.Parameters.given i m.whole.spelled y)
 
+-- the parameters by value
 pub move_values : {ns : List Placed} {ts rest : List Lexeme} → dl.Values ns ts rest → (more : List Lexeme)
     → Moved (Some_of dl.Values) ts rest more more
 move_values dl.Values.absent more = moved_to _ same dl.Values.absent
 move_values (dl.Values.given i j l) more = let m = move_names l more in
     moved_to _ (behind (behind m.swap)) (dl.Values.given i j m.whole.spelled)
 
+-- the specifications
 pub move_specs : {ss : List decl.Spec} {ts rest : List Lexeme} → dl.Specs ss ts rest → (more : List Lexeme)
     → Moved (Some_of dl.Specs) ts rest more more
 move_specs dl.Specs.none more = moved_to _ same dl.Specs.none
@@ -152,6 +169,7 @@ move_specs (dl.Specs.arrays {a = a} i k j l ss) more = let n = move_specs ss mor
 pub record SomeOptions (a c : Options) (ts rest : List Lexeme) : Type 0 where
   pub spelled : dl.OptionList a c ts rest
 
+-- options
 pub move_options : {a c : Options} {ts rest : List Lexeme} → dl.OptionList a c ts rest → (more : List Lexeme)
     → Moved (SomeOptions a c) ts rest more more
 move_options (dl.OptionList.one i e f) more = record
@@ -168,10 +186,12 @@ pub record SomeHeading (split : Bool) (segment : ℕ) (ts rest : List Lexeme) : 
   pub alike : tree.segment ≡ segment
   pub spelled : dl.Heading split tree ts rest
 
+-- a heading at the end of a swap
 heading_to : {split : Bool} {h : decl.Heading} {segment : ℕ} {ts rest next to more : List Lexeme} → h.segment ≡ segment
     → Swap rest next ts to → dl.Heading split h to more → Moved (SomeHeading split segment) ts rest next more
 heading_to e w p = record { to = _; swap = w; whole = record { tree = _; alike = e; spelled = p } }
 
+-- a heading
 pub move_heading : {split : Bool} {h : decl.Heading} {ts rest : List Lexeme} → dl.Heading split h ts rest
     → (more : List Lexeme) → Moved (SomeHeading split h.segment) ts rest more more
 move_heading (dl.Heading.heading {p = p} {t = t} {k = k} r i j n v ss z) more = let e = move_specs ss (k ∷ more) in
@@ -179,6 +199,7 @@ move_heading (dl.Heading.heading {p = p} {t = t} {k = k} r i j n v ss z) more = 
     heading_to refl (along b.swap (behind (behind (along c.swap (along d.swap (along e.swap (behind same)))))))
     (dl.Heading.heading b.whole.spelled i j c.whole.spelled d.whole.spelled e.whole.spelled z)
 
+-- the heading of a subroutine, in another segment
 pub move_subroutine : {segment : ℕ} {h : decl.Heading} {ts rest : List Lexeme} (new : ℕ)
     → dl.SubroutineHeading segment h ts rest
     → (more : List Lexeme) → Moved (Some_of (dl.SubroutineHeading new)) ts rest more more
@@ -190,20 +211,24 @@ move_subroutine new (dl.SubroutineHeading.heading {p = p} {t = t} {k = k} r i j 
 
 -- A statement that is a body begins with no BEGIN, and has a token.
 
+-- a reference begins with no BEGIN,
 reference_first : {r : tree.Tree} {ts rest : List Lexeme} → st.Reference r ts rest → begins_block ts ≡ false
 reference_first (st.Reference.name i) = ap is_begin i
 reference_first (st.Reference.element i _ _ _) = ap is_begin i
 
+-- nor does a target,
 target_first : {x : stat.Target} {ts rest : List Lexeme} → st.Target x ts rest → begins_block ts ≡ false
 target_first (st.Target.plain r) = reference_first r
 target_first (st.Target.field r _ _ _ _ _ _) = reference_first r
 target_first (st.Target.address i _) = ap is_begin i
 
+-- nor an effect,
 effect_first : {x : stat.Effect} {ts rest : List Lexeme} → st.Effect x ts rest → begins_block ts ≡ false
 effect_first (st.Effect.move i _ _ _) = ap is_begin i
 effect_first (st.Effect.scan_while i _ _ _) = ap is_begin i
 effect_first (st.Effect.scan_until i _ _ _) = ap is_begin i
 
+-- nor what can be a body
 body_first : {x : stat.Statement} {ts rest : List Lexeme} → st.Statement x ts rest → can_be_body x ≡ true
     → begins_block ts ≡ false
 body_first st.Statement.empty e = cc
@@ -225,6 +250,7 @@ body_first (st.Statement.effect x) e = effect_first x
 body_first (st.Statement.call i) e = ap is_begin i
 body_first (st.Statement.call_with i _ _ _) e = ap is_begin i
 
+-- what can be a body has a token
 longer_body : {x : stat.Statement} {ts rest : List Lexeme} → st.Statement x ts rest → can_be_body x ≡ true
     → length rest < length ts
 longer_body st.Statement.empty e = cc
@@ -248,6 +274,7 @@ longer_body (st.Statement.effect x) e = tk.shorter_effect x
 longer_body (st.Statement.call _) e = omega arith
 longer_body (st.Statement.call_with _ _ x _) e = let a = pt.shorter_arguments x in omega arith
 
+-- true is not false
 true_false : true ≡ false → ⊥
 true_false e = cc
 
@@ -273,6 +300,7 @@ is_body (st.Statement.effect x) e l = refl
 is_body (st.Statement.call i) e l = refl
 is_body (st.Statement.call_with i _ _ _) e l = refl
 
+-- the first token stays
 pub still_no_block : {ts rest next to : List Lexeme} → Swap rest next ts to → length rest < length ts
     → begins_block ts ≡ false → begins_block to ≡ false
 still_no_block same l e = absurd (omega arith)
@@ -294,21 +322,26 @@ pub record SomeBody (segment : ℕ) (ts rest : List Lexeme) : Type 0 where
   pub statements : List stat.Statement
   pub spelled : dl.Body segment items statements ts rest
 
+-- a declaration at the end of a swap
 declaration_to : {u b : Bool} {segment : ℕ} {d : decl.Declaration} {ts rest next to more : List Lexeme} → is_subroutine d ≡ b
     → Swap rest next ts to → dl.Declaration u segment d to more → Moved (SomeDeclaration u segment b) ts rest next more
 declaration_to e w p = record { to = _; swap = w; whole = record { tree = _; alike = e; spelled = p } }
 
+-- the body of an equal segment
 body_at : {a b : ℕ} {ds : List decl.Declaration} {xs : List stat.Statement} {ts rest : List Lexeme} → a ≡ b
     → dl.Body a ds xs ts rest → dl.Body b ds xs ts rest
 body_at e p = rw (← e) p
 
+-- behind an equal flag
 pub list_at : {u : Bool} {a b : Bool} {segment : ℕ} {ds : List decl.Declaration} {ts rest : List Lexeme} → a ≡ b
     → dl.Declarations u a segment ds ts rest → dl.Declarations u b segment ds ts rest
 list_at e p = rw (← e) p
 
+-- the test of an equal flag
 pub test_at : (a b after : Bool) → a ≡ b → (b || not after) ≡ true → (a || not after) ≡ true
 test_at a b after e f = rw e f
 
+-- a single statement as a body
 move_single : {segment : ℕ} {x : stat.Statement} {ts rest : List Lexeme} → st.Statement x ts rest → can_be_body x ≡ true
     → (more : List Lexeme) → Moved (SomeBody segment) ts rest more more
 move_single x e more = let a = move_statement x more in record {

@@ -26,6 +26,7 @@ pub swap_length : {rest more ts us : List Lexeme} → Swap rest more ts us
 swap_length same = omega arith
 swap_length (behind a) = let b = swap_length a in omega arith
 
+-- what is left is no longer
 pub swap_longer : {rest more ts us : List Lexeme} → Swap rest more ts us → length rest ≤ length ts
 swap_longer same = omega arith
 swap_longer (behind a) = let b = swap_longer a in omega arith
@@ -37,6 +38,7 @@ agrees_next t a (inr b) = lr.there b
 agrees_next t same (inl e) = lr.here
 agrees_next t (behind b) (inl e) = let l = swap_longer b in let k = ap (λ xs. length xs) e in absurd (omega arith)
 
+-- by the first token
 pub swap_agrees : {rest more ts us : List Lexeme} → Swap rest more ts us → (ts ≡ rest) ⊎ Agrees rest more ts us
 swap_agrees same = inl refl
 swap_agrees (behind {t = t} a) = inr (agrees_next t a (swap_agrees a))
@@ -74,18 +76,22 @@ pub constant_to : {v : tree.Constant} {ts rest next to more : List Lexeme} → S
     → Moved SomeConstant ts rest next more
 constant_to w s = record { to = _; swap = w; whole = record { tree = _; spelled = s } }
 
+-- a level
 pub level_to : {c : Bool} {f : Option At} {h n : ℕ} {x : Form} {e : tree.Tree} {ts rest next to more : List Lexeme}
     → Swap rest next ts to → g.Level c f h n x e to more → Moved (SomeLevel c f h n x) ts rest next more
 level_to w s = record { to = _; swap = w; whole = record { tree = _; spelled = s } }
 
+-- an operand
 pub unary_to : {f : Option At} {x : Form} {e : tree.Tree} {ts rest next to more : List Lexeme}
     → Swap rest next ts to → g.Unary f x e to more → Moved (SomeUnary f x) ts rest next more
 unary_to w s = record { to = _; swap = w; whole = record { tree = _; spelled = s } }
 
+-- a primary
 pub primary_to : {f : Option At} {x : Form} {e : tree.Tree} {ts rest next to more : List Lexeme}
     → Swap rest next ts to → g.Primary f x e to more → Moved (SomePrimary f x) ts rest next more
 primary_to w s = record { to = _; swap = w; whole = record { tree = _; spelled = s } }
 
+-- arguments
 pub arguments_to : {es : List tree.Tree} {x : Form} {ts rest next to more : List Lexeme} → form_of_call es ≡ x
     → Swap rest next ts to → g.Arguments es to more → Moved (SomeArguments x) ts rest next more
 arguments_to e w s = record { to = _; swap = w; whole = record { trees = _; form = e; spelled = s } }
@@ -118,6 +124,7 @@ of_form : {f : Option At} {x y : Form} {ts rest next more : List Lexeme} → x �
     → Moved (SomePrimary f x) ts rest next more → Moved (SomePrimary f y) ts rest next more
 of_form e p = rw (← e) p
 
+-- lists of several arguments have the same form
 same_form : (d e : tree.Tree) {es fs : List tree.Tree} {ts us vs ws : List Lexeme} → g.Arguments es ts us
     → g.Arguments fs vs ws → form_of_call (d ∷ fs) ≡ form_of_call (e ∷ es)
 same_form d e a b = two_forms d b ∙ sym (two_forms e a)

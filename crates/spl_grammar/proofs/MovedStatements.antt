@@ -51,6 +51,7 @@ pub record SomeStatements (ts rest : List Lexeme) : Type 0 where
   pub trees : List stat.Statement
   pub spelled : st.Statements trees ts rest
 
+-- an expression
 pub move_expression : {e : Tree} {ts rest : List Lexeme} → st.Expression e ts rest → (more : List Lexeme)
     → Moved SomeExpression ts rest more more
 move_expression (st.Expression.expression l) more = let a = move l more in record {
@@ -59,6 +60,7 @@ move_expression (st.Expression.expression l) more = let a = move l more in recor
   whole = record { tree = _; spelled = st.Expression.expression a.whole.spelled };
 }
 
+-- a condition
 pub move_condition : {e : Tree} {ts rest : List Lexeme} → st.Condition e ts rest → (more : List Lexeme)
     → Moved SomeCondition ts rest more more
 move_condition (st.Condition.condition l) more = let a = move l more in record {
@@ -67,6 +69,7 @@ move_condition (st.Condition.condition l) more = let a = move l more in record {
   whole = record { tree = _; spelled = st.Condition.condition a.whole.spelled };
 }
 
+-- a reference
 pub move_reference : {r : Tree} {ts rest : List Lexeme} → st.Reference r ts rest → (more : List Lexeme)
     → Moved SomeReference ts rest more more
 move_reference (st.Reference.name i) more = record {
@@ -80,6 +83,7 @@ move_reference (st.Reference.element {z = z} i j e y) more = let b = move_expres
   whole = record { tree = _; spelled = st.Reference.element i j b.whole.spelled y };
 }
 
+-- a target
 pub move_target : {x : stat.Target} {ts rest : List Lexeme} → st.Target x ts rest → (more : List Lexeme)
     → Moved SomeTarget ts rest more more
 move_target (st.Target.plain r) more = let a = move_reference r more in record {
@@ -100,6 +104,7 @@ move_target (st.Target.address i j) more = record {
   whole = record { tree = _; spelled = st.Target.address i j };
 }
 
+-- a source
 pub move_source : {x : stat.Source} {ts rest : List Lexeme} → st.Source x ts rest → (more : List Lexeme)
     → Moved SomeSource ts rest more more
 move_source (st.Source.counted {k = k} {o = o} {z = z} r i j e y) more = let b = move_expression e (z ∷ more) in
@@ -119,6 +124,7 @@ move_source (st.Source.while_class {k = k} {t = t} r i j e) more = let a = move_
   whole = record { tree = _; spelled = st.Source.while_class a.whole.spelled i j e };
 }
 
+-- an effect
 pub move_effect : {x : stat.Effect} {ts rest : List Lexeme} → st.Effect x ts rest → (more : List Lexeme)
     → Moved SomeEffect ts rest more more
 move_effect (st.Effect.move {k = k} i r j x) more = let b = move_source x more in
@@ -140,6 +146,7 @@ move_effect (st.Effect.scan_until {k = k} i r j e) more = let b = move_expressio
       whole = record { tree = _; spelled = st.Effect.scan_until i a.whole.spelled j b.whole.spelled };
     }
 
+-- a test
 pub move_test : {q : stat.Test} {ts rest : List Lexeme} → st.Test q ts rest → (more : List Lexeme)
     → Moved SomeTest ts rest more more
 move_test (st.Test.condition e) more = let a = move_condition e more in record {
@@ -153,6 +160,7 @@ move_test (st.Test.code i b) more = record {
   whole = record { tree = _; spelled = st.Test.code i b };
 }
 
+-- a step, or none
 pub move_stepped : {es : List Tree} {ts rest : List Lexeme} → st.Stepped es ts rest → (more : List Lexeme)
     → Moved SomeStepped ts rest more more
 move_stepped st.Stepped.absent more = record {
@@ -166,6 +174,7 @@ move_stepped (st.Stepped.step i e) more = let a = move_expression e more in reco
   whole = record { trees = _; spelled = st.Stepped.step i a.whole.spelled };
 }
 
+-- a statement at the end of a swap
 pub statement_to : {x y : stat.Statement} {ts rest next to more : List Lexeme} → closed y ≡ closed x
     → Swap rest next ts to → st.Statement y to more → Moved (SomeStatement x) ts rest next more
 statement_to e w s = record { to = _; swap = w; whole = record { tree = _; alike = e; spelled = s } }

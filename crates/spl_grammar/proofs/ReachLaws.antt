@@ -68,10 +68,12 @@ like_reach mid next a _ _ (lr.bad h) l (inr d) = elim d [ ]
 like_reach mid next a _ _ (lr.deep h) l e = inr (deep (agrees_longer h))
 like_reach mid next a o p (lr.past h) l e = inl h
 
+-- a list with a token behind it has one
 append_one : (ts : List Lexeme) (t : Lexeme) → 1 ≤ length (ts ++ t ∷ [])
 append_one [] t = omega arith
 append_one (u ∷ ts) t = omega arith
 
+-- so no chain goes over what the reader leaves
 no_further : {A : Type 0} {p : Part} {r : Parser A} {ts mid : List Lexeme} → IsLocal r → Completed p ts mid
     → (part_of : (us : List Lexeme) → Whole p us (a_semicolon ∷ []) → A)
     → ((us : List Lexeme) (x : Whole p us (a_semicolon ∷ [])) → Near r us (a_semicolon ∷ []) (Got (part_of us x) (a_semicolon ∷ [])))
@@ -96,18 +98,21 @@ reach_of j k mid o (inl l) f = go (nat_lt limit (nesting j k)) refl
     go true e = sinks (f (grind (arith, nat_tests, e)))
     go false e = goes_on l (grind (arith, nat_tests, e))
 
+-- expressions
 pub expressions_reach : ChainsReach (op.level false None 10) (λ room. expression room 0)
 expressions_reach room d q j k ts mid sum c = reach_of j k mid (expression room 0 ts)
     (no_further (local_expression room 0) (completed free c) (λ us x. x.tree)
     (λ us x. expression_read x.spelled (follow_stopper refl semicolon) room 0))
     (λ w. (expr_sinks (chain_sinks free c w) room sum).sinks)
 
+-- conditions
 pub conditions_reach : ChainsReach (op.level true None 10) (λ room. condition room 0)
 conditions_reach room d q j k ts mid sum c = reach_of j k mid (condition room 0 ts)
     (no_further (local_condition room 0) (completed free c) (λ us x. x.tree)
     (λ us x. condition_read x.spelled (follow_stopper refl semicolon) room 0))
     (λ w. (cond_sinks (chain_sinks free c w) room sum).sinks)
 
+-- statements
 pub statements_reach : ChainsReach of_kind.statement statement
 statements_reach room d q j k ts mid sum c = reach_of j k mid (statement room ts)
     (no_further (local_statement room) (completed a_statement c) (λ us x. x.tree)
@@ -116,26 +121,32 @@ statements_reach room d q j k ts mid sum c = reach_of j k mid (statement room ts
 
 -- What follows where reading is too deep, where it answers a part, and where it has a fault.
 
+-- by the claim
 deep_go : {A : Type 0} (j k : ℕ) (mid us : List Lexeme) (o : Outcome A) → Reaches j k mid o → o ≡ Deep us
     → length us ≤ length mid → nesting j k ≤ limit
 deep_go j k mid us _ (sinks (deep i)) e l = let m = ap (λ o. length (end_of o)) e in absurd (omega arith)
 deep_go j k mid us o (goes_on i n) e l = n
 
+-- where it is too deep
 pub deep_first : {A : Type 0} (p : Part) (read : ℕ → Parser A) → ChainsReach p read → DeepFirst p read
 deep_first p read h room d q j k ts mid us sum c e l = deep_go j k mid us (read room ts) (h room d q j k ts mid sum c) e l
 
+-- by the claim
 longest_go : {A : Type 0} (j k : ℕ) (mid us : List Lexeme) (a : A) (o : Outcome A) → Reaches j k mid o → o ≡ Got a us
     → length us ≤ length mid
 longest_go j k mid us a _ (sinks (deep i)) e = cc
 longest_go j k mid us a o (goes_on i n) e = let m = ap (λ o. length (end_of o)) e in omega arith
 
+-- where a part was read
 pub longest : {A : Type 0} (p : Part) (read : ℕ → Parser A) → ChainsReach p read → Longest p read
 longest p read h room d q j k ts mid us a sum c e = longest_go j k mid us a (read room ts) (h room d q j k ts mid sum c) e
 
+-- by the claim
 fault_go : {A : Type 0} (j k : ℕ) (mid us : List Lexeme) (o : Outcome A) → Reaches j k mid o → o ≡ Bad us
     → length us ≤ length mid
 fault_go j k mid us _ (sinks (deep i)) e = cc
 fault_go j k mid us o (goes_on i n) e = let m = ap (λ o. length (end_of o)) e in omega arith
 
+-- where a fault stands
 pub fault_first : {A : Type 0} (p : Part) (read : ℕ → Parser A) → ChainsReach p read → FaultFirst p read
 fault_first p read h room d q j k ts mid us sum c e = fault_go j k mid us (read room ts) (h room d q j k ts mid sum c) e

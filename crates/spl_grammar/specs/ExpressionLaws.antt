@@ -70,6 +70,7 @@ ExpressionPrefixesAreCompleted = (q : op.Part) (d n j k : ℕ) (ts mid : List Le
     → op.Opens (op.level false None 10) d n ts q j k mid
     → Completes (λ us rest. (e : tree.Tree) × Spelled e us rest) ts mid
 
+-- And behind those of each chain of a condition a condition.
 abbrev pub ConditionPrefixesAreCompleted : Type 0
 ConditionPrefixesAreCompleted = (q : op.Part) (d n j k : ℕ) (ts mid : List Lexeme)
     → op.Opens (op.level true None 10) d n ts q j k mid
@@ -79,12 +80,15 @@ ConditionPrefixesAreCompleted = (q : op.Part) (d n j k : ℕ) (ts mid : List Lex
 abbrev pub ExpressionsReach : Type 0
 ExpressionsReach = ChainsReach (op.level false None 10) (λ room. expression room 0)
 
+-- Where an expression is too deep at a token, no chain over the tokens before it has more open than may be.
 abbrev pub ExpressionsSinkFirst : Type 0
 ExpressionsSinkFirst = DeepFirst (op.level false None 10) (λ room. expression room 0)
 
+-- No chain goes over the token behind an expression that was read.
 abbrev pub ExpressionsAreLongest : Type 0
 ExpressionsAreLongest = Longest (op.level false None 10) (λ room. expression room 0)
 
+-- No chain of an expression goes over the token at which a fault stands.
 abbrev pub ExpressionsFailFirst : Type 0
 ExpressionsFailFirst = FaultFirst (op.level false None 10) (λ room. expression room 0)
 
@@ -92,11 +96,14 @@ ExpressionsFailFirst = FaultFirst (op.level false None 10) (λ room. expression 
 abbrev pub ConditionsReach : Type 0
 ConditionsReach = ChainsReach (op.level true None 10) (λ room. condition room 0)
 
+-- Where a condition is too deep at a token, no chain over the tokens before it has more open than may be.
 abbrev pub ConditionsSinkFirst : Type 0
 ConditionsSinkFirst = DeepFirst (op.level true None 10) (λ room. condition room 0)
 
+-- No chain goes over the token behind a condition that was read.
 abbrev pub ConditionsAreLongest : Type 0
 ConditionsAreLongest = Longest (op.level true None 10) (λ room. condition room 0)
 
+-- No chain of a condition goes over the token at which a fault stands.
 abbrev pub ConditionsFailFirst : Type 0
 ConditionsFailFirst = FaultFirst (op.level true None 10) (λ room. condition room 0)

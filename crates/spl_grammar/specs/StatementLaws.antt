@@ -46,11 +46,14 @@ StatementPrefixesAreCompleted = (q : Part) (d n j k : ℕ) (ts mid : List Lexeme
 abbrev pub StatementsReach : Type 0
 StatementsReach = ChainsReach part.statement statement
 
+-- Where a statement is too deep at a token, no chain over the tokens before it has more open than may be.
 abbrev pub StatementsSinkFirst : Type 0
 StatementsSinkFirst = DeepFirst part.statement statement
 
+-- No chain goes over the token behind a statement that was read.
 abbrev pub StatementsAreLongest : Type 0
 StatementsAreLongest = Longest part.statement statement
 
+-- No chain of a statement goes over the token at which a fault stands.
 abbrev pub StatementsFailFirst : Type 0
 StatementsFailFirst = FaultFirst part.statement statement

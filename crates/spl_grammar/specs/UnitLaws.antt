@@ -39,12 +39,13 @@ TextsSpellOneUnit = (lexed : Lexed) (a b : SplUnit) → Spells a lexed → Spell
     → (unit_tree a ≡ unit_tree b) × (a.subprogram ≡ b.subprogram) ×
     (map letters a.segments.items ≡ map letters b.segments.items)
 
--- Behind the tokens of each chain a declaration can be completed, in whatever segment, and a unit, which ends the text.
+-- Behind the tokens of each chain a declaration can be completed, in whatever segment.
 abbrev pub DeclarationPrefixesAreCompleted : Type 0
 DeclarationPrefixesAreCompleted = (procedures after : Bool) (q : Part) (d n j k : ℕ) (ts mid : List Lexeme)
     → Opens (part.declaration procedures after) d n ts q j k mid
     → Completes (λ us rest. (segment : ℕ) → (x : decl.Declaration) × dl.Declaration procedures segment x us rest) ts mid
 
+-- And a unit, which is whole where nothing follows.
 abbrev pub UnitPrefixesAreCompleted : Type 0
 UnitPrefixesAreCompleted = (q : Part) (d n j k : ℕ) (ts mid : List Lexeme) → Opens part.unit d n ts q j k mid
     → Completes (λ us rest. rest ≡ [] → (u : UnitTree) × Unit_of u us) ts mid
