@@ -1,5 +1,5 @@
 -- Each open prefix of a declaration and of a unit can be completed, one production at a time.
-use Rattle.std.proofs.Common.{ℕ, suc, ◌≡◌, ◌<◌, ◌≤◌, ◌||◌, ◌&&◌, not, Bool, true, false, if◌then◌else◌, List, [], ◌∷◌, ◌++◌, length, codes, Option, Some, None, refl, arith, ap, ap₂, sym, ◌∙◌, ◌⊎◌, inl, inr, append_assoc}
+use Rattle.std.proofs.Common.{ℕ, ◌≡◌, ◌<◌, ◌≤◌, ◌||◌, ◌&&◌, not, Bool, true, false, List, [], ◌∷◌, ◌++◌, length, codes, Some, refl, arith, ap, ap₂, sym, ◌∙◌, ◌⊎◌, inl, inr, append_assoc}
 use Rattle.spl_tree.specs.declared.expressions.Kind.{Kind}
 use Rattle.spl_tree.specs.declared.expressions.Kind.TheVariants as kind
 use Rattle.spl_tree.specs.declared.symbols.Symbol.TheVariants as s
@@ -17,17 +17,15 @@ use Rattle.spl_tree.specs.Declarations as dl
 use Rattle.spl_tree.specs.Declarations.{Options, both, fit, option_of, no_options, is_subroutine, can_be_body}
 use Rattle.spl_tree.specs.Units as un
 use Rattle.spl_tree.specs.Units.{segment_at}
-use Rattle.spl_tree.specs.OpenExpressions as op
-use Rattle.spl_tree.specs.OpenStatements.{StatementStep}
 use Rattle.spl_tree.specs.OpenDeclarations as od
 use Rattle.spl_tree.specs.OpenDeclarations.{DeclarationStep, begins_block}
 use Rattle.spl_tree.specs.Parts as part
 use Rattle.spl_tree.specs.Parts.{Part}
-use Rattle.spl_grammar.proofs.MovedParts.{Swap, same, behind, along, swap_length, swap_longer, Moved, move_constant}
-use Rattle.spl_grammar.proofs.MovedStatements.{move_statement, move_statements}
-use Rattle.spl_grammar.proofs.MovedDeclarations.{Some_of, move_name, move_names, move_constants, move_kind, move_result, move_own, move_item, move_items, move_array, move_arrays, move_terms, move_equal, move_equals, move_parameters, move_values, move_specs, SomeOptions, move_options, SomeHeading, move_heading, is_body, still_no_block, SomeDeclaration, SomeDeclarations, SomeBody, move_declaration, move_declarations, move_body, test_at, list_at}
-use Rattle.spl_grammar.proofs.CompletedParts.{EndedOptions, RawHeading, raw, AnyDeclaration, AnyUnit, Whole, Inside, a_constant, a_statement, some_statements, a_mark, Refilled, filled, Completed, open_at, token, word, a_name, a_number}
-use Rattle.spl_grammar.proofs.CompletedExpressions.{completed, nothing_or}
+use Rattle.spl_grammar.proofs.MovedParts.{Swap, same, behind, along, swap_length, Moved, move_constant}
+use Rattle.spl_grammar.proofs.MovedStatements.{move_statements}
+use Rattle.spl_grammar.proofs.MovedDeclarations.{Some_of, move_name, move_names, move_kind, move_result, move_own, move_item, move_array, move_terms, move_equal, move_parameters, move_values, move_specs, move_options, move_heading, is_body, still_no_block, SomeDeclaration, SomeDeclarations, SomeBody, move_declaration, move_declarations, test_at, list_at}
+use Rattle.spl_grammar.proofs.CompletedParts.{EndedOptions, RawHeading, raw, AnyDeclaration, AnyUnit, Whole, Refilled, filled, Completed, open_at, token, word, a_name, a_number}
+use Rattle.spl_grammar.proofs.CompletedExpressions.{nothing_or}
 
 -- an open part, and the marks behind it
 around_part : {p q : Part} {ts mid rest : List Lexeme} (marks : List Lexeme) → Completed q mid rest

@@ -1,11 +1,10 @@
 -- Each open prefix can be completed, said with the list of tokens in front of what is left.
-use Rattle.std.proofs.Common.{ℕ, zero, suc, ◌+◌, ◌-◌, ◌≡◌, ◌≤◌, false, List, [], ◌∷◌, ◌++◌, length, take, refl, arith, ap}
+use Rattle.std.proofs.Common.{ℕ, zero, suc, ◌+◌, ◌-◌, ◌≡◌, List, [], ◌∷◌, ◌++◌, length, take, refl, arith, ap}
 use Rattle.spl_tree.specs.Symbols.{Lexeme}
-use Rattle.spl_tree.specs.Trees as tree
 use Rattle.spl_tree.specs.Parts.{Part}
-use Rattle.spl_grammar.specs.Answers.{Completes, Spelled, SpelledCondition}
+use Rattle.spl_grammar.specs.Answers.{Completes}
 use Rattle.spl_grammar.proofs.MovedParts.{Swap, same, behind, swap_longer}
-use Rattle.spl_grammar.proofs.CompletedParts.{AnyLevel, AnyStatement, Whole, Completed}
+use Rattle.spl_grammar.proofs.CompletedParts.{Whole, Completed}
 
 -- what is left follows so many tokens
 front_left : {rest next ts to : List Lexeme} (n : ℕ) → Swap rest next ts to → n + length rest ≡ length ts

@@ -1,5 +1,5 @@
 -- Each open prefix of a part can be completed: the words for it, and the tokens with which a part that has not begun is whole.
-use Rattle.std.proofs.Common.{ℕ, zero, suc, ◌≡◌, ◌==◌, ◌<◌, ◌≤◌, ◌+◌, ◌||◌, not, Bool, true, false, List, [], ◌∷◌, ◌++◌, length, codes, Option, Some, None, refl, arith, ap, sym, ◌∙◌, append_assoc}
+use Rattle.std.proofs.Common.{ℕ, zero, suc, ◌≡◌, ◌==◌, ◌≤◌, ◌||◌, not, Bool, true, false, List, [], ◌∷◌, ◌++◌, length, codes, Option, Some, None, refl, arith, ap, append_assoc}
 use Rattle.std.proofs.lemmas.Bool.Decides.{nat_tests}
 use Rattle.spl_tree.specs.declared.names_and_places.At.{At}
 use Rattle.spl_tree.specs.declared.symbols.Symbol.{Symbol}
@@ -7,7 +7,7 @@ use Rattle.spl_tree.specs.declared.symbols.Symbol.TheVariants as s
 use Rattle.spl_tree.specs.declared.symbols.Reserved.{Reserved}
 use Rattle.spl_tree.specs.declared.symbols.Reserved.TheVariants as w
 use Rattle.spl_tree.specs.Symbols.{Lexeme, Is}
-use Rattle.spl_tree.specs.Operators.{Form, reference}
+use Rattle.spl_tree.specs.Operators.{Form}
 use Rattle.spl_tree.specs.Expressions as g
 use Rattle.spl_tree.specs.Trees as tree
 use Rattle.spl_tree.specs.StatementTrees as stat
@@ -20,7 +20,7 @@ use Rattle.spl_tree.specs.Declarations.{Options, is_subroutine}
 use Rattle.spl_tree.specs.Units.{Unit_of}
 use Rattle.spl_tree.specs.Parts as part
 use Rattle.spl_tree.specs.Parts.{Part}
-use Rattle.spl_grammar.proofs.MovedParts.{Swap, same, behind, along, swap_length, swap_longer, Moved, SomeConstant}
+use Rattle.spl_grammar.proofs.MovedParts.{Swap, same, behind, swap_length, swap_longer, SomeConstant}
 use Rattle.spl_grammar.proofs.MovedDeclarations.{Some_of, SomeDeclarations, SomeBody}
 use Rattle.spl_grammar.proofs.MovedStatements.{SomeReference, SomeSource, SomeEffect, SomeTest, SomeStatements}
 

@@ -1,8 +1,8 @@
 -- Each open prefix of a statement can be completed, one production at a time.
-use Rattle.std.proofs.Common.{ℕ, suc, ◌≡◌, Bool, true, false, List, [], ◌∷◌, ◌++◌, Option, Some, None, refl}
+use Rattle.std.proofs.Common.{ℕ, ◌≡◌, true, false, List, [], ◌∷◌, Some, None, refl}
 use Rattle.spl_tree.specs.declared.symbols.Symbol.TheVariants as s
 use Rattle.spl_tree.specs.declared.symbols.Reserved.TheVariants as wd
-use Rattle.spl_tree.specs.Symbols.{Lexeme, Is}
+use Rattle.spl_tree.specs.Symbols.{Lexeme}
 use Rattle.spl_tree.specs.Expressions as g
 use Rattle.spl_tree.specs.Trees.{Tree}
 use Rattle.spl_tree.specs.StatementTrees as stat
@@ -11,11 +11,10 @@ use Rattle.spl_tree.specs.Statements as st
 use Rattle.spl_tree.specs.Statements.{class_of}
 use Rattle.spl_tree.specs.OpenStatements as op
 use Rattle.spl_tree.specs.OpenStatements.{StatementStep}
-use Rattle.spl_tree.specs.Parts as part
 use Rattle.spl_tree.specs.Parts.{Part}
-use Rattle.spl_grammar.proofs.MovedParts.{Swap, same, behind, along, Moved, move_constant, move_arguments}
-use Rattle.spl_grammar.proofs.MovedStatements.{SomeExpression, SomeCondition, SomeReference, SomeSource, SomeEffect, SomeTest, SomeStatements, move_expression, move_condition, move_reference, move_target, move_source, move_effect, move_test, move_stepped, still_closed, move_statement, move_statements}
-use Rattle.spl_grammar.proofs.CompletedParts.{AnyLevel, AnyStatement, Inside, free, a_constant, some_arguments, a_reference, a_source, an_effect, a_test, a_statement, some_statements, a_mark, Refilled, filled, Completed, around, open_at, token, word, a_name, a_number, a_class, one_level, one_expression}
+use Rattle.spl_grammar.proofs.MovedParts.{same, behind, along, move_constant, move_arguments}
+use Rattle.spl_grammar.proofs.MovedStatements.{SomeExpression, SomeCondition, SomeReference, SomeSource, SomeEffect, SomeTest, SomeStatements, move_expression, move_condition, move_reference, move_target, move_test, move_stepped, still_closed, move_statement, move_statements}
+use Rattle.spl_grammar.proofs.CompletedParts.{AnyLevel, AnyStatement, Inside, free, a_constant, some_arguments, a_reference, a_source, an_effect, a_test, a_statement, some_statements, filled, Completed, around, open_at, token, word, a_name, a_number, a_class, one_level, one_expression}
 
 -- a level as an expression or a condition
 expr : {ts rest : List Lexeme} (l : AnyLevel false None 10 ts rest) → st.Expression l.tree ts rest

@@ -1,5 +1,5 @@
 -- Each open prefix of a declaration and of a unit can be completed, along the whole chain.
-use Rattle.std.proofs.Common.{ℕ, ◌≡◌, ◌||◌, not, Bool, true, false, List, [], ◌∷◌, ◌++◌, Option, Some, None, refl, ◌⊎◌, inl, inr}
+use Rattle.std.proofs.Common.{ℕ, ◌≡◌, Bool, true, List, [], ◌∷◌, refl, ◌⊎◌, inl, inr}
 use Rattle.spl_tree.specs.declared.symbols.Symbol.TheVariants as s
 use Rattle.spl_tree.specs.declared.symbols.Reserved.{Reserved}
 use Rattle.spl_tree.specs.declared.symbols.Reserved.TheVariants as wd
@@ -14,7 +14,7 @@ use Rattle.spl_tree.specs.OpenDeclarations as od
 use Rattle.spl_tree.specs.OpenDeclarations.{DeclarationStep}
 use Rattle.spl_tree.specs.Parts as part
 use Rattle.spl_tree.specs.Parts.{Part}
-use Rattle.spl_grammar.proofs.MovedParts.{same, behind}
+use Rattle.spl_grammar.proofs.MovedParts.{same}
 use Rattle.spl_grammar.proofs.CompletedParts.{raw, Inside, a_constant, a_statement, some_statements, a_mark, filled, Completed, token, word, a_name, a_number}
 use Rattle.spl_grammar.proofs.CompletedExpressions.{completed}
 use Rattle.spl_grammar.proofs.CompletedDeclarations.{some, one_name, last_option, one_option, as_subroutine, of_declaration_tree, of_declarations, return_body, of_unit, declaration_completed}

@@ -1,5 +1,5 @@
 -- Where more is open than may be, reading an expression is too deep, one production at a time.
-use Rattle.std.proofs.Common.{ℕ, zero, suc, ◌+◌, ◌/◌, ◌≡◌, ◌==◌, ◌&&◌, ◌<◌, ◌≤◌, Bool, true, false, if◌then◌else◌, List, [], ◌∷◌, ◌++◌, length, Option, Some, None, refl, arith, ap, sym, ◌∙◌, ◌⊎◌, inl, inr, nat_lt, nat_le}
+use Rattle.std.proofs.Common.{ℕ, zero, suc, ◌+◌, ◌/◌, ◌≡◌, ◌==◌, ◌&&◌, ◌<◌, ◌≤◌, Bool, true, false, if◌then◌else◌, List, [], ◌∷◌, ◌++◌, length, Option, Some, None, refl, arith, ap, ◌∙◌, ◌⊎◌, inl, inr, nat_lt, nat_le}
 use Rattle.std.proofs.lemmas.Bool.Decides.{nat_tests}
 use Rattle.spl_tree.specs.declared.names_and_places.At.{At}
 use Rattle.spl_tree.specs.declared.symbols.Symbol.{Symbol}
@@ -16,25 +16,24 @@ use Rattle.spl_tree.specs.Parts.{Part}
 use Rattle.spl_tree.specs.Trees as tree
 use Rattle.spl_tree.specs.StatementTrees as stat
 use Rattle.spl_grammar.specs.Readers.{Outcome, Got, Bad, Parser, and_then, followed, pure, refuse, by_symbol, take, at_place, repeat, same_symbol, symbol_number}
-use Rattle.spl_grammar.specs.ReadExpressions.{Found, is, operator_of, field, negative_by, enter, enclosed, more_arguments, arguments, named, addressed, primary_by, inverse, primary, unary_step, counted, signed_by_next, first, join, shifted, bytes, turn, turn_by, level, whole, unary, expression, within}
+use Rattle.spl_grammar.specs.ReadExpressions.{Found, is, operator_of, negative_by, enter, enclosed, more_arguments, arguments, named, addressed, primary_by, inverse, primary, unary_step, counted, signed_by_next, first, join, shifted, bytes, turn, turn_by, level, whole, unary, expression, within}
 use Rattle.spl_grammar.specs.ReadStatements.{reference, source, effect, test, statement, statement_step, more_statements}
 use Rattle.spl_grammar.proofs.LocalReaders.{IsLocal, end_of}
 use Rattle.spl_grammar.proofs.LocalReaders as lr
 use Rattle.spl_grammar.proofs.LocalExpressions.{local_primary_by, local_negative, takes_more, local_within, local_unary, local_level}
-use Rattle.spl_grammar.proofs.NearReaders.{DeepBefore, deep, Near, near_if, near_else, near_expect, same_self}
+use Rattle.spl_grammar.proofs.NearReaders.{DeepBefore, deep, near_else, near_expect, same_self}
 use Rattle.spl_grammar.proofs.PartTokens as pt
 use Rattle.spl_grammar.proofs.SameSymbol.{same_is}
 use Rattle.spl_grammar.proofs.FollowLemmas.{follow_is, stops_close, stops_comma, stops_operator, stops_mark, stops_comma_below, not_mark}
-use Rattle.spl_grammar.proofs.ExpressionClaims.{behind_not, unary_is, counts, part, loop, local_counts, seen, found, part_of, loop_of, expression_of, near_level, stays}
+use Rattle.spl_grammar.proofs.ExpressionClaims.{behind_not, unary_is, counts, part, local_counts, seen, found, part_of, loop_of, expression_of, near_level, stays}
 use Rattle.spl_grammar.proofs.CompleteLevels.{seen_else, binds_more, not_sum, no_operator, is_one, is_eight, below_eight, not_three, is_zero}
 use Rattle.spl_grammar.proofs.CompleteExpressions.{complete, primary_reader}
 use Rattle.spl_grammar.proofs.ExplainReaders.{followed_assoc}
 use Rattle.spl_grammar.proofs.ExplainReaders as er
 use Rattle.spl_grammar.proofs.SoundExpressions.{level_explained, unary_explained, within_explained}
 use Rattle.spl_grammar.proofs.LevelFacts as lf
-use Rattle.spl_grammar.proofs.MovedParts.{Swap, swap_agrees, move}
-use Rattle.spl_grammar.proofs.MovedParts as mv
-use Rattle.spl_grammar.proofs.CompletedParts.{Inside, free, minus, a_constant, an_operand, a_primary, some_arguments, a_mark, inside_below, token}
+use Rattle.spl_grammar.proofs.MovedParts.{swap_agrees, move}
+use Rattle.spl_grammar.proofs.CompletedParts.{Inside, free, minus, token}
 use Rattle.spl_grammar.proofs.DeepReaders.{Sinks, sink_on, sink_from, sink_then, sink_behind, sink_symbol, sink_head, sink_if, sink_else, sink_place, sink_take, sink_allowed, sink_opening, not_bad, sink_shorter, sink_turn, sink_next, goes_on}
 
 -- a reference, which a statement can begin with

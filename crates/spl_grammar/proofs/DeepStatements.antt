@@ -1,5 +1,5 @@
 -- Where more is open than may be, reading a statement is too deep, one production at a time.
-use Rattle.std.proofs.Common.{ℕ, zero, suc, ◌+◌, ◌/◌, ◌≡◌, ◌==◌, ◌||◌, ◌<◌, ◌≤◌, Bool, true, false, if◌then◌else◌, List, [], ◌∷◌, ◌++◌, length, Option, Some, None, refl, arith, ap, sym, ◌∙◌, ◌⊎◌, inl, inr, nat_lt}
+use Rattle.std.proofs.Common.{ℕ, zero, suc, ◌+◌, ◌/◌, ◌≡◌, ◌||◌, ◌<◌, ◌≤◌, Bool, true, false, if◌then◌else◌, List, [], ◌∷◌, ◌++◌, length, None, refl, arith, ap, ◌∙◌, ◌⊎◌, inl, inr, nat_lt}
 use Rattle.std.proofs.lemmas.Bool.Decides.{nat_tests}
 use Rattle.spl_tree.specs.declared.symbols.Symbol.{Symbol}
 use Rattle.spl_tree.specs.declared.symbols.Symbol.TheVariants as s
@@ -7,7 +7,6 @@ use Rattle.spl_tree.specs.declared.symbols.Reserved.{Reserved}
 use Rattle.spl_tree.specs.declared.symbols.Reserved.TheVariants as wd
 use Rattle.spl_tree.specs.Symbols.{Lexeme, Is}
 use Rattle.spl_tree.specs.Operators.{is_sign}
-use Rattle.spl_tree.specs.Expressions as g
 use Rattle.spl_tree.specs.Trees.{Tree}
 use Rattle.spl_tree.specs.StatementTrees as stat
 use Rattle.spl_tree.specs.StatementTrees.{closed}
@@ -19,22 +18,22 @@ use Rattle.spl_tree.specs.OpenStatements as op
 use Rattle.spl_tree.specs.OpenStatements.{StatementStep}
 use Rattle.spl_tree.specs.Parts as of_kind
 use Rattle.spl_tree.specs.Parts.{Part}
-use Rattle.spl_grammar.specs.Readers.{Outcome, Got, Bad, Parser, and_then, followed, pure, refuse, by_symbol, take, at_place, expect, repeat, same_symbol, symbol_number, reserved_number}
-use Rattle.spl_grammar.specs.ReadExpressions.{is, operator_of, enter, enclosed, arguments, within, expression, condition, whole}
-use Rattle.spl_grammar.specs.ReadStatements.{indexed, reference, source_behind, source, while_or_until, move, scan, effect, begins_effect, test, value, stepped, go_name, more_statements, statement_list, labelled, with_arguments, named_statement, block, else_behind, if_statement, while_statement, do_statement, for_statement, case_statement, effect_statement, by_word, statement_by, statement_step, statement}
+use Rattle.spl_grammar.specs.Readers.{Bad, Parser, and_then, followed, pure, refuse, by_symbol, take, expect, same_symbol, symbol_number}
+use Rattle.spl_grammar.specs.ReadExpressions.{is, operator_of, enter, arguments, within, expression, condition, whole}
+use Rattle.spl_grammar.specs.ReadStatements.{indexed, reference, source_behind, source, while_or_until, move, scan, effect, begins_effect, test, value, stepped, more_statements, statement_list, labelled, with_arguments, named_statement, block, else_behind, if_statement, while_statement, do_statement, for_statement, case_statement, effect_statement, by_word, statement_by, statement_step, statement}
 use Rattle.spl_grammar.specs.Following as af
 use Rattle.spl_grammar.proofs.LocalReaders.{IsLocal}
 use Rattle.spl_grammar.proofs.LocalStatements.{local_reference, local_effect, takes_more_statements, local_statement}
-use Rattle.spl_grammar.proofs.NearReaders.{Near, near_then, near_pure, near_take, near_symbol, near_if, near_else, near_expect, same_self}
+use Rattle.spl_grammar.proofs.NearReaders.{near_then, near_pure, near_take, near_symbol, near_if, near_else, near_expect, same_self}
 use Rattle.spl_grammar.proofs.FirstTokens as ft
 use Rattle.spl_grammar.proofs.PartTokens as pt
 use Rattle.spl_grammar.proofs.StatementTokens as tk
 use Rattle.spl_grammar.proofs.SameSymbol.{same_is}
 use Rattle.spl_grammar.proofs.ExpressionClaims.{part, stays}
-use Rattle.spl_grammar.proofs.CompleteStatements.{inside, down, statement_is, inside_read, stepped_read, follow_step, complete_statement, follow_stopper, expr_read, cond_read, reference_read, no_open, name_first, comma_open, word_open, assign_open, name_text, word_comma, while_until, move_scan, test_read, open_colon, target_read, word}
+use Rattle.spl_grammar.proofs.CompleteStatements.{inside, down, statement_is, inside_read, stepped_read, follow_step, complete_statement, follow_stopper, expr_read, cond_read, reference_read, no_open, name_first, comma_open, word_open, assign_open, name_text, while_until, move_scan, test_read, open_colon, target_read, word}
 use Rattle.spl_grammar.proofs.CompletedParts.{Inside, free, a_constant, some_arguments, a_reference, a_source, an_effect, a_test, a_statement, some_statements, a_mark}
 use Rattle.spl_grammar.proofs.DeepReaders.{Sinks, sink_on, sink_from, sink_then, sink_behind, sink_symbol, sink_head, sink_if, sink_else, sink_place, sink_take, sink_allowed, not_bad, sink_shorter, sink_next, goes_on}
-use Rattle.spl_grammar.proofs.DeepExpressions.{SinksReference, SinksIn, over, none_left, some_token, local_part, Refused, an_operator, a_word, primary_refused, level_refused, sink_enclosed, sink_arguments, arguments_of, full, of_level, chosen}
+use Rattle.spl_grammar.proofs.DeepExpressions.{SinksReference, SinksIn, over, none_left, some_token, local_part, an_operator, a_word, primary_refused, level_refused, sink_enclosed, sink_arguments, arguments_of, full, of_level, chosen}
 
 -- An expression and a condition.
 

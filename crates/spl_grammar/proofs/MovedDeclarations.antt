@@ -1,11 +1,7 @@
 -- A part of a declaration depends on no token behind it.
-use Rattle.std.proofs.Common.{ℕ, ◌≡◌, ◌<◌, ◌≤◌, ◌||◌, not, Bool, true, false, List, [], ◌∷◌, length, Option, Some, None, refl, arith, ap, sym, ◌∙◌}
+use Rattle.std.proofs.Common.{ℕ, ◌≡◌, ◌<◌, ◌||◌, not, Bool, true, false, List, [], ◌∷◌, length, Option, refl, arith, ap, sym, ◌∙◌}
 use Rattle.spl_tree.specs.declared.expressions.Kind.{Kind}
-use Rattle.spl_tree.specs.declared.symbols.Symbol.{Symbol}
-use Rattle.spl_tree.specs.declared.symbols.Symbol.TheVariants as s
-use Rattle.spl_tree.specs.declared.symbols.Reserved.{Reserved}
-use Rattle.spl_tree.specs.declared.symbols.Reserved.TheVariants as wd
-use Rattle.spl_tree.specs.Symbols.{Lexeme, Is}
+use Rattle.spl_tree.specs.Symbols.{Lexeme}
 use Rattle.spl_tree.specs.Expressions as g
 use Rattle.spl_tree.specs.Trees as tree
 use Rattle.spl_tree.specs.StatementTrees as stat

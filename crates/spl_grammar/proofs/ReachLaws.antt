@@ -1,5 +1,5 @@
 -- A chain goes no further than the reader: with what it can be completed with, the part would be read to its end.
-use Rattle.std.proofs.Common.{ℕ, suc, ◌+◌, ◌/◌, ◌≡◌, ◌<◌, ◌≤◌, true, false, Bool, List, [], ◌∷◌, ◌++◌, length, Option, None, refl, arith, ap, ◌⊎◌, inl, inr, nat_lt}
+use Rattle.std.proofs.Common.{ℕ, ◌+◌, ◌/◌, ◌≡◌, ◌<◌, ◌≤◌, true, false, Bool, List, [], ◌∷◌, ◌++◌, length, None, refl, arith, ap, ◌⊎◌, inl, inr, nat_lt}
 use Rattle.std.proofs.lemmas.Bool.Decides.{nat_tests}
 use Rattle.spl_tree.specs.declared.symbols.Symbol.TheVariants as s
 use Rattle.spl_tree.specs.Symbols.{Lexeme}
@@ -8,7 +8,7 @@ use Rattle.spl_tree.specs.OpenExpressions.{Opens, limit, nesting}
 use Rattle.spl_tree.specs.Parts as of_kind
 use Rattle.spl_tree.specs.Parts.{Part}
 use Rattle.spl_grammar.specs.Readers.{Outcome, Got, Bad, Deep, Parser}
-use Rattle.spl_grammar.specs.ReadExpressions.{expression, condition, whole}
+use Rattle.spl_grammar.specs.ReadExpressions.{expression, condition}
 use Rattle.spl_grammar.specs.ReadStatements.{statement}
 use Rattle.spl_grammar.specs.Answers.{DeepBefore, deep, Reaches, sinks, goes_on, ChainsReach, DeepFirst, Longest, FaultFirst}
 use Rattle.spl_grammar.specs.Following as af
@@ -23,7 +23,6 @@ use Rattle.spl_grammar.proofs.MovedParts.{swap_agrees}
 use Rattle.spl_grammar.proofs.CompletedParts.{Inside, free, minus, a_constant, an_operand, a_primary, some_arguments, a_reference, a_source, an_effect, a_test, a_statement, some_statements, a_mark, Whole, Completed, token}
 use Rattle.spl_grammar.proofs.CompletedExpressions.{completed}
 use Rattle.spl_grammar.proofs.ChainLengths.{chain_shorter}
-use Rattle.spl_grammar.proofs.DeepReaders.{Sinks}
 use Rattle.spl_grammar.proofs.DeepExpressions.{SinksIn, over, agrees_back, agrees_longer}
 use Rattle.spl_grammar.proofs.DeepStatements.{expr_sinks, cond_sinks}
 use Rattle.spl_grammar.proofs.DeepSteps.{step_sinks}
