@@ -92,9 +92,12 @@ fn runs_and_what_they_leave(rt: HostRuntime) -> Result<(), Fail> {
         let program = program(alloc, words, 1, &[32767])??;
         let mut session = Flat::open(alloc, &program, &Vec::new(alloc), 16, 0, 0)?;
         for _ in 0..steps {
+            assert!(rt; matches!(session.ending, Ending::Running));
+            assert!(rt; (session.regs.seg as usize) < program.segments.len());
             session.step(&program);
         }
         assert_eq!(rt; session.ending, ending);
+        assert!(rt; session.stack.len() >= 5);
         assert_eq!(rt; &session.stack[5..], stack);
     }
     Ok(())
