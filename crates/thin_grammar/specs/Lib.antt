@@ -1,0 +1,4 @@
+pub mod ThinSpelling
+pub mod ThinCutting
+pub mod ThinLines
+pub mod Laws
