@@ -1,6 +1,5 @@
--- How operators bind. Levels count from an operand: 0 operand, 1 shift, 2 term, 3 sum, 4 relation, 5 LAND, 6 XOR, 7
--- LOR,
--- 8 comparison of bytes, 9 AND, 10 OR, which is a whole expression or condition.
+-- How operators bind. Levels count from an operand: 0 operand, 1 shift, 2 term, 3 sum, 4 relation, 5 LAND, 6 XOR,
+-- 7 LOR, 8 comparison of bytes, 9 AND, 10 OR, which is a whole expression or condition.
 use Rattle.std.specs.Prelude.{ℕ, suc, ◌-◌, ◌==◌, ◌||◌, Bool, true, false, if◌then◌else◌, nat_lt, List, [], ◌∷◌, Option, Some, None}
 use Rattle.spl_tree.specs.declared.symbols.Symbol.{Symbol}
 use Rattle.spl_tree.specs.declared.symbols.Symbol.TheVariants as s
