@@ -1,8 +1,7 @@
 -- The tokens of a thin unit's text: words of capitals and digits, decimal numbers, and the marks `( ) , ; . + - :=`,
 -- with blanks and line feeds between them. The longest token is taken, and each has the place of its first byte.
-use Rattle.std.specs.Prelude.{ℕ, ◌+◌, ◌-◌, ◌*◌, Bool, ◌==◌, ◌&&◌, ◌||◌, not, nat_lt, nat_le, List, [], ◌∷◌, length, Option, None, Some, if◌then◌else◌}
+use Rattle.std.specs.Prelude.{ℕ, ◌+◌, ◌-◌, ◌*◌, Bool, ◌==◌, ◌&&◌, ◌||◌, false, nat_lt, nat_le, List, [], ◌∷◌, length, Option, None, Some, if◌then◌else◌}
 use Rattle.std.specs.List.{take_while}
-use Rattle.spl_tree.specs.declared.names_and_places.At.{At}
 
 -- what stands at a token; a mark by its number among `( ) , ; : . = < > + - * / & @ # := <= >= <>`
 pub data Tok : Type 0 where
@@ -10,11 +9,6 @@ pub data Tok : Type 0 where
   number : ℕ → Tok
   mark : ℕ → Tok
   other : Tok
-
--- a token with the place of its first byte
-pub record Placed : Type 0 where
-  pub tok : Tok
-  pub at : At
 
 abbrev pub is_capital : ℕ → Bool
 is_capital b = nat_le 65 b && nat_le b 90
@@ -48,7 +42,7 @@ pub record Piece : Type 0 where
 
 -- the text begins with this byte
 abbrev pub begins_with : ℕ → List ℕ → Bool
-begins_with c [] = not (c == c)
+begins_with c [] = false
 begins_with c (b ∷ bs) = b == c
 
 -- a word: it has at most 15 characters
