@@ -21,6 +21,8 @@ pub mod StatementFronts
 pub mod CompleteStatements
 pub mod SoundStatementParts
 pub mod SoundStatements
+pub mod ExplainLoops
+pub mod SoundLists
 pub mod StatementLaws
 pub mod MovedParts
 pub mod MovedStatements
