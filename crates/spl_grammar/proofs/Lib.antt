@@ -23,6 +23,7 @@ pub mod SoundStatementParts
 pub mod SoundStatements
 pub mod ExplainLoops
 pub mod SoundLists
+pub mod SoundHeadings
 pub mod StatementLaws
 pub mod MovedParts
 pub mod MovedStatements
