@@ -24,10 +24,13 @@ pub mod SoundStatements
 pub mod ExplainLoops
 pub mod SoundLists
 pub mod SoundHeadings
+pub mod SoundDeclarations
+pub mod SoundUnits
 pub mod StatementLaws
 pub mod MovedParts
 pub mod MovedStatements
 pub mod MovedDeclarations
+pub mod CutUnits
 pub mod CompletedParts
 pub mod CompletedStatements
 pub mod CompletedExpressions

@@ -326,7 +326,7 @@ unfolding next_segment
 segment_alike us vs ts more here = got here
 segment_alike us vs ts more (there h) = got (there h)
 
-local_segment : IsLocal next_segment
+pub local_segment : IsLocal next_segment
 local_segment = record { shrinks = segment_shrinks; alike = segment_alike }
 
 pub local_unit : (room : ℕ) → IsLocal (unit room)

@@ -1,13 +1,17 @@
 -- What follows from the laws of the reader of units.
-use Rattle.std.proofs.Common.{ℕ, ◌≡◌, List, [], ◌∷◌, length, arith, sym, ◌∙◌, ◌⊎◌, inl, inr}
+use Rattle.std.proofs.Common.{ℕ, ◌≡◌, ◌+◌, ◌≤◌, List, [], ◌∷◌, length, arith, sym, ◌∙◌, ◌⊎◌, inl, inr}
 use Rattle.spl_tree.specs.Symbols.{Lexeme}
 use Rattle.spl_tree.specs.DeclarationTrees.{UnitTree}
+use Rattle.spl_tree.specs.Parts as part
+use Rattle.spl_tree.specs.OpenExpressions.{Part, Opens, limit, nesting}
 use Rattle.spl_tree.specs.Units.{Unit_of}
 use Rattle.spl_grammar.specs.Readers.{Outcome, Got, Bad, Deep}
 use Rattle.spl_grammar.specs.ReadDeclarations.{unit}
-use Rattle.spl_grammar.specs.Answers.{DeepBefore, Agrees}
+use Rattle.spl_grammar.specs.Answers.{DeepBefore, Agrees, Explains, got, bad, deep}
+use Rattle.spl_grammar.specs.UnitLaws.{SpelledUnit}
 use Rattle.spl_grammar.proofs.LocalDeclarations.{local_unit}
 use Rattle.spl_grammar.proofs.CompleteUnits.{unit_read}
+use Rattle.spl_grammar.proofs.CutUnits.{spelled_alone, unit_explained}
 use Rattle.spl_grammar.proofs.CalmReaders.{Shallow}
 use Rattle.spl_grammar.proofs.CalmDeclarations.{calm_unit}
 use Rattle.spl_grammar.proofs.ExpressionLaws.{same_got, like_bad, not_near}
@@ -35,3 +39,37 @@ read_unit {u = u} {ts = ts} v = go (unit_read v (length ts)).outcome
 
 pub unit_unique : {u v : UnitTree} {ts : List Lexeme} → Unit_of u ts → Unit_of v ts → u ≡ v
 unit_unique a b = (same_got _ _ _ _ (sym (read_unit a) ∙ read_unit b)).0
+
+-- What is known of a reading by its explanation.
+
+-- what is read to the end is a unit, and is not too deep
+pub read_exactly : (room : ℕ) (u : UnitTree) (ts : List Lexeme) → unit room ts ≡ Got u []
+    → Unit_of u ts × (DeepBefore 0 (unit room ts) → ⊥)
+read_exactly room u ts e = (spelled_alone room u ts e, λ d. go (unit room ts) e d)
+  where
+    go : (o : Outcome UnitTree) → o ≡ Got u [] → DeepBefore 0 o → ⊥
+    go (Got v rest) e d = elim d [ ]
+    go (Bad rest) e d = cc
+    go (Deep rest) e d = cc
+
+-- what is spelled is read, unless it is too deep
+pub exactly_read : (room : ℕ) (u : UnitTree) (ts : List Lexeme) → Unit_of u ts → (DeepBefore 0 (unit room ts) → ⊥)
+    → unit room ts ≡ Got u []
+exactly_read room u ts v h = go (unit_read v room).outcome
+  where
+    go : (unit room ts ≡ Got u []) ⊎ DeepBefore 0 (unit room ts) → unit room ts ≡ Got u []
+    go (inl e) = e
+    go (inr d) = absurd (h d)
+
+-- where no chain has more open than may be, nothing is too deep
+pub shallow_read : (room d : ℕ) (u : UnitTree) (ts : List Lexeme) → d + room ≡ limit → Unit_of u ts
+    → ((q : Part) (j k : ℕ) (mid : List Lexeme) → Opens part.unit d 0 ts q j k mid → nesting j k ≤ limit)
+    → unit room ts ≡ Got u []
+shallow_read room d u ts sum v h = exactly_read room u ts v
+    (go (unit room ts) (unit_explained {most = limit} room d ts (omega arith)))
+  where
+    go : (o : Outcome UnitTree) → Explains limit (λ u rest. SpelledUnit u ts rest) part.unit d 0 ts o → DeepBefore 0 o
+        → ⊥
+    go _ (got v) x = elim x [ ]
+    go _ (bad o l) x = elim x [ ]
+    go _ (deep o l) x = let m = h o.part o.constructs o.operators _ o.chain in absurd (omega arith)

@@ -1,19 +1,20 @@
 -- The laws of units.
-use Rattle.std.specs.Prelude.{ℕ, Bool, ◌≡◌, ◌⊎◌, List, [], ◌∷◌, map}
+use Rattle.std.specs.Prelude.{ℕ, Bool, true, ◌≡◌, ◌+◌, ◌≤◌, ◌||◌, not, if◌then◌else◌, ◌++◌, ◌⊎◌, ◌↔◌, List, [], ◌∷◌, map}
 use Rattle.spl_tree.specs.declared.tokens.Lexed.{Lexed}
 use Rattle.spl_tree.specs.declared.units.SplUnit.{SplUnit}
 use Rattle.spl_tree.specs.Symbols.{Lexeme}
 use Rattle.spl_tree.specs.DeclarationTrees.{UnitTree}
 use Rattle.spl_tree.specs.DeclarationTrees as decl
 use Rattle.spl_tree.specs.Declarations as dl
+use Rattle.spl_tree.specs.Declarations.{is_subroutine}
 use Rattle.spl_tree.specs.Parts as part
-use Rattle.spl_tree.specs.OpenExpressions.{Part, Opens}
+use Rattle.spl_tree.specs.OpenExpressions.{Part, Opens, limit, nesting}
 use Rattle.spl_tree.specs.Units.{Unit_of}
 use Rattle.spl_tree.specs.Views.{letters}
 use Rattle.spl_tree.specs.Spells.{Spells, unit_tree}
-use Rattle.spl_grammar.specs.Readers.{Got, Bad}
-use Rattle.spl_grammar.specs.ReadDeclarations.{unit}
-use Rattle.spl_grammar.specs.Answers.{DeepBefore, Agrees, Completes}
+use Rattle.spl_grammar.specs.Readers.{Got, Bad, Parser, refuse}
+use Rattle.spl_grammar.specs.ReadDeclarations.{BodyRead, declaration, body, unit}
+use Rattle.spl_grammar.specs.Answers.{DeepBefore, Agrees, Explains, Completes}
 
 -- What is spelled as a unit is read, unless it is too deep before its end.
 abbrev pub UnitsAreRead : Type 0
@@ -49,3 +50,49 @@ DeclarationPrefixesAreCompleted = (procedures after : Bool) (q : Part) (d n j k 
 abbrev pub UnitPrefixesAreCompleted : Type 0
 UnitPrefixesAreCompleted = (q : Part) (d n j k : ℕ) (ts mid : List Lexeme) → Opens part.unit d n ts q j k mid
     → Completes (λ us rest. rest ≡ [] → (u : UnitTree) × Unit_of u us) ts mid
+
+-- A declaration that is spelled, and that may stand there: behind a subroutine, where `after` says so, only
+-- subroutines stand.
+pub record SpelledDeclaration (procedures after : Bool) (segment : ℕ) (x : decl.Declaration) (ts rest : List Lexeme) :
+    Type 0 where
+  pub spelled : dl.Declaration procedures segment x ts rest
+  pub fits : (is_subroutine x || not after) ≡ true
+
+-- how the bodies of procedures are read: in a procedure none is declared
+abbrev pub bodies : ℕ → Bool → ℕ → Parser BodyRead
+bodies room procedures = if procedures then body room else (λ _. refuse)
+
+-- What is read as a declaration is spelled; a fault comes behind tokens that open one, at most as deep as may be; and
+-- where it is too deep, the tokens up to and with that one open more. Here d constructs are open around it.
+abbrev pub DeclarationsAreExplained : Type 0
+DeclarationsAreExplained = (room d : ℕ) (procedures after : Bool) (segment : ℕ) (ts : List Lexeme) → d + room ≡ limit
+    → Explains limit (λ x rest. SpelledDeclaration procedures after segment x ts rest)
+    (part.declaration procedures after) d 0 ts
+    (declaration room (bodies room procedures) procedures after segment ts)
+
+-- And so it is with the bodies of procedures.
+abbrev pub BodiesAreExplained : Type 0
+BodiesAreExplained = (room d segment : ℕ) (ts : List Lexeme) → d + room ≡ limit
+    → Explains limit (λ (b : BodyRead) rest. dl.Body segment b.0 b.1 ts rest) part.body d 0 ts (body room segment ts)
+
+-- The tokens before the second list spell the unit.
+pub record SpelledUnit (u : UnitTree) (ts rest : List Lexeme) : Type 0 where
+  pub front : List Lexeme
+  pub before : ts ≡ front ++ rest
+  pub spelled : Unit_of u front
+
+-- And with units: what is read is spelled by the tokens up to the end of the text, whatever stands behind it.
+abbrev pub UnitsAreExplained : Type 0
+UnitsAreExplained = (room d : ℕ) (ts : List Lexeme) → d + room ≡ limit
+    → Explains limit (λ u rest. SpelledUnit u ts rest) part.unit d 0 ts (unit room ts)
+
+-- A list is read as a unit to its end exactly where it spells that unit and is not too deep.
+abbrev pub UnitsAreReadExactly : Type 0
+UnitsAreReadExactly = (u : UnitTree) (ts : List Lexeme) (room : ℕ)
+    → (unit room ts ≡ Got u []) ↔ (Unit_of u ts × (DeepBefore 0 (unit room ts) → ⊥))
+
+-- A unit is read where no chain over its tokens has more open than may be.
+abbrev pub ShallowUnitsAreRead : Type 0
+ShallowUnitsAreRead = (u : UnitTree) (ts : List Lexeme) (room d : ℕ) → d + room ≡ limit → Unit_of u ts
+    → ((q : Part) (j k : ℕ) (mid : List Lexeme) → Opens part.unit d 0 ts q j k mid → nesting j k ≤ limit)
+    → unit room ts ≡ Got u []

@@ -19,6 +19,7 @@ pub use statement_laws::{
     statements_reach, statements_sink_first,
 };
 pub use unit_laws::{
-    declaration_prefixes_are_completed, texts_spell_one_unit, unit_faults_stand,
-    unit_prefixes_are_completed, units_are_read, units_are_unique,
+    bodies_are_explained, declaration_prefixes_are_completed, declarations_are_explained,
+    shallow_units_are_read, texts_spell_one_unit, unit_faults_stand, unit_prefixes_are_completed,
+    units_are_explained, units_are_read, units_are_read_exactly, units_are_unique,
 };

@@ -1,5 +1,5 @@
 //! Laws of units, each as the contract of a function that does nothing.
-ghost use Rattle.spl_grammar.specs.UnitLaws.{UnitsAreRead, UnitFaultsStand, UnitsAreUnique, TextsSpellOneUnit, DeclarationPrefixesAreCompleted, UnitPrefixesAreCompleted};
+ghost use Rattle.spl_grammar.specs.UnitLaws.{UnitsAreRead, UnitFaultsStand, UnitsAreUnique, TextsSpellOneUnit, DeclarationPrefixesAreCompleted, UnitPrefixesAreCompleted, DeclarationsAreExplained, BodiesAreExplained, UnitsAreExplained, UnitsAreReadExactly, ShallowUnitsAreRead};
 
 /// What is spelled as a unit is read, unless it is too deep before its end.
 pub fn units_are_read()
@@ -29,4 +29,29 @@ pub fn declaration_prefixes_are_completed()
 /// Whatever opens a unit can be completed to one.
 pub fn unit_prefixes_are_completed()
     ensures { UnitPrefixesAreCompleted }
+{}
+
+/// What is read as a declaration is spelled, and each fault comes behind tokens that open one.
+pub fn declarations_are_explained()
+    ensures { DeclarationsAreExplained }
+{}
+
+/// What is read as the body of a procedure is spelled, and each fault comes behind tokens that open one.
+pub fn bodies_are_explained()
+    ensures { BodiesAreExplained }
+{}
+
+/// What is read as a unit is spelled, and each fault comes behind tokens that open one.
+pub fn units_are_explained()
+    ensures { UnitsAreExplained }
+{}
+
+/// A list is read as a unit to its end exactly where it spells one and is not too deep.
+pub fn units_are_read_exactly()
+    ensures { UnitsAreReadExactly }
+{}
+
+/// A unit in which nowhere more is open than may be is read.
+pub fn shallow_units_are_read()
+    ensures { ShallowUnitsAreRead }
 {}
