@@ -20,14 +20,14 @@ use Rattle.spl_grammar.specs.ReadDeclarations as rd
 use Rattle.spl_grammar.specs.ReadStatements.{indexed, reference, source_behind, source, while_or_until, move, scan, effect, test, value, assigned, field_assigned, behind_reference, stepped, go_name, more_statements, statement_list, labelled, with_arguments, named_statement, address_assigned, block, else_behind, if_statement, while_statement, do_statement, for_statement, case_statement, go_statement, effect_statement, by_word, statement_by, statement_step, statement}
 
 -- the place in column n of the first line
-abbrev at : ℕ → At
+abbrev pub at : ℕ → At
 at n = record { unit = 1; line = 1; column = n }
 
 -- a token without letters, and a name of one letter
-abbrev mark : Symbol → ℕ → Lexeme
+abbrev pub mark : Symbol → ℕ → Lexeme
 mark k n = record { symbol = k; letters = []; at = at n; segment = 0 }
 
-abbrev name : ℕ → ℕ → Lexeme
+abbrev pub name : ℕ → ℕ → Lexeme
 name letter n = record { symbol = s.Name; letters = letter ∷ []; at = at n; segment = 0 }
 
 -- the variable with this letter
@@ -35,11 +35,11 @@ abbrev variable : ℕ → ℕ → Tree
 variable letter n = tree.Tree.named (letter ∷ []) (trees []) (at n)
 
 -- the end of the text
-abbrev stop : ℕ → List Lexeme
+abbrev pub stop : ℕ → List Lexeme
 stop n = mark s.Stop n ∷ []
 
 -- what computes here
-readers : ℕ
+unfoldable pub readers : ℕ
 unfolding and_then followed pure refuse by_symbol take at_place allowed kind_number reserved_number truth_number symbol_number same_symbol expect numbered named_number turns repeat signed_by constant_by constant operator_of bits field negative_by enter opening enclosed more_arguments arguments named addressed primary_by inverse primary unary_step counted signed_by_next first join shifted bytes turn_by turn level whole unary expression within condition binds shift_of class_of indexed reference source_behind source while_or_until move scan effect test value assigned field_assigned behind_reference stepped go_name more_statements statement_list labelled with_arguments named_statement address_assigned block else_behind if_statement while_statement do_statement for_statement case_statement go_statement effect_statement by_word statement_by statement_step statement closed rd.by_token rd.option_among rd.option_behind rd.more_options rd.options rd.more_parts rd.separated rd.name rd.names rd.item rd.shape rd.array rd.more_arrays rd.arrays rd.more_terms rd.equal rd.parameters rd.spec_names rd.spec_behind rd.spec_by rd.more_specs rd.heading_tail rd.heading rd.array_data rd.item_data rd.behind_heading rd.procedure rd.subroutine rd.owned_by rd.typed_by rd.typed rd.by_word rd.declaration_by rd.declaration rd.declares rd.more_declarations rd.declaration_list rd.body rd.next_segment rd.unit option_of
 readers = 0
 

@@ -46,6 +46,7 @@ pub mod ReachLaws
 pub mod KnownParts
 pub mod LocalDeclarations
 pub mod KnownUnits
+pub mod KnownDeclarations
 pub mod CompleteParts
 pub mod CompleteHeadings
 pub mod DeclarationFronts
