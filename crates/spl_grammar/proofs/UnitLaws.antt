@@ -1,5 +1,5 @@
 -- What follows from the laws of the reader of units.
-use Rattle.std.proofs.Common.{ℕ, ◌≡◌, ◌+◌, ◌≤◌, List, [], ◌∷◌, length, arith, sym, ◌∙◌, ◌⊎◌, inl, inr}
+use Rattle.std.proofs.Common.{ℕ, ◌≡◌, ◌+◌, ◌≤◌, List, [], ◌∷◌, length, arith, ap, sym, ◌∙◌, ◌⊎◌, inl, inr}
 use Rattle.spl_tree.specs.Symbols.{Lexeme}
 use Rattle.spl_tree.specs.DeclarationTrees.{UnitTree}
 use Rattle.spl_tree.specs.Parts as part
@@ -7,10 +7,12 @@ use Rattle.spl_tree.specs.OpenExpressions.{Part, Opens, limit, nesting}
 use Rattle.spl_tree.specs.Units.{Unit_of}
 use Rattle.spl_grammar.specs.Readers.{Outcome, Got, Bad, Deep}
 use Rattle.spl_grammar.specs.ReadDeclarations.{unit}
-use Rattle.spl_grammar.specs.Answers.{DeepBefore, Agrees, Explains, got, bad, deep}
+use Rattle.spl_grammar.specs.Answers.{DeepBefore, Agrees, Explains, Completes, end_of, got, bad, deep}
 use Rattle.spl_grammar.specs.UnitLaws.{SpelledUnit}
 use Rattle.spl_grammar.proofs.LocalDeclarations.{local_unit}
 use Rattle.spl_grammar.proofs.CompleteUnits.{unit_read}
+use Rattle.spl_grammar.proofs.CompletedLaws.{completes}
+use Rattle.spl_grammar.proofs.CompletedUnits.{a_unit, all_completed}
 use Rattle.spl_grammar.proofs.CutUnits.{spelled_alone, unit_explained}
 use Rattle.spl_grammar.proofs.CalmReaders.{Shallow}
 use Rattle.spl_grammar.proofs.CalmDeclarations.{calm_unit}
@@ -73,3 +75,19 @@ shallow_read room d u ts sum v h = exactly_read room u ts v
     go _ (got v) x = elim x [ ]
     go _ (bad o l) x = elim x [ ]
     go _ (deep o l) x = let m = h o.part o.constructs o.operators _ o.chain in absurd (omega arith)
+
+-- the tokens before a fault can be completed
+pub before_fault : (room : ℕ) (us ts : List Lexeme) → unit room ts ≡ Bad us
+    → Completes (λ vs rest. rest ≡ [] → (u : UnitTree) × Unit_of u vs) ts us
+before_fault room us ts e = go (unit room ts) (unit_explained {most = room} room 0 ts (omega arith)) e
+  where
+    unit_completed : {q : Part} {j k : ℕ} {vs : List Lexeme} → Opens part.unit 0 0 ts q j k vs → vs ≡ us
+        → Completes (λ vs rest. rest ≡ [] → (u : UnitTree) × Unit_of u vs) ts us
+    unit_completed c r = rw (← r) (completes (all_completed (inr a_unit) c)
+        (λ ws more x f. let y = x f in (y.tree, y.spelled)))
+
+    go : (o : Outcome UnitTree) → Explains room (λ u rest. SpelledUnit u ts rest) part.unit 0 0 ts o → o ≡ Bad us
+        → Completes (λ vs rest. rest ≡ [] → (u : UnitTree) × Unit_of u vs) ts us
+    go _ (got v) e = cc
+    go _ (bad o l) e = unit_completed o.chain (ap end_of e)
+    go _ (deep o l) e = cc

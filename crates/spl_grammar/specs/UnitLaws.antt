@@ -96,3 +96,10 @@ abbrev pub ShallowUnitsAreRead : Type 0
 ShallowUnitsAreRead = (u : UnitTree) (ts : List Lexeme) (room d : ℕ) → d + room ≡ limit → Unit_of u ts
     → ((q : Part) (j k : ℕ) (mid : List Lexeme) → Opens part.unit d 0 ts q j k mid → nesting j k ≤ limit)
     → unit room ts ≡ Got u []
+
+-- A fault in a unit stands at the first token that can't: some unit begins with the tokens before it, and none with
+-- those up to it.
+abbrev pub UnitFaultsAreFirst : Type 0
+UnitFaultsAreFirst = (room : ℕ) (t : Lexeme) (us ts : List Lexeme) → unit room ts ≡ Bad (t ∷ us)
+    → Completes (λ vs rest. rest ≡ [] → (u : UnitTree) × Unit_of u vs) ts (t ∷ us) ×
+    ((vs more : List Lexeme) → Agrees us vs ts more → (u : UnitTree) → Unit_of u more → ⊥)

@@ -20,6 +20,7 @@ pub use statement_laws::{
 };
 pub use unit_laws::{
     bodies_are_explained, declaration_prefixes_are_completed, declarations_are_explained,
-    shallow_units_are_read, texts_spell_one_unit, unit_faults_stand, unit_prefixes_are_completed,
-    units_are_explained, units_are_read, units_are_read_exactly, units_are_unique,
+    shallow_units_are_read, texts_spell_one_unit, unit_faults_are_first, unit_faults_stand,
+    unit_prefixes_are_completed, units_are_explained, units_are_read, units_are_read_exactly,
+    units_are_unique,
 };

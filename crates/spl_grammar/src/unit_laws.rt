@@ -1,5 +1,5 @@
 //! Laws of units, each as the contract of a function that does nothing.
-ghost use Rattle.spl_grammar.specs.UnitLaws.{UnitsAreRead, UnitFaultsStand, UnitsAreUnique, TextsSpellOneUnit, DeclarationPrefixesAreCompleted, UnitPrefixesAreCompleted, DeclarationsAreExplained, BodiesAreExplained, UnitsAreExplained, UnitsAreReadExactly, ShallowUnitsAreRead};
+ghost use Rattle.spl_grammar.specs.UnitLaws.{UnitsAreRead, UnitFaultsStand, UnitsAreUnique, TextsSpellOneUnit, DeclarationPrefixesAreCompleted, UnitPrefixesAreCompleted, DeclarationsAreExplained, BodiesAreExplained, UnitsAreExplained, UnitsAreReadExactly, ShallowUnitsAreRead, UnitFaultsAreFirst};
 
 /// What is spelled as a unit is read, unless it is too deep before its end.
 pub fn units_are_read()
@@ -54,4 +54,9 @@ pub fn units_are_read_exactly()
 /// A unit in which nowhere more is open than may be is read.
 pub fn shallow_units_are_read()
     ensures { ShallowUnitsAreRead }
+{}
+
+/// Some unit begins with the tokens before a fault, and none with those up to it.
+pub fn unit_faults_are_first()
+    ensures { UnitFaultsAreFirst }
 {}
