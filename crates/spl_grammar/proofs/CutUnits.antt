@@ -16,7 +16,7 @@ use Rattle.spl_grammar.proofs.LocalReaders as lr
 use Rattle.spl_grammar.proofs.LocalReaders.{Like, IsLocal, local_then, local_pure, local_expect}
 use Rattle.spl_grammar.proofs.LocalStatements.{local_statement, local_list}
 use Rattle.spl_grammar.proofs.LocalDeclarations.{local_declaration_list, local_body, local_segment}
-use Rattle.spl_grammar.proofs.ExpressionLaws.{same_got}
+use Rattle.spl_grammar.proofs.ExpressionLaws.{same_got, agrees_longer, first_or}
 use Rattle.spl_grammar.proofs.MovedParts.{Swap, same, behind, along, swap_agrees}
 use Rattle.spl_grammar.proofs.MovedStatements.{move_statements}
 use Rattle.spl_grammar.proofs.MovedDeclarations.{move_declarations}
@@ -33,6 +33,7 @@ before_stop room = do
   _ ← expect s.Dot
   pure (record { items = map (of_segment segment) ds; statements = xs; segment = segment; at = b.at })
 
+-- it looks at no token behind the one at which it stops
 local_before : (room : ℕ) → IsLocal (before_stop room)
 unfolding before_stop
 local_before room = local_then (local_expect _)
@@ -53,6 +54,7 @@ regroup_go f g h e (Got a rest) = e a rest
 regroup_go f g h e (Bad rest) = refl
 regroup_go f g h e (Deep rest) = refl
 
+-- so a chain of readers is split before its last
 regroup : {A B C : Type 0} (r : Parser A) (f : A → Parser B) (g : A → Parser C) (h : B → Parser C)
     → ((a : A) (us : List Lexeme) → g a us ≡ followed (f a) h us) → (ts : List Lexeme)
     → followed r g ts ≡ followed (followed r f) h ts
@@ -64,6 +66,7 @@ stop_last : (u : UnitTree) (us : List Lexeme) → (expect s.Stop >>= (λ _. pure
 unfolding followed and_then pure stop_behind
 stop_last u us = refl
 
+-- that is how a unit is read
 unit_splits : (room : ℕ) (ts : List Lexeme) → rd.unit room ts ≡ followed (before_stop room) stop_behind ts
 unfolding rd.unit before_stop
 unit_splits room ts = regroup _ _ _ stop_behind
@@ -100,14 +103,6 @@ stop_stands : (u : UnitTree) (t : Lexeme) (vs : List Lexeme) → same_symbol t.s
 unfolding and_then stop_behind followed expect by_symbol take refuse pure
 stop_stands u t vs q = rw q refl
 
-agrees_longer : {us vs ts more : List Lexeme} → Agrees us vs ts more → length us < length ts
-agrees_longer lr.here = omega arith
-agrees_longer (lr.there a) = let l = agrees_longer a in omega arith
-
-first_or : Lexeme → List Lexeme → Lexeme
-first_or u [] = u
-first_or u (t ∷ ts) = t
-
 -- with other tokens behind the first that is left
 cut_behind : {A : Type 0} → Lexeme → List Lexeme → Outcome A → Outcome A
 unfolding first_or
@@ -130,6 +125,7 @@ record Swapped (ts rest : List Lexeme) : Type 0 where
   pub to : List Lexeme
   pub swap : Swap rest [] ts to
 
+-- the same of an equal list
 swapped_at : {ts us rest : List Lexeme} → ts ≡ us → Swapped ts rest → Swapped us rest
 swapped_at q x = rw (← q) x
 
@@ -142,6 +138,7 @@ cut_unit {ts = ts} {rest = rest} x =
       swap = behind (along m.swap (along n.swap (behind (behind (behind same)))));
     })
 
+-- the tokens before the second list, and then that list
 swap_splits : {rest ts to : List Lexeme} → Swap rest [] ts to → ts ≡ to ++ rest
 swap_splits same = refl
 swap_splits (behind {t = t} a) = ap (λ us. t ∷ us) (swap_splits a)

@@ -75,11 +75,13 @@ condition_unique {ts = ts} l w k v =
     same_got _ _ _ _ (sym (read_whole (condition_read l w (length ts) 0) a) ∙ read_whole
     (condition_read k v (length ts) 0) a)
 
-agrees_longer : {us vs ts more : List Lexeme} → Agrees us vs ts more → length us < length ts
+-- a list that agrees up to a token has that token
+pub agrees_longer : {us vs ts more : List Lexeme} → Agrees us vs ts more → length us < length ts
 agrees_longer lr.here = omega arith
 agrees_longer (lr.there a) = let l = agrees_longer a in omega arith
 
-first_or : Lexeme → List Lexeme → Lexeme
+-- the first token, where there is one
+unfoldable pub first_or : Lexeme → List Lexeme → Lexeme
 first_or u [] = u
 first_or u (t ∷ ts) = t
 

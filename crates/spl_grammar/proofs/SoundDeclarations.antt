@@ -40,25 +40,12 @@ got_first : {u : Bool} {segment : ℕ} {x : decl.Declaration} {ts rest : List Le
 got_first e v = record { spelled = v; fits = e }
 
 -- the same behind an equal list
-own_at : {own : Bool} {ts us vs : List Lexeme} → us ≡ vs → dl.Own own ts us → dl.Own own ts vs
-own_at q p = rw (← q) p
-
-kind_at : {c : Kind} {ts us vs : List Lexeme} → us ≡ vs → dl.OptionalKind c ts us → dl.OptionalKind c ts vs
-kind_at q p = rw (← q) p
-
-result_at : {r : Option Kind} {ts us vs : List Lexeme} → us ≡ vs → dl.Result r ts us → dl.Result r ts vs
-result_at q p = rw (← q) p
-
 heading_at : {split : Bool} {h : decl.Heading} {ts us vs : List Lexeme} → us ≡ vs → dl.Heading split h ts us
     → dl.Heading split h ts vs
 heading_at q p = rw (← q) p
 
 options_at : {a c : Options} {ts us vs : List Lexeme} → us ≡ vs → dl.OptionList a c ts us → dl.OptionList a c ts vs
 options_at q p = rw (← q) p
-
-declaration_at : {u : Bool} {segment : ℕ} {x : decl.Declaration} {ts us vs : List Lexeme} → us ≡ vs
-    → dl.Declaration u segment x ts us → dl.Declaration u segment x ts vs
-declaration_at q p = rw (← q) p
 
 -- a part that begins where the production does, and of which some tokens have been read
 explain_inside : {most : ℕ} {A B : Type 0} {V : A → List Lexeme → Type 0} {W : B → List Lexeme → Type 0} {p q : Part}
@@ -71,6 +58,7 @@ explain_inside r f us step e h = er.lift f step (r us) e h
 
 -- `body_of` reads the body of a procedure of a segment; u says that procedures may be declared
 module _ (most d room : ℕ) (sum : d + room ≡ most + 0) (body_of : ℕ → Parser BodyRead) (u : Bool) where
+  -- no more is open than may be
   good : nesting d 0 ≤ most
   good = few d room 0 sum (omega arith)
 
@@ -133,6 +121,7 @@ module _ (most d room : ℕ) (sum : d + room ≡ most + 0) (body_of : ℕ → Pa
       (op.of_declaration (od.equate_list i)) (equals_explained d us good) (λ es rest v.
       explain_pure _ rest (got_first refl (dl.Declaration.equate i v))))
 
+  -- INTRINSIC names
   intrinsic_explained : (segment : ℕ) (t : Lexeme) (us : List Lexeme) → Is (s.Word w.Intrinsic) t
       → Explains most (λ x rest. SpelledDeclaration u false segment x (t ∷ us) rest) (part.declaration u false) d 0
       (t ∷ us)
@@ -141,6 +130,7 @@ module _ (most d room : ℕ) (sum : d + room ≡ most + 0) (body_of : ℕ → Pa
       (op.of_declaration (od.intrinsic_names i)) (names_explained d us good) (λ ns rest v.
       explain_pure _ rest (got_first refl (dl.Declaration.intrinsic i v))))
 
+  -- LABEL names
   label_explained : (segment : ℕ) (t : Lexeme) (us : List Lexeme) → Is (s.Word w.Label) t
       → Explains most (λ x rest. SpelledDeclaration u false segment x (t ∷ us) rest) (part.declaration u false) d 0
       (t ∷ us)
@@ -191,6 +181,7 @@ module _ (most d room : ℕ) (sum : d + room ≡ most + 0) (body_of : ℕ → Pa
       (claim (h a.split).segment rest) (λ b more v.
       explain_pure _ more (got_first refl (dl.Declaration.procedure_with y i o1 e f j v))))))
 
+  -- behind the heading of a procedure: options or its body
   behind_heading_explained : (segment : ℕ) (h : Bool → decl.Heading) (ts mid : List Lexeme)
       → HeadingRead w.Procedure (λ p. p.segment) ts h mid
       → Explains most (λ x rest. SpelledDeclaration true false segment x ts rest) (part.declaration true false) d 0 ts
@@ -224,6 +215,7 @@ module _ (most d room : ℕ) (sum : d + room ≡ most + 0) (body_of : ℕ → Pa
 module _ (most d room : ℕ) (sum : d + room ≡ most + 0) (body_of : ℕ → Parser BodyRead) (u : Bool)
     (claim : u ≡ true → (segment : ℕ) (ts : List Lexeme)
     → Explains most (λ b rest. dl.Body segment b.0 b.1 ts rest) part.body d 0 ts (body_of segment ts)) where
+  -- no more is open than may be
   fine : nesting d 0 ≤ most
   fine = good most d room sum body_of u
 
@@ -269,11 +261,13 @@ module _ (most d room : ℕ) (sum : d + room ≡ most + 0) (body_of : ℕ → Pa
   first_only true segment ts read h = explain_bad _ (at_here _ _ _ _) fine
   first_only false segment ts read h = h
 
+  -- OWN, and what stands behind it
   own_explained : (segment : ℕ) (o : Lexeme) (us : List Lexeme) → Is (s.Word w.Own) o
       → Declared false segment (o ∷ us) (take >>= (λ _. by_symbol (owned_by room body_of u))) (o ∷ us)
   own_explained segment o us i = er.taken_explained _ (explain_symbol _ us (ahead (od.own i)) fine (λ t rest q. rw q (
       owned_explained most d room sum body_of u segment o t rest t.symbol i refl)))
 
+  -- a declaration by its reserved word
   word_explained : (after : Bool) (segment : ℕ) (t : Lexeme) (us : List Lexeme) (k : Reserved) → Is (s.Word k) t
       → Declared after segment (t ∷ us) (by_word room body_of u after segment k) (t ∷ us)
   unfolding by_word
@@ -293,6 +287,7 @@ module _ (most d room : ℕ) (sum : d + room ≡ most + 0) (body_of : ℕ → Pa
       (procedure_here segment None t (t ∷ us) us dl.Result.absent i (explain_bad _ (at_here _ _ _ _) fine))
   word_explained after segment t us _ i = explain_bad _ (at_here _ _ _ _) fine
 
+  -- a declaration by its first symbol
   declaration_explained_by : (after : Bool) (segment : ℕ) (t : Lexeme) (us : List Lexeme) (k : Symbol) → Is k t
       → Declared after segment (t ∷ us) (declaration_by room body_of u after segment k) (t ∷ us)
   unfolding declaration_by
@@ -333,6 +328,7 @@ declared_then r y x v i = record {
   opens = λ d. along (x.opens d) (inner (op.of_declaration (od.next_declaration v.spelled v.fits i)) here);
 }
 
+-- the same behind an equal list
 got_at : {u after : Bool} {segment : ℕ} {x : decl.Declaration} {ts us vs : List Lexeme} → us ≡ vs
     → SpelledDeclaration u after segment x ts us → SpelledDeclaration u after segment x ts vs
 got_at q p = rw (← q) p
@@ -358,6 +354,7 @@ module _ (most d room : ℕ) (sum : d + room ≡ most + 0) (body_of : ℕ → Pa
       (few d room 0 sum (omega arith)) (λ k rest q i.
       explain_pure _ rest (goes_on (declared_then r y x (got_at q v) i))))
 
+  -- one turn of the loop: a further declaration, or the end of the list
   list_turn : (segment : ℕ) (ts : List Lexeme) (r : Bool × List decl.Declaration) (now : List Lexeme)
       → DeclaredSoFar u segment ts r now
       → Explains most (ListTurn segment ts) (part.declarations u false) d 0 ts

@@ -43,10 +43,12 @@ option_before : {a b c : Options} {k : Lexeme} {ts mid rest : List Lexeme} → O
     → dl.OptionList b c mid rest → dl.OptionList a c ts rest
 option_before (option_read i e f) j l = dl.OptionList.more i e f j l
 
+-- behind it a comma may stand,
 option_comma : {a b : Options} {ts mid : List Lexeme} → OptionRead a b ts mid
     → od.DeclarationStep (part.options a) ts part.mark mid
 option_comma (option_read i e f) = od.options_comma i e f
 
+-- and behind that a further one
 option_next : {a b : Options} {k : Lexeme} {ts mid : List Lexeme} → OptionRead a b ts (k ∷ mid) → Is s.Comma k
     → od.DeclarationStep (part.options a) ts (part.options b) mid
 option_next (option_read i e f) j = od.options_next i e f j
@@ -80,6 +82,7 @@ module _ (most d : ℕ) (l : nesting d 0 ≤ most) (first : Options) (ts : List 
   abbrev OptionTurn : Bool × Options → List Lexeme → Type 0
   OptionTurn = TurnLeaves (OptionsSoFar first ts) (λ c rest. dl.OptionList first c ts rest)
 
+  -- behind a comma
   further_option : (a : Options) (t : Lexeme) (us : List Lexeme) → OptionsSoFar first ts a (t ∷ us) → Is s.Comma t
       → Explains most OptionTurn (part.options first) d 0 ts
       ((take >>= (λ _. option_behind a >>= (λ b. pure (true, b)))) (t ∷ us))
@@ -95,6 +98,7 @@ module _ (most d : ℕ) (l : nesting d 0 ≤ most) (first : Options) (ts : List 
         spelled = v;
       }))))
 
+  -- one turn of the loop: a further option, or the end of the list
   option_turn : (a : Options) (now : List Lexeme) → OptionsSoFar first ts a now
       → Explains most OptionTurn (part.options first) d 0 ts (more_options a now)
   unfolding more_options
@@ -143,7 +147,10 @@ record SpecRead (mark : Lexeme) (now : List Lexeme) (x : decl.Spec) (rest : List
 names_at : {ns : List Placed} {ts us vs : List Lexeme} → us ≡ vs → dl.Names ns ts us → dl.Names ns ts vs
 names_at q p = rw (← q) p
 
-pub specs_at : {ss : List decl.Spec} {ts us vs : List Lexeme} → us ≡ vs → dl.Specs ss ts us → dl.Specs ss ts vs
+result_at : {r : Option Kind} {ts us vs : List Lexeme} → us ≡ vs → dl.Result r ts us → dl.Result r ts vs
+result_at q p = rw (← q) p
+
+specs_at : {ss : List decl.Spec} {ts us vs : List Lexeme} → us ≡ vs → dl.Specs ss ts us → dl.Specs ss ts vs
 specs_at q p = rw (← q) p
 
 -- What has been read of a heading with the word k: its type, that word p, the name t and the parameters.
@@ -283,9 +290,6 @@ parameters_explained d k r p t ts mid l v i j = explain_symbol _ mid (ahead (od.
     explain_expect s.Close _ after (ahead (od.heading_close v1 i j y n)) l (λ z rest q2 i2.
     explain_pure ns rest (dl.Parameters.given y (names_at q2 n) i2)))))
     (λ e. explain_pure [] (o ∷ us) dl.Parameters.absent)))
-  where
-    result_at : {r : Option Kind} {ts us vs : List Lexeme} → us ≡ vs → dl.Result r ts us → dl.Result r ts vs
-    result_at q p = rw (← q) p
 
 -- A heading with the word k that was read, which is of this segment by its word; whether it is split is said later.
 pub record HeadingRead (k : Reserved) (segment : Lexeme → ℕ) (ts : List Lexeme) (h : Bool → decl.Heading)
@@ -334,9 +338,6 @@ heading_explained {most = most} d k r segment p ts us l v i = er.taken_explained
       made = refl;
     })))))
   where
-    result_at : {r : Option Kind} {ts us vs : List Lexeme} → us ≡ vs → dl.Result r ts us → dl.Result r ts vs
-    result_at q p = rw (← q) p
-
     opened : (r : Option Kind) (ns : List Placed) (p t : Lexeme) (mid next : List Lexeme)
         → dl.Result r ts (p ∷ t ∷ mid) → Is (s.Word k) p → Is s.Name t → dl.Parameters ns mid next
         → Opened k r ns p t ts mid next

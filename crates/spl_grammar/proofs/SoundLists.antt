@@ -73,6 +73,7 @@ module _ {A : Type 0} (P : A → List Lexeme → List Lexeme → Type 0) (list :
     opens = λ d. along (x.front.opens d) (inner (op.of_declaration (next _ _ _ _ x.spelled i)) here);
   }
 
+  -- behind a comma
   further_part : (xs : List A) (ts : List Lexeme) (t : Lexeme) (us : List Lexeme) → PartsSoFar P list ts xs (t ∷ us)
       → Is s.Comma t
       → Explains most (TurnLeaves (PartsSoFar P list ts) (λ ys rest. Separated P ys ts rest)) list d 0 ts
@@ -88,6 +89,7 @@ module _ {A : Type 0} (P : A → List Lexeme → List Lexeme → Type 0) (list :
         spelled = v;
       }))))
 
+  -- one turn of the loop: a further part, or the end of the list
   part_turn : (ts : List Lexeme) (xs : List A) (now : List Lexeme) → PartsSoFar P list ts xs now
       → Explains most (TurnLeaves (PartsSoFar P list ts) (λ ys rest. Separated P ys ts rest)) list d 0 ts
       (more_parts reader xs now)
@@ -122,7 +124,7 @@ names_explained {most = most} d ts l = separated_explained dl.Name part.names na
     (λ a k us mid p i. od.names_next p i) ts
 
 -- constants
-pub constants_explained : {most : ℕ} (d : ℕ) (ts : List Lexeme) → nesting d 0 ≤ most
+constants_explained : {most : ℕ} (d : ℕ) (ts : List Lexeme) → nesting d 0 ≤ most
     → Explains most (λ vs rest. dl.Constants vs ts rest) part.constants d 0 ts (separated constant ts)
 constants_explained {most = most} d ts l = separated_explained g.Constant part.constants constant local_constant most d
     l
@@ -209,6 +211,7 @@ module _ (most d : ℕ) (l : nesting d 0 ≤ most) (ts : List Lexeme) where
   abbrev ArrayTurn : Bool × (List decl.Item × decl.Item) → List Lexeme → Type 0
   ArrayTurn = TurnLeaves (ArraysSoFar ts) (λ r rest. dl.Arrays (arrays_of r) ts rest)
 
+  -- behind a comma
   further_array : (r : List decl.Item × decl.Item) (t : Lexeme) (us : List Lexeme) → ArraysSoFar ts r (t ∷ us)
       → Is s.Comma t
       → Explains most ArrayTurn part.arrays d 0 ts
@@ -225,6 +228,7 @@ module _ (most d : ℕ) (l : nesting d 0 ≤ most) (ts : List Lexeme) where
         spelled = v;
       }))))
 
+  -- behind ":=", which ends the list
   values_behind : (r : List decl.Item × decl.Item) (t : Lexeme) (us : List Lexeme) → ArraysSoFar ts r (t ∷ us)
       → Is s.Assign t
       → Explains most ArrayTurn part.arrays d 0 ts
@@ -234,6 +238,7 @@ module _ (most d : ℕ) (l : nesting d 0 ≤ most) (ts : List Lexeme) where
       (λ vs rest v. explain_pure _ rest (ends
       (x.gives (with_values vs r.1 ∷ []) rest (dl.Arrays.valued (with_values_is vs x.spelled) i v)))))
 
+  -- one turn of the loop: a further array, the values of the last, or the end of the list
   array_turn : (r : List decl.Item × decl.Item) (now : List Lexeme) → ArraysSoFar ts r now
       → Explains most ArrayTurn part.arrays d 0 ts (more_arrays r now)
   unfolding more_arrays
@@ -292,10 +297,12 @@ module _ (most d : ℕ) (l : nesting d 0 ≤ most) (v : tree.Constant) (t e : Le
   abbrev TermTurn : Bool × List decl.Term → List Lexeme → Type 0
   TermTurn = TurnLeaves (TermsSoFar (first_term v) mid) (λ vs rest. dl.Equal (equation_with t vs) (t ∷ e ∷ us) rest)
 
+  -- the terms so far are those of an equation
   equation_of : (vs : List decl.Term) (rest : List Lexeme) → TermsSoFar (first_term v) mid vs rest
       → dl.Equal (equation_with t vs) (t ∷ e ∷ us) rest
   equation_of vs rest x = rw x.all (dl.Equal.equal i j c x.spelled)
 
+  -- behind a sign
   further_term : (xs : List decl.Term) (p : Lexeme) (rest : List Lexeme) → TermsSoFar (first_term v) mid xs (p ∷ rest)
       → is_sign (operator_of p.symbol) ≡ true
       → Explains most TermTurn part.equal d 0 (t ∷ e ∷ us)
@@ -309,6 +316,7 @@ module _ (most d : ℕ) (l : nesting d 0 ≤ most) (v : tree.Constant) (t e : Le
         spelled = term_is x.spelled o k y;
       }))))
 
+  -- one turn of the loop: a further term, or the end of the equation
   term_turn : (xs : List decl.Term) (now : List Lexeme) → TermsSoFar (first_term v) mid xs now
       → Explains most TermTurn part.equal d 0 (t ∷ e ∷ us) (more_terms xs now)
   unfolding more_terms

@@ -27,13 +27,14 @@ use Rattle.spl_grammar.proofs.ExplainReaders.{at_here, explain_then, explain_exp
 use Rattle.spl_grammar.proofs.ExplainReaders as er
 use Rattle.spl_grammar.proofs.SoundOperands.{is_it, few}
 use Rattle.spl_grammar.proofs.SoundLists.{ahead}
-use Rattle.spl_grammar.proofs.SoundStatements.{statement_explained, list_explained}
+use Rattle.spl_grammar.proofs.SoundStatements.{list_at, statement_explained, list_explained}
 use Rattle.spl_grammar.proofs.SoundDeclarations.{declaration_explained, declarations_explained}
 use Rattle.spl_grammar.proofs.LocalReaders.{local_refuse}
 use Rattle.spl_grammar.proofs.LocalDeclarations.{local_body}
 
 -- Bodies.
 
+-- two ways to say that no BEGIN stands there
 not_begin : (k : Symbol) → is (s.Word w.Begin) k ≡ false → is_begin k ≡ false
 unfolding same_symbol symbol_number reserved_number
 not_begin (s.Word w.Begin) e = cc
@@ -48,15 +49,6 @@ no_body (st.Statement.block i _ _) b e = absurd (both (sym (ap is_begin i) ∙ b
     both : true ≡ false → ⊥
     both q = cc
 no_body v b e = cc
-
--- the same behind an equal list
-declared_at : {u after : Bool} {segment : ℕ} {ds : List decl.Declaration} {ts us vs : List Lexeme} → us ≡ vs
-    → dl.Declarations u after segment ds ts us → dl.Declarations u after segment ds ts vs
-declared_at q p = rw (← q) p
-
-statements_at : {xs : List stat.Statement} {ts us vs : List Lexeme} → us ≡ vs → st.Statements xs ts us
-    → st.Statements xs ts vs
-statements_at q p = rw (← q) p
 
 -- statements between a unit's or a body's declarations and its END
 statements_explained : {most : ℕ} (room d : ℕ) (ts : List Lexeme) → d + room ≡ most + 0
@@ -76,7 +68,7 @@ block_body {most = most} room d segment b us sum i = er.taken_explained _ (
     explain_then (statement_list (statement room)) _ (op.of_declaration (od.body_statements i v))
     (statements_explained room d mid sum) (λ xs after x.
     explain_expect (s.Word w.End) _ after (ahead (od.body_end i v x)) (few d room 0 sum (omega arith)) (λ z rest q j.
-    explain_pure _ rest (dl.Body.block i v (statements_at q x) j)))))
+    explain_pure _ rest (dl.Body.block i v (list_at q x) j)))))
 
 -- the body of a procedure
 pub body_explained : {most : ℕ} (room d segment : ℕ) (ts : List Lexeme) → d + room ≡ most + 0
@@ -163,6 +155,7 @@ pub record UnitRead (u : UnitTree) (ts rest : List Lexeme) : Type 0 where
   pub is_dot : Is s.Dot dot
   pub is_stop : Is s.Stop stop
 
+-- a unit by its parts; a fault comes behind tokens that open it
 pub unit_parts : {most : ℕ} (room d : ℕ) (ts : List Lexeme) → d + room ≡ most + 0
     → Explains most (λ u rest. UnitRead u ts rest) part.unit d 0 ts (rd.unit room ts)
 unfolding rd.unit
@@ -175,9 +168,9 @@ unit_parts {most = most} room d ts sum = let l = few d room 0 sum (omega arith) 
     explain_then (statement_list (statement room)) _ (op.of_declaration (od.unit_statements i v))
     (statements_explained room d mid sum) (λ xs after x.
     explain_expect (s.Word w.End) _ after (ahead (od.unit_end i v x)) l (λ z after_end q2 j.
-    let x1 = statements_at q2 x in
+    let x1 = list_at q2 x in
     explain_expect s.Dot _ after_end (ahead (od.unit_dot i v x1 j)) l (λ e after_dot q3 k.
-    let x2 = statements_at (ap (λ vs. z ∷ vs) q3) x1 in
+    let x2 = list_at (ap (λ vs. z ∷ vs) q3) x1 in
     explain_expect s.Stop _ after_dot (ahead (od.unit_stop i v x2 j k)) l (λ y rest q4 o.
     explain_pure _ rest (record {
       items = map (of_segment (segment_at mid)) ds;
@@ -192,7 +185,7 @@ unit_parts {most = most} room d ts sum = let l = few d room 0 sum (omega arith) 
       made = refl;
       is_begin = i;
       declared = moved_declarations (segment_at mid) v;
-      spelled = statements_at (ap (λ vs. z ∷ e ∷ vs) q4) x2;
+      spelled = list_at (ap (λ vs. z ∷ e ∷ vs) q4) x2;
       is_end = j;
       is_dot = k;
       is_stop = o;
