@@ -182,7 +182,7 @@ same_length : {ts us : List Lexeme} → ts ≡ us → length ts ≡ length us
 same_length e = ap (λ us. length us) e
 
 -- tokens before make a list no shorter
-append_length : (ts us : List Lexeme) → length us ≤ length (ts ++ us)
+pub append_length : (ts us : List Lexeme) → length us ≤ length (ts ++ us)
 append_length [] us = omega arith
 append_length (t ∷ ts) us = let a = append_length ts us in omega arith
 

@@ -20,7 +20,7 @@ use Rattle.spl_grammar.proofs.NearReaders.{Near}
 use Rattle.spl_grammar.proofs.ExpressionLaws.{expression_read, condition_read}
 use Rattle.spl_grammar.proofs.CompleteStatements.{complete_statement, follow_stopper, semicolon}
 use Rattle.spl_grammar.proofs.MovedParts.{swap_agrees}
-use Rattle.spl_grammar.proofs.CompletedParts.{Inside, free, minus, a_constant, an_operand, a_primary, some_arguments, a_reference, a_source, an_effect, a_test, a_statement, some_statements, a_mark, Whole, Completed, token}
+use Rattle.spl_grammar.proofs.CompletedParts.{Inside, free, minus, a_constant, an_operand, a_primary, some_arguments, a_reference, a_source, an_effect, a_test, a_statement, some_statements, a_mark, Whole, Completed, append_length, token}
 use Rattle.spl_grammar.proofs.CompletedExpressions.{completed}
 use Rattle.spl_grammar.proofs.ChainLengths.{chain_shorter}
 use Rattle.spl_grammar.proofs.DeepExpressions.{SinksIn, over, agrees_back, agrees_longer}
@@ -56,38 +56,33 @@ abbrev pub a_semicolon : Lexeme
 a_semicolon = token s.Semicolon
 
 -- a reader that reads the completed part to its end is no shorter than the chain
-like_reach : {A : Type 0} (mid next : List Lexeme) (a : A) (o p : Outcome A) → Like mid next o p → 1 ≤ length next
-    → (p ≡ Got a (a_semicolon ∷ [])) ⊎ DeepBefore 1 p
+like_reach : {A : Type 0} (mid next stop : List Lexeme) (a : A) (o p : Outcome A) → Like mid next o p
+    → length stop ≤ length next → (p ≡ Got a stop) ⊎ DeepBefore (length stop) p
     → (length (end_of o) ≤ length mid) ⊎ DeepBefore (length mid) o
-like_reach mid next a _ _ (lr.got h) l (inl e) = let i = agrees_longer (agrees_back h) in
+like_reach mid next stop a _ _ (lr.got h) l (inl e) = let i = agrees_longer (agrees_back h) in
     let k = ap (λ o. length (end_of o)) e in absurd (omega arith)
-like_reach mid next a _ _ (lr.got h) l (inr d) = elim d [ ]
-like_reach mid next a _ _ (lr.bad h) l (inl e) = cc
-like_reach mid next a _ _ (lr.bad h) l (inr d) = elim d [ ]
-like_reach mid next a _ _ (lr.deep h) l e = inr (deep (agrees_longer h))
-like_reach mid next a o p (lr.past h) l e = inl h
+like_reach mid next stop a _ _ (lr.got h) l (inr d) = elim d [ ]
+like_reach mid next stop a _ _ (lr.bad h) l (inl e) = cc
+like_reach mid next stop a _ _ (lr.bad h) l (inr d) = elim d [ ]
+like_reach mid next stop a _ _ (lr.deep h) l e = inr (deep (agrees_longer h))
+like_reach mid next stop a o p (lr.past h) l e = inl h
 
--- a list with a token behind it has one
-append_one : (ts : List Lexeme) (t : Lexeme) → 1 ≤ length (ts ++ t ∷ [])
-append_one [] t = omega arith
-append_one (u ∷ ts) t = omega arith
-
--- so no chain goes over what the reader leaves
-no_further : {A : Type 0} {p : Part} {r : Parser A} {ts mid : List Lexeme} → IsLocal r → Completed p ts mid
-    → (part_of : (us : List Lexeme) → Whole p us (a_semicolon ∷ []) → A)
-    → ((us : List Lexeme) (x : Whole p us (a_semicolon ∷ [])) → Near r us (a_semicolon ∷ []) (Got (part_of us x) (a_semicolon ∷ [])))
+-- so no chain goes over what the reader leaves, where the part is read when these tokens end it
+pub no_further : {A : Type 0} {p : Part} {r : Parser A} {ts mid : List Lexeme} (stop : List Lexeme) → IsLocal r
+    → Completed p ts mid → (part_of : (us : List Lexeme) → Whole p us stop → A)
+    → ((us : List Lexeme) (x : Whole p us stop) → Near r us stop (Got (part_of us x) stop))
     → (length (end_of (r ts)) ≤ length mid) ⊎ DeepBefore (length mid) (r ts)
-no_further {r = r} {ts = ts} {mid = mid} l o part_of f = let w = o.whole (a_semicolon ∷ []) in go (swap_agrees w.swap)
+no_further {r = r} {ts = ts} {mid = mid} stop l o part_of f = let w = o.whole stop in go (swap_agrees w.swap)
   where
-    go : (ts ≡ mid) ⊎ Agrees mid (o.tail ++ a_semicolon ∷ []) ts (o.whole (a_semicolon ∷ [])).to
+    go : (ts ≡ mid) ⊎ Agrees mid (o.tail ++ stop) ts (o.whole stop).to
         → (length (end_of (r ts)) ≤ length mid) ⊎ DeepBefore (length mid) (r ts)
     go (inl e) = inl (let a = l.shrinks ts in let b = ap (λ us. length us) e in omega arith)
-    go (inr a) = let w = o.whole (a_semicolon ∷ []) in let n = f w.to w.whole in
-        like_reach mid (o.tail ++ a_semicolon ∷ []) (part_of w.to w.whole) (r ts) (r w.to) (l.alike mid _ ts w.to a)
-        (append_one o.tail a_semicolon) n.outcome
+    go (inr a) = let w = o.whole stop in let n = f w.to w.whole in
+        like_reach mid (o.tail ++ stop) stop (part_of w.to w.whole) (r ts) (r w.to) (l.alike mid _ ts w.to a)
+        (append_length o.tail stop) n.outcome
 
 -- both halves of the claim
-reach_of : {A : Type 0} (j k : ℕ) (mid : List Lexeme) (o : Outcome A)
+pub reach_of : {A : Type 0} (j k : ℕ) (mid : List Lexeme) (o : Outcome A)
     → (length (end_of o) ≤ length mid) ⊎ DeepBefore (length mid) o → (limit < nesting j k → DeepBefore (length mid) o)
     → Reaches j k mid o
 reach_of j k mid o (inr d) f = sinks d
@@ -100,21 +95,21 @@ reach_of j k mid o (inl l) f = go (nat_lt limit (nesting j k)) refl
 -- expressions
 pub expressions_reach : ChainsReach (op.level false None 10) (λ room. expression room 0)
 expressions_reach room d q j k ts mid sum c = reach_of j k mid (expression room 0 ts)
-    (no_further (local_expression room 0) (completed free c) (λ us x. x.tree)
+    (no_further (a_semicolon ∷ []) (local_expression room 0) (completed free c) (λ us x. x.tree)
     (λ us x. expression_read x.spelled (follow_stopper refl semicolon) room 0))
     (λ w. (expr_sinks (chain_sinks free c w) room sum).sinks)
 
 -- conditions
 pub conditions_reach : ChainsReach (op.level true None 10) (λ room. condition room 0)
 conditions_reach room d q j k ts mid sum c = reach_of j k mid (condition room 0 ts)
-    (no_further (local_condition room 0) (completed free c) (λ us x. x.tree)
+    (no_further (a_semicolon ∷ []) (local_condition room 0) (completed free c) (λ us x. x.tree)
     (λ us x. condition_read x.spelled (follow_stopper refl semicolon) room 0))
     (λ w. (cond_sinks (chain_sinks free c w) room sum).sinks)
 
 -- statements
 pub statements_reach : ChainsReach of_kind.statement statement
 statements_reach room d q j k ts mid sum c = reach_of j k mid (statement room ts)
-    (no_further (local_statement room) (completed a_statement c) (λ us x. x.tree)
+    (no_further (a_semicolon ∷ []) (local_statement room) (completed a_statement c) (λ us x. x.tree)
     (λ us x. (complete_statement x.spelled (af.semicolon refl)).reads room))
     (λ w. ((chain_sinks a_statement c w).claim room sum (omega arith)).sinks)
 
