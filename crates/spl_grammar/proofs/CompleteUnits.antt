@@ -183,7 +183,7 @@ module _ (room : ℕ) (body_of : ℕ → Parser BodyRead) where
         (near_to (near_pure _ _) (ap (λ g. Got (decl.Declaration.external g) (k ∷ rest)) q))))))))
 
     -- a declaration that fits its place
-    declaration_read : {u : Bool} {d : decl.Declaration} {k : Lexeme} {ts rest : List Lexeme} (after : Bool)
+    pub declaration_read : {u : Bool} {d : decl.Declaration} {k : Lexeme} {ts rest : List Lexeme} (after : Bool)
         → dl.Declaration u segment d ts (k ∷ rest) → Is s.Semicolon k
         → (is_subroutine d || not after) ≡ true
         → Near (declaration room body_of u after segment) ts (k ∷ rest) (Got d (k ∷ rest))
@@ -206,7 +206,7 @@ module _ (room : ℕ) (body_of : ℕ → Parser BodyRead) where
     declaration_read after (dl.Declaration.external h p o f) k e = rw (not_after after e) (external_read h p o f k)
     declaration_read after (dl.Declaration.subroutine h x) k e = subroutine_decl _ segment after h x k
 
-    declaration_first : {u : Bool} {d : decl.Declaration} {ts rest : List Lexeme} → dl.Declaration u segment d ts rest
+    pub declaration_first : {u : Bool} {d : decl.Declaration} {ts rest : List Lexeme} → dl.Declaration u segment d ts rest
         → Begins (declares room body_of u) true ts
     unfolding declares
     declaration_first (dl.Declaration.simple dl.Own.absent i l) = by_is _ _ _ _ _ i refl
@@ -255,12 +255,12 @@ module _ (room : ℕ) (body_of : ℕ → Parser BodyRead) where
     declaration_list_read lb l b = near_then _ (declarations_read lb l b []) (near_pure _ _)
 
 -- no body, where no procedure may stand: nothing is claimed
-no_body : (n : ℕ) → IsLocal (refuse {A = BodyRead})
+pub no_body : (n : ℕ) → IsLocal (refuse {A = BodyRead})
 no_body n = local_refuse
 
 -- The declarations of a body hold no procedure, so that no claim about bodies is wanted.
 module _ (room : ℕ) (segment : ℕ) where
-  inner_read : {d : decl.Declaration} {k : Lexeme} {ts rest : List Lexeme} (after : Bool)
+  pub inner_read : {d : decl.Declaration} {k : Lexeme} {ts rest : List Lexeme} (after : Bool)
       → dl.Declaration false segment d ts (k ∷ rest) → Is s.Semicolon k
       → (is_subroutine d || not after) ≡ true
       → Near (declaration room (λ _. refuse) false after segment) ts (k ∷ rest) (Got d (k ∷ rest))
@@ -278,7 +278,7 @@ module _ (room : ℕ) (segment : ℕ) where
       (label_read room _ _ segment i l (semicolon k))
   inner_read after (dl.Declaration.subroutine h x) k e = subroutine_decl room _ _ segment after h x k
 
-  inner_first : {d : decl.Declaration} {ts rest : List Lexeme} → dl.Declaration false segment d ts rest
+  pub inner_first : {d : decl.Declaration} {ts rest : List Lexeme} → dl.Declaration false segment d ts rest
       → Begins (declares room (λ _. refuse) false) true ts
   unfolding declares
   inner_first (dl.Declaration.simple dl.Own.absent i l) = by_is _ _ _ _ _ i refl
@@ -313,14 +313,14 @@ module _ (room : ℕ) (segment : ℕ) where
       (near_to (inners_read l b (so_far ++ d ∷ []))
       (ap (λ xs. Got (decl_state (after_all (is_subroutine d) ds) xs) rest) (append_assoc so_far (d ∷ []) ds)))
 
-  inner_list_read : {ds : List decl.Declaration} {ts rest : List Lexeme}
+  pub inner_list_read : {ds : List decl.Declaration} {ts rest : List Lexeme}
       → dl.Declarations false false segment ds ts rest → Begins (declares room (λ _. refuse) false) false rest
       → Near (declaration_list room (λ _. refuse) false segment) ts rest (Got ds rest)
   unfolding declaration_list
   inner_list_read l b = near_then _ (inners_read l b []) (near_pure _ _)
 
 -- the body of a procedure
-body_read : (room n : ℕ) (ds : List decl.Declaration) (xs : List stat.Statement) (k : Lexeme) (ts rest : List Lexeme)
+pub body_read : (room n : ℕ) (ds : List decl.Declaration) (xs : List stat.Statement) (k : Lexeme) (ts rest : List Lexeme)
     → dl.Body n ds xs ts (k ∷ rest) → Is s.Semicolon k
     → Near (body room n) ts (k ∷ rest) (Got (body_pair ds xs) (k ∷ rest))
 unfolding body
@@ -333,7 +333,7 @@ body_read room n ds xs k ts rest (dl.Body.single x c) j = choose_else (is (s.Wor
     (near_if _ c (near_pure _ _)))
 
 -- A declaration of a unit, said of another segment.
-of_unit : {u : Bool} {m n : ℕ} {d : decl.Declaration} {ts rest : List Lexeme} → dl.Declaration u m d ts rest
+pub of_unit : {u : Bool} {m n : ℕ} {d : decl.Declaration} {ts rest : List Lexeme} → dl.Declaration u m d ts rest
     → dl.Declaration u n (of_segment n d) ts rest
 of_unit (dl.Declaration.simple o i l) = dl.Declaration.simple o i l
 of_unit (dl.Declaration.array o c i l) = dl.Declaration.array o c i l
@@ -362,7 +362,7 @@ back_again n (dl.Declaration.forward h p o f) = refl
 back_again n (dl.Declaration.external h p o f) = refl
 back_again n (dl.Declaration.subroutine (dl.SubroutineHeading.heading r p i ns vs ss k) x) = refl
 
-same_sort : (n : ℕ) (d : decl.Declaration) → is_subroutine (of_segment n d) ≡ is_subroutine d
+pub same_sort : (n : ℕ) (d : decl.Declaration) → is_subroutine (of_segment n d) ≡ is_subroutine d
 same_sort n (decl.Declaration.data_items o c is) = refl
 same_sort n (decl.Declaration.equate es) = refl
 same_sort n (decl.Declaration.intrinsic ns) = refl
@@ -372,7 +372,7 @@ same_sort n (decl.Declaration.external h) = refl
 same_sort n (decl.Declaration.procedure h ds xs) = refl
 same_sort n (decl.Declaration.subroutine h x) = refl
 
-of_units : {u after : Bool} {m : ℕ} (n : ℕ) {ds : List decl.Declaration} {ts rest : List Lexeme}
+pub of_units : {u after : Bool} {m : ℕ} (n : ℕ) {ds : List decl.Declaration} {ts rest : List Lexeme}
     → dl.Declarations u after m ds ts rest → dl.Declarations u after n (map (of_segment n) ds) ts rest
 of_units n dl.Declarations.none = dl.Declarations.none
 of_units {after = after} n (dl.Declarations.more {d = d} x e k l) = dl.Declarations.more (of_unit x)
@@ -384,7 +384,7 @@ all_back n dl.Declarations.none = refl
 all_back {m = m} n (dl.Declarations.more {d = d} {ds = ds} x e k l) = rw (back_again n x, all_back n l) refl
 
 -- the segment in force at a token
-segment_read : {ts : List Lexeme} → length ts ≢ 0 → Near next_segment ts ts (Got (segment_at ts) ts)
+pub segment_read : {ts : List Lexeme} → length ts ≢ 0 → Near next_segment ts ts (Got (segment_at ts) ts)
 unfolding next_segment
 segment_read {ts = []} e = absurd (e refl)
 segment_read {ts = t ∷ us} e = near_same (omega arith) refl

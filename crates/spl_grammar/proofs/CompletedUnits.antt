@@ -37,7 +37,7 @@ pub data Declared : Part → Type 0 where
   a_unit : Declared part.unit
 
 -- what is behind a step is a part of these, or of a statement
-next_known : {p q : Part} {ts mid : List Lexeme} → DeclarationStep p ts q mid → Inside q ⊎ Declared q
+pub next_known : {p q : Part} {ts mid : List Lexeme} → DeclarationStep p ts q mid → Inside q ⊎ Declared q
 next_known (od.names_comma a) = inl a_mark
 next_known (od.names_next {k = k} a i) = inr some_names
 next_known od.constants_part = inl a_constant
@@ -127,36 +127,46 @@ not_stated some_declarations e = elim e [ ]
 not_stated a_body e = elim e [ ]
 not_stated a_unit e = elim e [ ]
 
+-- a step of declarations, with which nothing is opened
+pub record Unopened (p : Part) (d : ℕ) (ts : List Lexeme) (q : Part) (j k : ℕ) (mid : List Lexeme) : Type 0 where
+  pub step : DeclarationStep p ts q mid
+  pub constructs : j ≡ d
+  pub operators : k ≡ 0
+
+-- such a step
+unopened : {p q : Part} {d : ℕ} {ts mid : List Lexeme} → DeclarationStep p ts q mid → Unopened p d ts q d 0 mid
+unopened step = record { step = step; constructs = refl; operators = refl }
+
 -- a step from one of them is one of declarations
-declared_step : {p q : Part} {d n j k : ℕ} {ts mid : List Lexeme} → Declared p → op.Step p d n ts q j k mid
-    → DeclarationStep p ts q mid
-declared_step some_names (op.of_declaration step) = step
+pub declared_step : {p q : Part} {d n j k : ℕ} {ts mid : List Lexeme} → Declared p → op.Step p d n ts q j k mid
+    → Unopened p d ts q j k mid
+declared_step some_names (op.of_declaration step) = unopened step
 declared_step some_names (op.of_statement step) = not_stated some_names step
-declared_step some_constants (op.of_declaration step) = step
+declared_step some_constants (op.of_declaration step) = unopened step
 declared_step some_constants (op.of_statement step) = not_stated some_constants step
-declared_step an_item (op.of_declaration step) = step
+declared_step an_item (op.of_declaration step) = unopened step
 declared_step an_item (op.of_statement step) = not_stated an_item step
-declared_step some_items (op.of_declaration step) = step
+declared_step some_items (op.of_declaration step) = unopened step
 declared_step some_items (op.of_statement step) = not_stated some_items step
-declared_step an_equal (op.of_declaration step) = step
+declared_step an_equal (op.of_declaration step) = unopened step
 declared_step an_equal (op.of_statement step) = not_stated an_equal step
-declared_step some_equals (op.of_declaration step) = step
+declared_step some_equals (op.of_declaration step) = unopened step
 declared_step some_equals (op.of_statement step) = not_stated some_equals step
-declared_step an_array (op.of_declaration step) = step
+declared_step an_array (op.of_declaration step) = unopened step
 declared_step an_array (op.of_statement step) = not_stated an_array step
-declared_step some_arrays (op.of_declaration step) = step
+declared_step some_arrays (op.of_declaration step) = unopened step
 declared_step some_arrays (op.of_statement step) = not_stated some_arrays step
-declared_step (some_options f) (op.of_declaration step) = step
+declared_step (some_options f) (op.of_declaration step) = unopened step
 declared_step (some_options f) (op.of_statement step) = not_stated (some_options f) step
-declared_step a_heading (op.of_declaration step) = step
+declared_step a_heading (op.of_declaration step) = unopened step
 declared_step a_heading (op.of_statement step) = not_stated a_heading step
-declared_step a_declaration (op.of_declaration step) = step
+declared_step a_declaration (op.of_declaration step) = unopened step
 declared_step a_declaration (op.of_statement step) = not_stated a_declaration step
-declared_step some_declarations (op.of_declaration step) = step
+declared_step some_declarations (op.of_declaration step) = unopened step
 declared_step some_declarations (op.of_statement step) = not_stated some_declarations step
-declared_step a_body (op.of_declaration step) = step
+declared_step a_body (op.of_declaration step) = unopened step
 declared_step a_body (op.of_statement step) = not_stated a_body step
-declared_step a_unit (op.of_declaration step) = step
+declared_step a_unit (op.of_declaration step) = unopened step
 declared_step a_unit (op.of_statement step) = not_stated a_unit step
 
 -- a part that has not begun
@@ -215,4 +225,4 @@ pub all_completed : {p q : Part} {d n j k : ℕ} {ts rest : List Lexeme} → Ins
 all_completed (inl v) c = completed v c
 all_completed {ts = ts} (inr v) op.here = begun_with ts v
 all_completed (inr v) (op.inner step c) = let s = declared_step v step in
-    declaration_completed s (all_completed (next_known s) c)
+    declaration_completed s.step (all_completed (next_known s.step) c)

@@ -81,7 +81,7 @@ no_longer_specs (dl.Specs.words j u l x) = let a = shorter_names l in let b = no
 no_longer_specs (dl.Specs.arrays j c u l x) = let d = no_longer_kind c in let a = shorter_names l in let b =
     no_longer_specs x in omega arith
 
-shorter_options : {a c : Options} {ts rest : List Lexeme} → dl.OptionList a c ts rest → length rest < length ts
+pub shorter_options : {a c : Options} {ts rest : List Lexeme} → dl.OptionList a c ts rest → length rest < length ts
 shorter_options (dl.OptionList.one i e f) = omega arith
 shorter_options (dl.OptionList.more i e f k l) = let a = shorter_options l in omega arith
 
@@ -116,7 +116,7 @@ mutual
   shorter_declaration (dl.Declaration.subroutine h x) = let a = shorter_subroutine h in let b = tk.no_longer x in omega
       arith
 
-  no_longer_declarations : {u after : Bool} {n : ℕ} {ds : List decl.Declaration} {ts rest : List Lexeme}
+  pub no_longer_declarations : {u after : Bool} {n : ℕ} {ds : List decl.Declaration} {ts rest : List Lexeme}
       → dl.Declarations u after n ds ts rest → length rest ≤ length ts
   no_longer_declarations dl.Declarations.none = omega arith
   no_longer_declarations (dl.Declarations.more x e k l) = let a = shorter_declaration x in let b =

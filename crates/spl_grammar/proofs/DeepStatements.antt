@@ -96,7 +96,7 @@ past d m room sum = over d 0 room 0 m (omega arith) (omega arith)
 -- References.
 
 -- a choice by a first symbol that fails the test
-first_else : {A : Type 0} {n : ℕ} (test : Symbol → Bool) (p : Parser A) {q : Parser A} {ts : List Lexeme}
+pub first_else : {A : Type 0} {n : ℕ} (test : Symbol → Bool) (p : Parser A) {q : Parser A} {ts : List Lexeme}
     → ft.Begins test false ts → Sinks n q ts → Sinks n (by_symbol (λ k. if test k then p else q)) ts
 first_else test p (ft.with_first b) d = sink_head _ (sink_else _ b d)
 

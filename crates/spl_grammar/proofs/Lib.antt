@@ -54,3 +54,6 @@ pub mod CompleteUnits
 pub mod CalmReaders
 pub mod CalmDeclarations
 pub mod UnitLaws
+pub mod DeepDeclarations
+pub mod DeepDeclarationSteps
+pub mod UnitReachLaws

@@ -249,7 +249,7 @@ module _ (room : ℕ) (body_of : ℕ → Parser BodyRead) (u : Bool) (lb : (segm
   local_declaration_by after segment (s.Word k) = local_by_word after segment k
   local_declaration_by after segment _ = local_refuse
 
-  local_declaration : (after : Bool) (segment : ℕ) → IsLocal (declaration room body_of u after segment)
+  pub local_declaration : (after : Bool) (segment : ℕ) → IsLocal (declaration room body_of u after segment)
   unfolding declaration
   local_declaration after segment = local_symbol (local_declaration_by after segment)
 

@@ -14,7 +14,7 @@ use Rattle.spl_tree.specs.Views.{letters}
 use Rattle.spl_tree.specs.Spells.{Spells, unit_tree}
 use Rattle.spl_grammar.specs.Readers.{Got, Bad, Parser, refuse}
 use Rattle.spl_grammar.specs.ReadDeclarations.{BodyRead, declaration, body, unit}
-use Rattle.spl_grammar.specs.Answers.{DeepBefore, Agrees, Explains, Completes}
+use Rattle.spl_grammar.specs.Answers.{DeepBefore, Agrees, Explains, Completes, ChainsReach, DeepFirst, Longest, FaultFirst}
 
 -- What is spelled as a unit is read, unless it is too deep before its end.
 abbrev pub UnitsAreRead : Type 0
@@ -103,3 +103,40 @@ abbrev pub UnitFaultsAreFirst : Type 0
 UnitFaultsAreFirst = (room : ℕ) (t : Lexeme) (us ts : List Lexeme) → unit room ts ≡ Bad (t ∷ us)
     → Completes (λ vs rest. rest ≡ [] → (u : UnitTree) × Unit_of u vs) ts (t ∷ us) ×
     ((vs more : List Lexeme) → Agrees us vs ts more → (u : UnitTree) → Unit_of u more → ⊥)
+
+-- the reader of a declaration: of a unit, or else of a body; behind a subroutine or not; in this segment
+abbrev pub declaration_of : Bool → Bool → ℕ → ℕ → Parser decl.Declaration
+declaration_of procedures after segment room = declaration room (bodies room procedures) procedures after segment
+
+-- Each chain of a declaration goes no further than what is read, whatever the segment.
+abbrev pub DeclarationsReach : Type 0
+DeclarationsReach = (procedures after : Bool) (segment : ℕ)
+    → ChainsReach (part.declaration procedures after) (declaration_of procedures after segment)
+
+-- Where a declaration is too deep at a token, no chain over the tokens before it has more open than may be.
+abbrev pub DeclarationsSinkFirst : Type 0
+DeclarationsSinkFirst = (procedures after : Bool) (segment : ℕ)
+    → DeepFirst (part.declaration procedures after) (declaration_of procedures after segment)
+
+-- No chain goes over the token behind a declaration that was read.
+abbrev pub DeclarationsAreLongest : Type 0
+DeclarationsAreLongest = (procedures after : Bool) (segment : ℕ)
+    → Longest (part.declaration procedures after) (declaration_of procedures after segment)
+
+-- No chain of a declaration goes over the token at which a fault stands.
+abbrev pub DeclarationsFailFirst : Type 0
+DeclarationsFailFirst = (procedures after : Bool) (segment : ℕ)
+    → FaultFirst (part.declaration procedures after) (declaration_of procedures after segment)
+
+-- Each chain of a unit goes no further than what is read.
+abbrev pub UnitsReach : Type 0
+UnitsReach = ChainsReach part.unit unit
+
+-- Where a unit is too deep at a token, no chain over the tokens before it has more open than may be.
+abbrev pub UnitsSinkFirst : Type 0
+UnitsSinkFirst = DeepFirst part.unit unit
+
+-- No chain of a unit goes over the token at which a fault stands. (That a unit is the longest needs no law: nothing
+-- follows it.)
+abbrev pub UnitsFailFirst : Type 0
+UnitsFailFirst = FaultFirst part.unit unit

@@ -20,7 +20,8 @@ pub use statement_laws::{
 };
 pub use unit_laws::{
     bodies_are_explained, declaration_prefixes_are_completed, declarations_are_explained,
+    declarations_are_longest, declarations_fail_first, declarations_reach, declarations_sink_first,
     shallow_units_are_read, texts_spell_one_unit, unit_faults_are_first, unit_faults_stand,
     unit_prefixes_are_completed, units_are_explained, units_are_read, units_are_read_exactly,
-    units_are_unique,
+    units_are_unique, units_fail_first, units_reach, units_sink_first,
 };

@@ -1,5 +1,5 @@
 //! Laws of units, each as the contract of a function that does nothing.
-ghost use Rattle.spl_grammar.specs.UnitLaws.{UnitsAreRead, UnitFaultsStand, UnitsAreUnique, TextsSpellOneUnit, DeclarationPrefixesAreCompleted, UnitPrefixesAreCompleted, DeclarationsAreExplained, BodiesAreExplained, UnitsAreExplained, UnitsAreReadExactly, ShallowUnitsAreRead, UnitFaultsAreFirst};
+ghost use Rattle.spl_grammar.specs.UnitLaws.{UnitsAreRead, UnitFaultsStand, UnitsAreUnique, TextsSpellOneUnit, DeclarationPrefixesAreCompleted, UnitPrefixesAreCompleted, DeclarationsAreExplained, BodiesAreExplained, UnitsAreExplained, UnitsAreReadExactly, ShallowUnitsAreRead, UnitFaultsAreFirst, DeclarationsReach, DeclarationsSinkFirst, DeclarationsAreLongest, DeclarationsFailFirst, UnitsReach, UnitsSinkFirst, UnitsFailFirst};
 
 /// What is spelled as a unit is read, unless it is too deep before its end.
 pub fn units_are_read()
@@ -59,4 +59,39 @@ pub fn shallow_units_are_read()
 /// Some unit begins with the tokens before a fault, and none with those up to it.
 pub fn unit_faults_are_first()
     ensures { UnitFaultsAreFirst }
+{}
+
+/// No chain of a declaration goes further than what is read.
+pub fn declarations_reach()
+    ensures { DeclarationsReach }
+{}
+
+/// Where a declaration is too deep at a token, it is too deep at none before.
+pub fn declarations_sink_first()
+    ensures { DeclarationsSinkFirst }
+{}
+
+/// What is read as a declaration is the longest: no chain goes over the token behind it.
+pub fn declarations_are_longest()
+    ensures { DeclarationsAreLongest }
+{}
+
+/// No chain of a declaration goes over the token at which a fault stands.
+pub fn declarations_fail_first()
+    ensures { DeclarationsFailFirst }
+{}
+
+/// No chain of a unit goes further than what is read.
+pub fn units_reach()
+    ensures { UnitsReach }
+{}
+
+/// Where a unit is too deep at a token, it is too deep at none before.
+pub fn units_sink_first()
+    ensures { UnitsSinkFirst }
+{}
+
+/// No chain of a unit goes over the token at which a fault stands.
+pub fn units_fail_first()
+    ensures { UnitsFailFirst }
 {}
