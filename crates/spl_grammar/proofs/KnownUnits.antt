@@ -1,5 +1,5 @@
 -- Some small units, read and refused at a place, worked by hand.
-use Rattle.std.proofs.Common.{ℕ, ◌≡◌, false, List, [], ◌∷◌, refl}
+use Rattle.std.proofs.Common.{ℕ, ◌≡◌, true, false, List, [], ◌∷◌, None, refl}
 use Rattle.spl_tree.specs.declared.names_and_places.At.{At}
 use Rattle.spl_tree.specs.declared.symbols.Symbol.{Symbol}
 use Rattle.spl_tree.specs.declared.symbols.Symbol.TheVariants as s
@@ -11,12 +11,13 @@ use Rattle.spl_tree.specs.StatementTrees as stat
 use Rattle.spl_tree.specs.StatementTrees.{statements, closed}
 use Rattle.spl_tree.specs.Operators.{binds, shift_of}
 use Rattle.spl_tree.specs.Statements.{class_of}
-use Rattle.spl_grammar.specs.Readers.{Got, Bad, and_then, followed, pure, refuse, by_symbol, take, at_place, allowed, kind_number, reserved_number, truth_number, symbol_number, same_symbol, expect, numbered, named_number, turns, repeat}
+use Rattle.spl_grammar.specs.Readers.{Got, Bad, Deep, and_then, followed, pure, refuse, by_symbol, take, at_place, allowed, kind_number, reserved_number, truth_number, symbol_number, same_symbol, expect, numbered, named_number, turns, repeat}
 use Rattle.spl_grammar.specs.ReadExpressions.{signed_by, constant_by, constant, operator_of, bits, field, negative_by, enter, opening, enclosed, more_arguments, arguments, named, addressed, primary_by, inverse, primary, unary_step, counted, signed_by_next, first, join, shifted, bytes, turn_by, turn, level, whole, unary, expression, within, condition}
 use Rattle.spl_tree.specs.declared.expressions.Kind.TheVariants as kind
 use Rattle.spl_tree.specs.DeclarationTrees as decl
 use Rattle.spl_tree.specs.Declarations.{option_of}
 use Rattle.spl_grammar.specs.ReadDeclarations as rd
+use Rattle.spl_grammar.specs.UnitLaws.{declaration_of}
 use Rattle.spl_grammar.specs.ReadStatements.{indexed, reference, source_behind, source, while_or_until, move, scan, effect, test, value, assigned, field_assigned, behind_reference, stepped, go_name, more_statements, statement_list, labelled, with_arguments, named_statement, address_assigned, block, else_behind, if_statement, while_statement, do_statement, for_statement, case_statement, go_statement, effect_statement, by_word, statement_by, statement_step, statement}
 
 -- the place in column n of the first line
@@ -74,3 +75,41 @@ refuses_data_behind_a_subroutine = refl
 refuses_a_missing_dot : rd.unit 64 (mark (s.Word w.Begin) 1 ∷ mark (s.Word w.End) 2 ∷ stop 3) ≡ Bad (stop 3)
 unfolding readers
 refuses_a_missing_dot = refl
+
+-- BEGIN IF = THEN BEGIN END END . where one construct may be open: too deep at the second BEGIN, as that of the unit does
+-- not count
+sinks_in_a_branch : rd.unit 1 (mark (s.Word w.Begin) 1 ∷ mark (s.Word w.If) 2 ∷ mark (s.Operator 5) 3
+    ∷ mark (s.Word w.Then) 4 ∷ mark (s.Word w.Begin) 5 ∷ mark (s.Word w.End) 6 ∷ mark (s.Word w.End) 7 ∷ mark s.Dot 8
+    ∷ stop 9)
+    ≡ Deep (mark (s.Word w.Begin) 5 ∷ mark (s.Word w.End) 6 ∷ mark (s.Word w.End) 7 ∷ mark s.Dot 8 ∷ stop 9)
+unfolding readers
+sinks_in_a_branch = refl
+
+-- BEGIN PROCEDURE P; BEGIN BEGIN BEGIN where one construct may be open: that of the body does not count either
+sinks_in_a_procedure : rd.unit 1 (mark (s.Word w.Begin) 1 ∷ mark (s.Word w.Procedure) 2 ∷ name 80 3
+    ∷ mark s.Semicolon 4 ∷ mark (s.Word w.Begin) 5 ∷ mark (s.Word w.Begin) 6 ∷ mark (s.Word w.Begin) 7 ∷ stop 8)
+    ≡ Deep (mark (s.Word w.Begin) 7 ∷ stop 8)
+unfolding readers
+sinks_in_a_procedure = refl
+
+-- PROCEDURE P; RETURN is a declaration of a unit, and none of a body
+reads_a_procedure : declaration_of true false 0 64 (mark (s.Word w.Procedure) 1 ∷ name 80 2 ∷ mark s.Semicolon 3
+    ∷ mark (s.Word w.Return) 4 ∷ mark s.Semicolon 5 ∷ [])
+    ≡ Got (decl.Declaration.procedure (record {
+      result = None;
+      name = 80 ∷ [];
+      names = [];
+      values = [];
+      specs = [];
+      split = false;
+      at = at 2;
+      segment = 0;
+    }) (decl.declarations []) (stat.Statement.return (at 4) ∷ [])) (mark s.Semicolon 5 ∷ [])
+unfolding readers
+reads_a_procedure = refl
+
+-- which has no procedures
+refuses_a_procedure_in_a_body : declaration_of false false 0 64 (mark (s.Word w.Procedure) 1 ∷ name 80 2 ∷ [])
+    ≡ Bad (mark (s.Word w.Procedure) 1 ∷ name 80 2 ∷ [])
+unfolding readers
+refuses_a_procedure_in_a_body = refl
