@@ -14,7 +14,7 @@ use Rattle.spl_grammar.specs.Readers.{Outcome, Got, Bad, Parser, expect, by_symb
 use Rattle.spl_grammar.specs.ReadExpressions.{constant, is}
 use Rattle.spl_grammar.specs.ReadStatements.{statement}
 use Rattle.spl_grammar.specs.ReadDeclarations.{more_parts, separated, name, names, item, shape, array, more_arrays, arrays, more_terms, equal, by_token, option_among, option_behind, more_options, options, parameters, spec_names, spec_behind, spec_by, more_specs, heading_tail, heading, BodyRead, array_data, item_data, behind_heading, procedure, subroutine, owned_by, typed_by, typed, by_word, declaration_by, declaration, more_declarations, declaration_list, body, next_segment, unit}
-use Rattle.spl_grammar.proofs.LocalReaders.{IsLocal, Agrees, here, there, Like, got, end_of, local_pure, local_refuse, local_take, local_then, local_symbol, local_if, local_expect, local_repeat, locals, Takes, Taking, takes_take, takes_then, takes_symbol, takes_if, takes_refuse, taking, taking_none, taking_if, taking_symbol}
+use Rattle.spl_grammar.proofs.LocalReaders.{IsLocal, Left, entire, Agrees, here, there, Like, got, end_of, local_pure, local_refuse, local_take, local_then, local_symbol, local_if, local_expect, local_repeat, locals, Takes, Taking, takes_take, takes_then, takes_symbol, takes_if, takes_refuse, taking, taking_none, taking_if, taking_symbol}
 use Rattle.spl_grammar.proofs.LocalExpressions.{local_constant}
 use Rattle.spl_grammar.proofs.LocalStatements.{local_statement, local_list}
 
@@ -97,6 +97,12 @@ unfolding by_token
 token_shrinks f l [] = omega arith
 token_shrinks f l (t ∷ ts) = (l t).shrinks (t ∷ ts)
 
+token_left : {A : Type 0} (f : Lexeme → Parser A) → ((t : Lexeme) → IsLocal (f t)) → (ts : List Lexeme)
+    → Left (end_of (by_token f ts)) ts
+unfolding by_token
+token_left f l [] = entire
+token_left f l (t ∷ ts) = (l t).left (t ∷ ts)
+
 token_alike : {A : Type 0} (f : Lexeme → Parser A) → ((t : Lexeme) → IsLocal (f t)) → (us vs ts more : List Lexeme)
     → Agrees us vs ts more → Like us vs (by_token f ts) (by_token f more)
 unfolding by_token
@@ -104,7 +110,7 @@ token_alike f l us vs _ _ (here {t = t}) = (l t).alike us vs _ _ here
 token_alike f l us vs _ _ (there {t = t} h) = (l t).alike us vs _ _ (there h)
 
 local_token : {A : Type 0} {f : Lexeme → Parser A} → ((t : Lexeme) → IsLocal (f t)) → IsLocal (by_token f)
-local_token {f = f} l = record { shrinks = token_shrinks f l; alike = token_alike f l }
+local_token {f = f} l = record { shrinks = token_shrinks f l; left = token_left f l; alike = token_alike f l }
 
 local_among : (a : Options) (o : Option Options) → IsLocal (option_among a o)
 unfolding option_among
@@ -321,13 +327,18 @@ unfolding next_segment
 segment_shrinks [] = omega arith
 segment_shrinks (t ∷ ts) = omega arith
 
+segment_left : (ts : List Lexeme) → Left (end_of (next_segment ts)) ts
+unfolding next_segment
+segment_left [] = entire
+segment_left (t ∷ ts) = entire
+
 segment_alike : (us vs ts more : List Lexeme) → Agrees us vs ts more → Like us vs (next_segment ts) (next_segment more)
 unfolding next_segment
 segment_alike us vs ts more here = got here
 segment_alike us vs ts more (there h) = got (there h)
 
 pub local_segment : IsLocal next_segment
-local_segment = record { shrinks = segment_shrinks; alike = segment_alike }
+local_segment = record { shrinks = segment_shrinks; left = segment_left; alike = segment_alike }
 
 pub local_unit : (room : ℕ) → IsLocal (unit room)
 unfolding unit

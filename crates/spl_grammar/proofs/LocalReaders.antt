@@ -14,23 +14,38 @@ pub data Like {A : Type 0} (us vs : List Lexeme) : Outcome A → Outcome A → T
   deep : {ts more : List Lexeme} → Agrees us vs ts more → Like us vs (Deep ts) (Deep more)
   past : {o p : Outcome A} → length (end_of o) ≤ length us → Like us vs o p
 
--- The reader gives back no token, and is alike on lists that agree.
+-- the first list is what is left of the second behind some of its tokens
+pub data Left : List Lexeme → List Lexeme → Type 0 where
+  entire : {ts : List Lexeme} → Left ts ts
+  cut : {t : Lexeme} {us ts : List Lexeme} → Left us ts → Left us (t ∷ ts)
+
+pub left_then : {us vs ts : List Lexeme} → Left us vs → Left vs ts → Left us ts
+left_then a entire = a
+left_then a (cut b) = cut (left_then a b)
+
+-- The reader gives back no token, stops in its list, and is alike on lists that agree.
 pub record IsLocal {A : Type 0} (p : Parser A) : Type 0 where
   pub shrinks : (ts : List Lexeme) → length (end_of (p ts)) ≤ length ts
+  pub left : (ts : List Lexeme) → Left (end_of (p ts)) ts
   pub alike : (us vs ts more : List Lexeme) → Agrees us vs ts more → Like us vs (p ts) (p more)
 
 pub local_pure : {A : Type 0} (a : A) → IsLocal (pure a)
 unfolding pure
-local_pure a = record { shrinks = λ ts. omega arith; alike = λ us vs ts more h. got h }
+local_pure a = record { shrinks = λ ts. omega arith; left = λ ts. entire; alike = λ us vs ts more h. got h }
 
 pub local_refuse : {A : Type 0} → IsLocal (refuse {A = A})
 unfolding refuse
-local_refuse = record { shrinks = λ ts. omega arith; alike = λ us vs ts more h. bad h }
+local_refuse = record { shrinks = λ ts. omega arith; left = λ ts. entire; alike = λ us vs ts more h. bad h }
 
 private_take_shrinks : (ts : List Lexeme) → length (end_of (take ts)) ≤ length ts
 unfolding take
 private_take_shrinks [] = omega arith
 private_take_shrinks (t ∷ ts) = omega arith
+
+private_take_left : (ts : List Lexeme) → Left (end_of (take ts)) ts
+unfolding take
+private_take_left [] = entire
+private_take_left (t ∷ ts) = cut entire
 
 private_take_alike : (us vs ts more : List Lexeme) → Agrees us vs ts more → Like us vs (take ts) (take more)
 unfolding take
@@ -38,12 +53,17 @@ private_take_alike us vs ts more here = past (omega arith)
 private_take_alike us vs ts more (there h) = got h
 
 pub local_take : IsLocal take
-local_take = record { shrinks = private_take_shrinks; alike = private_take_alike }
+local_take = record { shrinks = private_take_shrinks; left = private_take_left; alike = private_take_alike }
 
 place_shrinks : (ts : List Lexeme) → length (end_of (at_place ts)) ≤ length ts
 unfolding at_place
 place_shrinks [] = omega arith
 place_shrinks (t ∷ ts) = omega arith
+
+place_left : (ts : List Lexeme) → Left (end_of (at_place ts)) ts
+unfolding at_place
+place_left [] = entire
+place_left (t ∷ ts) = entire
 
 place_alike : (us vs ts more : List Lexeme) → Agrees us vs ts more → Like us vs (at_place ts) (at_place more)
 unfolding at_place
@@ -51,7 +71,7 @@ place_alike us vs ts more here = got here
 place_alike us vs ts more (there h) = got (there h)
 
 pub local_place : IsLocal at_place
-local_place = record { shrinks = place_shrinks; alike = place_alike }
+local_place = record { shrinks = place_shrinks; left = place_left; alike = place_alike }
 
 -- one part after another
 then_shrinks : {A B : Type 0} (f : A → Parser B) (n : ℕ) → ((a : A) → IsLocal (f a)) → (o : Outcome A)
@@ -61,6 +81,13 @@ unfolding and_then
 then_shrinks f n l (Got a rest) h = let s = (l a).shrinks rest in omega arith
 then_shrinks f n l (Bad rest) h = h
 then_shrinks f n l (Deep rest) h = h
+
+then_left : {A B : Type 0} (f : A → Parser B) (ts : List Lexeme) → ((a : A) → IsLocal (f a)) → (o : Outcome A)
+    → Left (end_of o) ts → Left (end_of (and_then o f)) ts
+unfolding and_then
+then_left f ts l (Got a rest) h = left_then ((l a).left rest) h
+then_left f ts l (Bad rest) h = h
+then_left f ts l (Deep rest) h = h
 
 then_alike : {A B : Type 0} (f : A → Parser B) (us vs : List Lexeme) → ((a : A) → IsLocal (f a)) → (o p : Outcome A)
     → Like us vs o p
@@ -76,6 +103,7 @@ pub local_then : {A B : Type 0} {p : Parser A} {f : A → Parser B} → IsLocal 
 unfolding followed
 local_then {p = p} {f = f} l m = record {
   shrinks = λ ts. then_shrinks f _ m (p ts) (l.shrinks ts);
+  left = λ ts. then_left f ts m (p ts) (l.left ts);
   alike = λ us vs ts more h. then_alike f us vs m (p ts) (p more) (l.alike us vs ts more h);
 }
 
@@ -86,6 +114,12 @@ unfolding by_symbol
 symbol_shrinks f l [] = omega arith
 symbol_shrinks f l (t ∷ ts) = (l t.symbol).shrinks (t ∷ ts)
 
+symbol_left : {A : Type 0} (f : Symbol → Parser A) → ((k : Symbol) → IsLocal (f k)) → (ts : List Lexeme)
+    → Left (end_of (by_symbol f ts)) ts
+unfolding by_symbol
+symbol_left f l [] = entire
+symbol_left f l (t ∷ ts) = (l t.symbol).left (t ∷ ts)
+
 symbol_alike : {A : Type 0} (f : Symbol → Parser A) → ((k : Symbol) → IsLocal (f k)) → (us vs ts more : List Lexeme)
     → Agrees us vs ts more → Like us vs (by_symbol f ts) (by_symbol f more)
 unfolding by_symbol
@@ -93,7 +127,7 @@ symbol_alike f l us vs _ _ (here {t = t}) = (l t.symbol).alike us vs _ _ here
 symbol_alike f l us vs _ _ (there {t = t} h) = (l t.symbol).alike us vs _ _ (there h)
 
 pub local_symbol : {A : Type 0} {f : Symbol → Parser A} → ((k : Symbol) → IsLocal (f k)) → IsLocal (by_symbol f)
-local_symbol {f = f} l = record { shrinks = symbol_shrinks f l; alike = symbol_alike f l }
+local_symbol {f = f} l = record { shrinks = symbol_shrinks f l; left = symbol_left f l; alike = symbol_alike f l }
 
 -- a choice by a test
 pub local_if : {A : Type 0} {p q : Parser A} (b : Bool) → IsLocal p → IsLocal q → IsLocal (if b then p else q)
@@ -101,7 +135,7 @@ local_if true l m = l
 local_if false l m = m
 
 pub local_deep : {A : Type 0} → IsLocal {A = A} (λ ts. Deep ts)
-local_deep = record { shrinks = λ ts. omega arith; alike = λ us vs ts more h. deep h }
+local_deep = record { shrinks = λ ts. omega arith; left = λ ts. entire; alike = λ us vs ts more h. deep h }
 
 pub local_allowed : (b : Bool) → IsLocal (allowed b)
 unfolding allowed
@@ -118,7 +152,7 @@ local_numbered None = local_refuse
 local_numbered (Some n) = local_then local_take (λ _. local_pure n)
 
 local_bad : {A : Type 0} → IsLocal {A = A} (λ ts. Bad ts)
-local_bad = record { shrinks = λ ts. omega arith; alike = λ us vs ts more h. bad h }
+local_bad = record { shrinks = λ ts. omega arith; left = λ ts. entire; alike = λ us vs ts more h. bad h }
 
 named_at : (table : List ℕ → Option ℕ) (t : Lexeme)
     → IsLocal (λ ts. if same_symbol t.symbol s.Name then numbered (table t.letters) ts else Bad ts)
@@ -133,6 +167,11 @@ unfolding named_number
 named_shrinks table [] = omega arith
 named_shrinks table (t ∷ ts) = (named_at table t).shrinks (t ∷ ts)
 
+named_left : (table : List ℕ → Option ℕ) (ts : List Lexeme) → Left (end_of (named_number table ts)) ts
+unfolding named_number
+named_left table [] = entire
+named_left table (t ∷ ts) = (named_at table t).left (t ∷ ts)
+
 named_alike : (table : List ℕ → Option ℕ) (us vs ts more : List Lexeme) → Agrees us vs ts more
     → Like us vs (named_number table ts) (named_number table more)
 unfolding named_number
@@ -140,7 +179,7 @@ named_alike table us vs _ _ (here {t = t}) = (named_at table t).alike us vs _ _ 
 named_alike table us vs _ _ (there {t = t} h) = (named_at table t).alike us vs _ _ (there h)
 
 pub local_named : (table : List ℕ → Option ℕ) → IsLocal (named_number table)
-local_named table = record { shrinks = named_shrinks table; alike = named_alike table }
+local_named table = record { shrinks = named_shrinks table; left = named_left table; alike = named_alike table }
 
 -- Loops.
 
@@ -209,10 +248,16 @@ repeat_shrinks : {S : Type 0} (step : S → Parser (Bool × S)) → ((s : S) →
 unfolding repeat
 repeat_shrinks step l s ts = (local_turns step l (suc (length ts)) s).shrinks ts
 
+repeat_left : {S : Type 0} (step : S → Parser (Bool × S)) → ((s : S) → IsLocal (step s)) → (s : S) (ts : List Lexeme)
+    → Left (end_of (repeat step s ts)) ts
+unfolding repeat
+repeat_left step l s ts = (local_turns step l (suc (length ts)) s).left ts
+
 -- a loop whose turns take tokens
 pub local_repeat : {S : Type 0} {step : S → Parser (Bool × S)} (s : S) → ((s : S) → IsLocal (step s))
     → ((s : S) (ts : List Lexeme) → Taking (length ts) (step s ts)) → IsLocal (repeat step s)
-local_repeat {step = step} s l t = record { shrinks = repeat_shrinks step l s; alike = repeat_alike step l t s }
+local_repeat {step = step} s l t = record
+    { shrinks = repeat_shrinks step l s; left = repeat_left step l s; alike = repeat_alike step l t s }
 
 -- a reader that is the same as another
 pub local_same : {A : Type 0} (p q : Parser A) → p ≡ q → IsLocal q → IsLocal p
