@@ -24,7 +24,7 @@ use Rattle.spl_tree.specs.Parts.{Part}
 use Rattle.spl_grammar.proofs.MovedParts.{Swap, same, behind, along, swap_length, Moved, move_constant}
 use Rattle.spl_grammar.proofs.MovedStatements.{move_statements}
 use Rattle.spl_grammar.proofs.MovedDeclarations.{Some_of, move_name, move_names, move_kind, move_result, move_own, move_item, move_array, move_terms, move_equal, move_parameters, move_values, move_specs, move_options, move_heading, is_body, still_no_block, SomeDeclaration, SomeDeclarations, SomeBody, move_declaration, move_declarations, test_at, list_at}
-use Rattle.spl_grammar.proofs.CompletedParts.{EndedOptions, RawHeading, raw, AnyDeclaration, AnyUnit, Whole, Refilled, filled, Completed, open_at, token, word, a_name, a_number}
+use Rattle.spl_grammar.proofs.CompletedParts.{EndedOptions, RawHeading, raw, AnyDeclaration, AnyUnit, Whole, Refilled, filled, Completed, open_at, has_token, has_token_behind, token, word, a_name, a_number}
 use Rattle.spl_grammar.proofs.CompletedExpressions.{nothing_or}
 
 -- an open part, and the marks behind it
@@ -524,3 +524,13 @@ declaration_completed (od.unit_stop {segment = old} {z = z} {d = d} i ds xs j k)
     let n = move_statements xs (z ∷ d ∷ token s.Stop ∷ more) in let m = move_declarations old ds n.to in
     filled (behind (along m.swap (along n.swap (behind (behind same)))))
     (λ q. of_unit i (λ segment. resegment_all segment m.whole.spelled) n.whole.spelled j k refl q))
+
+-- a unit that is open lacks a token
+pub unit_lacks : {q : Part} {ts mid rest : List Lexeme} (step : DeclarationStep part.unit ts q mid) (o : Completed q mid rest)
+    → 1 ≤ length (declaration_completed step o).tail
+unfolding declaration_completed around_part open_at
+unit_lacks (od.unit_declarations i) o = has_token_behind o.tail (word wd.End) (token s.Dot ∷ token s.Stop ∷ [])
+unit_lacks (od.unit_statements i ds) o = has_token_behind o.tail (word wd.End) (token s.Dot ∷ token s.Stop ∷ [])
+unit_lacks (od.unit_end i ds xs) o = has_token (word wd.End) (token s.Dot ∷ token s.Stop ∷ [])
+unit_lacks (od.unit_dot i ds xs j) o = has_token (token s.Dot) (token s.Stop ∷ [])
+unit_lacks (od.unit_stop i ds xs j k) o = has_token (token s.Stop) []

@@ -186,17 +186,24 @@ pub append_length : (ts us : List Lexeme) → length us ≤ length (ts ++ us)
 append_length [] us = omega arith
 append_length (t ∷ ts) us = let a = append_length ts us in omega arith
 
+-- a list with a token before others has one, and so has one behind any list
+pub has_token : (t : Lexeme) (ts : List Lexeme) → 1 ≤ length (t ∷ ts)
+has_token t ts = omega arith
+
+pub has_token_behind : (us : List Lexeme) (t : Lexeme) (ts : List Lexeme) → 1 ≤ length (us ++ t ∷ ts)
+has_token_behind us t ts = let a = append_length us (t ∷ ts) in omega arith
+
 -- what is open at a mark ends there
-at_end : {ts rest : List Lexeme} → Completed part.mark ts rest → ts ≡ rest
+pub at_end : {ts rest : List Lexeme} → Completed part.mark ts rest → ts ≡ rest
 at_end o = let a = o.whole [] in swap_same a.swap
     (let b = same_length a.whole in let l = swap_length a.swap in let m = append_length o.tail [] in omega arith)
 
 -- a production that is open at a mark
-pub open_at : {p : Part} {ts mid rest : List Lexeme} → (marks : List Lexeme)
+unfoldable pub open_at : {p : Part} {ts mid rest : List Lexeme} → (marks : List Lexeme)
     → (Inside part.mark → Completed part.mark mid rest)
     → ((more : List Lexeme) → Refilled p ts mid (marks ++ more) more)
     → Completed p ts rest
-open_at {p = p} {ts = ts} marks o f = rw (← at_end (o a_mark)) (record { tail = marks; whole = f })
+open_at marks o f = record { tail = marks; whole = λ more. rw (← at_end (o a_mark)) (f more) }
 
 -- tokens of these symbols
 abbrev pub token : Symbol → Lexeme

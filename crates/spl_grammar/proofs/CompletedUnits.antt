@@ -1,5 +1,5 @@
 -- Each open prefix of a declaration and of a unit can be completed, along the whole chain.
-use Rattle.std.proofs.Common.{ℕ, ◌≡◌, Bool, true, List, [], ◌∷◌, refl, ◌⊎◌, inl, inr}
+use Rattle.std.proofs.Common.{ℕ, ◌≡◌, ◌≤◌, Bool, true, List, [], ◌∷◌, length, refl, ◌⊎◌, inl, inr}
 use Rattle.spl_tree.specs.declared.symbols.Symbol.TheVariants as s
 use Rattle.spl_tree.specs.declared.symbols.Reserved.{Reserved}
 use Rattle.spl_tree.specs.declared.symbols.Reserved.TheVariants as wd
@@ -15,9 +15,9 @@ use Rattle.spl_tree.specs.OpenDeclarations.{DeclarationStep}
 use Rattle.spl_tree.specs.Parts as part
 use Rattle.spl_tree.specs.Parts.{Part}
 use Rattle.spl_grammar.proofs.MovedParts.{same}
-use Rattle.spl_grammar.proofs.CompletedParts.{raw, Inside, a_constant, a_statement, some_statements, a_mark, filled, Completed, token, word, a_name, a_number}
+use Rattle.spl_grammar.proofs.CompletedParts.{raw, Inside, a_constant, a_statement, some_statements, a_mark, filled, Completed, has_token, token, word, a_name, a_number}
 use Rattle.spl_grammar.proofs.CompletedExpressions.{completed}
-use Rattle.spl_grammar.proofs.CompletedDeclarations.{some, one_name, last_option, one_option, as_subroutine, of_declaration_tree, of_declarations, return_body, of_unit, declaration_completed}
+use Rattle.spl_grammar.proofs.CompletedDeclarations.{some, one_name, last_option, one_option, as_subroutine, of_declaration_tree, of_declarations, return_body, of_unit, declaration_completed, unit_lacks}
 
 -- the parts of declarations and units; the options so far do not exclude each other
 pub data Declared : Part → Type 0 where
@@ -226,3 +226,11 @@ all_completed (inl v) c = completed v c
 all_completed {ts = ts} (inr v) op.here = begun_with ts v
 all_completed (inr v) (op.inner step c) = let s = declared_step v step in
     declaration_completed s.step (all_completed (next_known s.step) c)
+
+-- a unit that is open lacks a token
+pub unit_tail : {q : Part} {d n j k : ℕ} {ts rest : List Lexeme} (c : op.Opens part.unit d n ts q j k rest)
+    → 1 ≤ length (all_completed (inr a_unit) c).tail
+unfolding all_completed begun_with
+unit_tail op.here = has_token (word wd.Begin) (word wd.End ∷ token s.Dot ∷ token s.Stop ∷ [])
+unit_tail (op.inner step c) = let s = declared_step a_unit step in
+    unit_lacks s.step (all_completed (next_known s.step) c)

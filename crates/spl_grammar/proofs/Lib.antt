@@ -57,3 +57,6 @@ pub mod UnitLaws
 pub mod DeepDeclarations
 pub mod DeepDeclarationSteps
 pub mod UnitReachLaws
+pub mod EndedParts
+pub mod EndedDeclarations
+pub mod UnitEnds

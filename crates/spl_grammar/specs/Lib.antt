@@ -7,3 +7,4 @@ pub mod ReadStatements
 pub mod StatementLaws
 pub mod ReadDeclarations
 pub mod UnitLaws
+pub mod Ends

@@ -4,6 +4,7 @@
 mod expression_laws;
 mod statement_laws;
 mod unit_laws;
+mod verdict_laws;
 
 pub use expression_laws::{
     condition_faults_stand, condition_prefixes_are_completed, conditions_are_explained,
@@ -25,3 +26,4 @@ pub use unit_laws::{
     unit_prefixes_are_completed, units_are_explained, units_are_read, units_are_read_exactly,
     units_are_unique, units_fail_first, units_reach, units_sink_first,
 };
+pub use verdict_laws::{unit_chains_keep_the_end, units_are_whole};
