@@ -60,3 +60,4 @@ pub mod UnitReachLaws
 pub mod EndedParts
 pub mod EndedDeclarations
 pub mod UnitEnds
+pub mod VerdictLaws

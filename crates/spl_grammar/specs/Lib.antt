@@ -8,3 +8,4 @@ pub mod StatementLaws
 pub mod ReadDeclarations
 pub mod UnitLaws
 pub mod Ends
+pub mod Verdicts

@@ -26,4 +26,6 @@ pub use unit_laws::{
     unit_prefixes_are_completed, units_are_explained, units_are_read, units_are_read_exactly,
     units_are_unique, units_fail_first, units_reach, units_sink_first,
 };
-pub use verdict_laws::{unit_chains_keep_the_end, units_are_whole};
+pub use verdict_laws::{
+    unit_chains_keep_the_end, units_are_whole, verdicts_are_read, verdicts_are_unique,
+};
