@@ -1,5 +1,5 @@
 -- Some small units, read and refused at a place, worked by hand.
-use Rattle.std.proofs.Common.{ℕ, ◌≡◌, true, false, List, [], ◌∷◌, None, refl}
+use Rattle.std.proofs.Common.{ℕ, ◌≡◌, true, false, List, [], ◌∷◌, ◌++◌, replicate, None, refl}
 use Rattle.spl_tree.specs.declared.names_and_places.At.{At}
 use Rattle.spl_tree.specs.declared.symbols.Symbol.{Symbol}
 use Rattle.spl_tree.specs.declared.symbols.Symbol.TheVariants as s
@@ -113,3 +113,13 @@ refuses_a_procedure_in_a_body : declaration_of false false 0 64 (mark (s.Word w.
     ≡ Bad (mark (s.Word w.Procedure) 1 ∷ name 80 2 ∷ [])
 unfolding readers
 refuses_a_procedure_in_a_body = refl
+
+-- BEGIN and 65 more, where 64 constructs may be open: too deep at the last; and not so with 64, which are refused at the end
+sinks_at_the_sixty_fifth : rd.unit 64 (mark (s.Word w.Begin) 1 ∷ replicate 65 (mark (s.Word w.Begin) 2) ++ stop 3)
+    ≡ Deep (mark (s.Word w.Begin) 2 ∷ stop 3)
+unfolding readers
+sinks_at_the_sixty_fifth = refl
+
+refuses_sixty_four : rd.unit 64 (mark (s.Word w.Begin) 1 ∷ replicate 64 (mark (s.Word w.Begin) 2) ++ stop 3) ≡ Bad (stop 3)
+unfolding readers
+refuses_sixty_four = refl
