@@ -2,7 +2,7 @@
 use Rattle.std.proofs.Common.{◌≡◌, ℕ, Bool, true, false, List, [], ◌∷◌, Option, None, Some, refl, sym, ap, subst, ◌∙◌}
 use Rattle.std.specs.Prelude.{IfSome, IsSome, IsSomeAnd, option_map, option_and_then, if◌then◌else◌}
 use Rattle.std.proofs.lemmas.Bool.{false≢true}
-use Rattle.hp_flat.specs.declared.program.Program.{Program}
+use Rattle.hp_program.specs.declared.program.Program.{Program}
 use Rattle.thin_jobs.specs.ThinUnits as u
 use Rattle.thin_jobs.specs.ThinTexts.{unit_in}
 use Rattle.thin_jobs.specs.ThinJobs.{Job, State, start, job_lines, fed_all, is_whole, job_of, thin_job}

@@ -1,7 +1,7 @@
 -- The program of a tree by its first declaration.
 use Rattle.std.proofs.Common.{◌≡◌, ℕ, List, Option, None, Some, Result, Ok, Err, ap, subst, ◌∙◌}
 use Rattle.std.specs.Prelude.{IfOk, IfSome, option_and_then, slice_get}
-use Rattle.hp_flat.specs.declared.program.Program.{Program}
+use Rattle.hp_program.specs.declared.program.Program.{Program}
 use Rattle.spl_tree.specs.declared.declarations.Decl.{Decl}
 use Rattle.spl_tree.specs.declared.declarations.Item.{Item}
 use Rattle.spl_tree.specs.declared.statements.Stmt.{Stmt}

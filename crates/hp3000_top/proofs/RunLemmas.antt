@@ -1,7 +1,7 @@
 -- Steps made one by one.
 use Rattle.std.proofs.Common.{◌≡◌, ℕ, zero, suc, ◌-◌, ◌<◌, Bool, true, false, List, refl, sym, ap, ◌∙◌, arith}
 use Rattle.std.specs.Bool.{OnTrue}
-use Rattle.hp_flat.specs.State.{Machine}
+use Rattle.hp_session.specs.State.{Machine}
 use Rattle.hp_flat.specs.Step.{step, after, is_running}
 
 -- no step is left

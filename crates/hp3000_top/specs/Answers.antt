@@ -2,8 +2,8 @@
 use Rattle.std.specs.Prelude.{◌≡◌, ℕ, Bool, false, List, [], ◌∷◌, Option, Some, IsSomeAnd, IfSome, codes, nat_eq, length, ◌≤◌}
 use Rattle.std.specs.Io.KnownBytes.{Appends, IsAtEnd}
 use lib.Pointwise.{pointwise}
-use Rattle.hp_flat.specs.declared.program.Program.{Program}
-use Rattle.hp_flat.specs.State.{Machine}
+use Rattle.hp_program.specs.declared.program.Program.{Program}
+use Rattle.hp_session.specs.State.{Machine}
 use Rattle.thin_jobs.specs.ThinUnits as u
 use Rattle.hp3000_top.specs.declared.exit.Exit.{Exit}
 use Rattle.hp3000_top.specs.declared.exit.Exit.TheVariants as e

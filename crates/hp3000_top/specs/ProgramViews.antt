@@ -1,7 +1,7 @@
 -- The program that is made of a thin unit.
 use Rattle.std.specs.Prelude.{◌≡◌, ℕ, List, [], ◌∷◌, length, replicate}
-use Rattle.hp_flat.specs.declared.program.Program.{Program}
-use Rattle.hp_flat.specs.Views.{segments_of}
+use Rattle.hp_program.specs.declared.program.Program.{Program}
+use Rattle.hp_program.specs.Programs.{segments_of}
 use Rattle.thin_jobs.specs.ThinUnits as u
 use Rattle.hp3000_top.specs.ThinCode as c
 

@@ -1,9 +1,10 @@
 -- A session of a thin job, run to the end of the job's turns.
 use Rattle.std.specs.Prelude.{ℕ, ◌*◌, []}
-use Rattle.hp_flat.specs.declared.program.Program.{Program}
-use Rattle.hp_flat.specs.State.{Machine}
+use Rattle.hp_program.specs.declared.program.Program.{Program}
+use Rattle.hp_session.specs.State.{Machine}
 use Rattle.hp_flat.specs.Step.{after}
-use Rattle.hp_flat.specs.Views.{segments_of, opened_of}
+use Rattle.hp_program.specs.Programs.{segments_of}
+use Rattle.hp_flat.specs.Views.{opened_of}
 
 -- the words of a session's stack, its room for printed bytes, and the turns of a job, where the job sets none
 abbrev pub stack_words : ℕ

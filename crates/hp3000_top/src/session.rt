@@ -2,7 +2,7 @@
 ghost use Rattle.std.specs.Prelude.{◌≡◌, ◌<◌, IfOk, [], length};
 ghost use Rattle.std.specs.Bool.{OnTrue};
 ghost use Rattle.hp_flat.specs.Step.{after, is_running};
-ghost use Rattle.hp_flat.specs.Views.{segments_of};
+ghost use Rattle.hp_program.specs.Programs.{segments_of};
 ghost use Rattle.hp3000_top.specs.Runs.{run_of};
 
 use hp_flat::{Flat, OpenFlat, Program};

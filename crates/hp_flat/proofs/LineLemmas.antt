@@ -1,8 +1,8 @@
 -- Lines copied one by one.
 use Rattle.std.proofs.Common.{◌≡◌, ℕ, ◌+◌, ◌<◌, List, [], ◌∷◌, ◌++◌, length, get_or, take, sym, ap, ◌∙◌}
 use Rattle.std.proofs.lemmas.List.{map_more, map-append}
-use Rattle.hp_flat.specs.declared.terminal.Line.{Line}
-use Rattle.hp_flat.specs.FlatView.{lines_of}
+use Rattle.hp_session.specs.declared.terminal.Line.{Line}
+use Rattle.hp_session.specs.SessionView.{lines_of}
 
 -- the lines up to the next one
 pub lines_more : (xs : List Line) (i : ℕ) (x : Line) → i < length xs → x ≡ get_or xs i x → lines_of (take (i + 1) xs) ≡ lines_of (take i xs) ++ x.bytes.items ∷ []

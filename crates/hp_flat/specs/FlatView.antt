@@ -1,12 +1,8 @@
 -- The state that a `Flat` stands for, and the room that it keeps.
-use Rattle.std.specs.Prelude.{ℕ, ◌≤◌, List, map, vec_len, vec_capacity}
-use Rattle.hp_flat.specs.declared.terminal.Line.{Line}
+use Rattle.std.specs.Prelude.{◌≤◌, vec_len, vec_capacity}
 use Rattle.hp_flat.specs.declared.flat.Flat.TheInside.{Inside}
-use Rattle.hp_flat.specs.State.{Machine}
-
--- the bytes of each line
-abbrev pub lines_of : List Line → List (List ℕ)
-lines_of lines = map (λ l. l.bytes.items) lines
+use Rattle.hp_session.specs.State.{Machine}
+use Rattle.hp_session.specs.SessionView.{lines_of}
 
 -- the fields, each vector as the list of its items
 abbrev pub machine_of : Inside → Machine

@@ -8,12 +8,13 @@ use Rattle.hp_instr.specs.declared.instruction.Instr.{Instr}
 use Rattle.hp_instr.specs.declared.instruction.Instr.TheVariants.{Pair, Shifted, Short, Immediate, Control, Memory, LoadCode, Branch, OnCode, Loop}
 use Rattle.hp_instr.specs.declared.instruction.Op.{Op}
 use Rattle.hp_instr.specs.Instructions.{instruction}
-use Rattle.hp_flat.specs.State.{Machine, Outcome, then_with, passing}
-use Rattle.hp_flat.specs.StackRows.{operated}
-use Rattle.hp_flat.specs.WordRows.{shifting, short_branch, immediate_row, count_row}
-use Rattle.hp_flat.specs.MemoryRows.{memory_row, code_word, code_loaded, branched, branched_on_code, loop_tested, loop_stepped}
-use Rattle.hp_flat.specs.MoveRows.{move_row}
-use Rattle.hp_flat.specs.CallRows.{called, exited, subroutine_left, subroutine_called}
+use Rattle.hp_program.specs.Programs.{code_word}
+use Rattle.hp_session.specs.State.{Machine, Outcome, then_with, passing}
+use Rattle.hp_stack_rows.specs.StackRows.{operated}
+use Rattle.hp_word_rows.specs.WordRows.{shifting, short_branch, immediate_row, count_row}
+use Rattle.hp_memory_rows.specs.MemoryRows.{memory_row, code_loaded, branched, branched_on_code, loop_tested, loop_stepped}
+use Rattle.hp_memory_rows.specs.MoveRows.{move_row}
+use Rattle.hp_call_rows.specs.CallRows.{called, subroutine_called, exited, subroutine_left}
 
 -- R is 1: the next step is the right operation of the word at P
 abbrev pub at_right : Machine → Machine

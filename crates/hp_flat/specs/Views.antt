@@ -1,14 +1,11 @@
--- What a `Program` stands for, and how its session opens.
-use Rattle.std.specs.Prelude.{ℕ, List, [], map, slice_get, unwrap_or}
-use Rattle.hp_flat.specs.declared.program.Program.{Program}
-use Rattle.hp_flat.specs.declared.terminal.Line.{Line}
-use Rattle.hp_flat.specs.FlatView.{lines_of}
-use Rattle.hp_flat.specs.State.{Machine, opened}
-use Rattle.hp_flat.specs.Valid.{label_of}
-
--- the words of each segment
-abbrev pub segments_of : Program → List (List ℕ)
-segments_of p = map (λ s. s.items) p.segments.items
+-- How a session of a program opens.
+use Rattle.std.specs.Prelude.{ℕ, List, [], slice_get, unwrap_or}
+use Rattle.hp_program.specs.declared.program.Program.{Program}
+use Rattle.hp_session.specs.declared.terminal.Line.{Line}
+use Rattle.hp_program.specs.Valid.{label_of}
+use Rattle.hp_program.specs.Programs.{segments_of}
+use Rattle.hp_session.specs.State.{Machine, opened}
+use Rattle.hp_session.specs.SessionView.{lines_of}
 
 -- the offset in the main segment at which a program starts: its main entry's label
 abbrev pub start_of : Program → ℕ

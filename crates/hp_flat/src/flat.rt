@@ -2,8 +2,7 @@
 ghost use Rattle.std.specs.Prelude.{◌≡◌};
 ghost use Rattle.hp_flat.specs.declared.flat.OpenFlat.TheVariants.{NoMemory};
 
-use crate::registers::Regs;
-use crate::terminal::Line;
+use hp_session::{Line, Regs};
 use hp_word::Ending;
 use std::alloc::AllocError;
 use std::marker::Model;
@@ -34,7 +33,7 @@ pub struct Flat {
 }
 
 impl Model for Flat {
-    ghost use Rattle.hp_flat.specs.State.{Machine};
+    ghost use Rattle.hp_session.specs.State.{Machine};
 
     ghost Value = { Machine };
 

@@ -1,14 +1,12 @@
 //! How a session opens.
 ghost use Rattle.std.specs.Prelude.{◌≡◌, ◌<◌, ◌≤◌, ◌+◌, ◌++◌, length, replicate, vec_capacity, IfOk, IfErr, Err};
-ghost use Rattle.hp_flat.specs.FlatView.{lines_of};
-ghost use Rattle.hp_flat.specs.Views.{segments_of, opened_of};
+ghost use Rattle.hp_session.specs.SessionView.{lines_of};
+ghost use Rattle.hp_program.specs.Programs.{segments_of};
+ghost use Rattle.hp_flat.specs.Views.{opened_of};
 
-use crate::call_rows::segment_words;
 use crate::flat::{Flat, OpenFlat};
-use crate::program::Program;
-use crate::registers::Regs;
-use crate::terminal::Line;
-use crate::valid::label_word;
+use hp_program::{Program, label_word, segment_words};
+use hp_session::{Line, Regs};
 use hp_word::{Code, Ending};
 use std::alloc::{AllocError, Global};
 
@@ -40,7 +38,7 @@ fn opening_stack(alloc: Global, globals: &[u16], limit: u16) -> Result<Vec<u16>,
 impl Flat {
     /// The session of a program as it opens, with these terminal lines, `stack` words of stack, `extra` words of extra
     /// segment and room for `room` printed bytes. It reserves all the memory that its steps need.
-    #[tactic(auto, using(crate::proofs::ValidLaws::few_globals))]
+    #[tactic(auto, using(hp_program::proofs::ValidLaws::few_globals))]
     pub fn open(
         alloc: Global,
         program: &Program,

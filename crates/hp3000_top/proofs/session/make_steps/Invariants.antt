@@ -1,6 +1,6 @@
 use Rattle.std.proofs.Common.{◌≡◌}
 use Rattle.hp_flat.specs.Step.{after}
-use Rattle.hp_flat.specs.Views.{segments_of}
+use Rattle.hp_program.specs.Programs.{segments_of}
 use Rattle.hp3000_top.proofs.session.make_steps.Given as goal
 
 -- the steps left lead from here to where all lead

@@ -1,8 +1,9 @@
 -- The session that was opened has made its steps.
 use Rattle.std.proofs.Common.{◌*◌, ◌∙◌, ap, List}
-use Rattle.hp_flat.specs.declared.terminal.Line.{Line}
+use Rattle.hp_session.specs.declared.terminal.Line.{Line}
 use Rattle.hp_flat.specs.Step.{after}
-use Rattle.hp_flat.specs.Views.{segments_of, opened_of}
+use Rattle.hp_program.specs.Programs.{segments_of}
+use Rattle.hp_flat.specs.Views.{opened_of}
 use Rattle.hp3000_top.specs.Runs.{run_of}
 use Rattle.hp3000_top.proofs.RunLemmas.{told}
 use Rattle.hp3000_top.proofs.session.run.Goals as goal

@@ -1,7 +1,7 @@
 -- What was made of the job's unit and run under its name is its answer.
 use Rattle.std.proofs.Common.{List, [], ◌∷◌, sym, subst}
 use Rattle.std.specs.Prelude.{IsSomeAnd}
-use Rattle.hp_flat.specs.declared.program.Program.{Program}
+use Rattle.hp_program.specs.declared.program.Program.{Program}
 use Rattle.thin_jobs.specs.ThinTrees.{thin_of}
 use Rattle.thin_jobs.specs.ThinJobs.{thin_job}
 use Rattle.hp3000_top.specs.Answers.{IsAnswered}

@@ -1,5 +1,5 @@
 use Rattle.std.proofs.Common.{◌≡◌, take}
-use Rattle.hp_flat.specs.FlatView.{lines_of}
+use Rattle.hp_session.specs.SessionView.{lines_of}
 use Rattle.hp_flat.proofs.opening.copy_lines.Given as goal
 
 -- the lines copied so far are equal

@@ -1,0 +1,12 @@
+use Rattle.std.proofs.Common.{rules}
+use Rattle.hp_call_rows.proofs.ByteLemmas.{grown}
+use Rattle.hp_call_rows.proofs.stack_bytes.append_bytes.Goals as goal
+
+-- the byte at the loop's place is printed behind those so far
+pub loop-k-preserved : goal.loop-k-preserved
+loop-k-preserved c = record {
+  value = grown c.push.new.self.items c.loop-k.printed.items c.args.printed.now.items c.args.words.now c.args.first c.loop-k.k c.byte_at.result
+      (rw c.unwrap.ensures at c.push.ensures.items) c.byte_at.ensures c.loop-k.invariant.value;
+  counted = search rules;
+  same = search rules;
+}

@@ -1,0 +1,3 @@
+-- In reading order: the intrinsics, and the calls through which they are reached.
+pub mod GateRows
+pub mod CallRows

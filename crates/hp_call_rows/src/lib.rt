@@ -1,0 +1,8 @@
+//! Calls and returns of procedures and subroutines, and the intrinsics behind the gate.
+#![tactic(auto)]
+
+mod call_rows;
+mod gate_rows;
+mod stack_bytes;
+
+pub use call_rows::{call, call_subroutine, exit, leave_subroutine};

@@ -1,7 +1,0 @@
-use Rattle.std.proofs.Common.{◌≡◌, map, ◌+◌, ◌-◌}
-use Rattle.hp_flat.specs.Valid.{bad_label, entries_of}
-use Rattle.hp_flat.proofs.valid.first_bad_label.Given as goal
-
--- the first bad label from here on is the first of the segment
-abbrev pub invariant-loop-k : goal.invariant-loop-k
-invariant-loop-k l = bad_label (map (λ s. s.items) l.segments) l.s l.words (l.k + 1) (l.entries - l.k) ≡ bad_label (map (λ s. s.items) l.segments) l.s l.words 1 (entries_of l.words)

@@ -1,0 +1,3 @@
+-- In reading order: a valid program, and the words of its segments.
+pub mod Valid
+pub mod Programs

@@ -1,0 +1,10 @@
+//! Programs: their segments, what makes one valid, and where a word of code comes from.
+#![tactic(auto)]
+
+mod program;
+mod segments;
+mod valid;
+
+pub use program::{Defect, NoMemory, Program};
+pub use segments::{fetch, segment_words};
+pub use valid::{entry_count, label_word};

@@ -1,0 +1,5 @@
+-- In reading order: the state and the words in which rows are told, results, places, and what the struct stands for.
+pub mod State
+pub mod Results
+pub mod Places
+pub mod SessionView
