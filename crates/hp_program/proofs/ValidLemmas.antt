@@ -7,7 +7,8 @@ use Rattle.std.proofs.Math.Seq.{drop-cons}
 use Rattle.std.proofs.lemmas.List.{drop_all}
 use Rattle.hp_program.specs.declared.program.Defect.{Defect}
 use Rattle.hp_program.specs.declared.program.Defect.TheVariants.{Segment, Label}
-use Rattle.hp_program.specs.Valid.{entries_of, label_of, is_well_sized, is_label, bad_segment, bad_label, bad_table, or_else}
+use Rattle.hp_instr.specs.Labels.{label}
+use Rattle.hp_program.specs.Valid.{entries_of, label_of, is_well_sized, leads, bad_segment, bad_label, bad_table, or_else}
 
 abbrev items_of : List (Vec ℕ) → List (List ℕ)
 items_of xs = map (λ s. s.items) xs
@@ -42,7 +43,7 @@ pub ruleset segment_steps = segment_end
 
 -- one label more
 pub label_more : (segments : List (List ℕ)) (s : ℕ) (words : List ℕ) (e k : ℕ) → k < e
-    → bad_label segments s words (k + 1) (e - k) ≡ (if is_label segments words (label_of words (k + 1)) then bad_label segments s words (k + 1 + 1) (e - (k + 1)) else Some (Label s (k + 1)))
+    → bad_label segments s words (k + 1) (e - k) ≡ (if leads segments words (label (label_of words (k + 1))) then bad_label segments s words (k + 1 + 1) (e - (k + 1)) else Some (Label s (k + 1)))
 unfolding bad_label
 label_more segments s words e k h = let left : e - k ≡ suc (e - (k + 1)) = omega arith in rw left refl
 

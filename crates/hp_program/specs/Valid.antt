@@ -1,8 +1,10 @@
 -- A valid program: the counts of its head and segments, its main entry, and each label of its tables.
-use Rattle.std.specs.Prelude.{ℕ, zero, suc, ◌+◌, ◌-◌, Bool, false, ◌==◌, ◌&&◌, ◌||◌, nat_lt, nat_le, not, List, [], ◌∷◌, length, slice_index, slice_get, Option, None, Some, if◌then◌else◌}
+use Rattle.std.specs.Prelude.{ℕ, zero, suc, ◌+◌, ◌-◌, Bool, false, ◌==◌, ◌&&◌, nat_lt, nat_le, not, List, [], ◌∷◌, length, slice_index, slice_get, Option, None, Some, if◌then◌else◌}
 use Rattle.hp_program.specs.declared.program.Defect.{Defect}
-use Rattle.hp_program.specs.declared.program.Defect.TheVariants.{Head, Segment, Label, Main}
-use Rattle.hp_instr.specs.Bits.{bits, bit}
+use Rattle.hp_program.specs.declared.program.Defect.TheVariants.{Head, Segment, Label as BadLabel, Main}
+use Rattle.hp_instr.specs.declared.labels.Label.{Label}
+use Rattle.hp_instr.specs.declared.labels.Label.TheVariants.{Local, External, Bad}
+use Rattle.hp_instr.specs.Labels.{label}
 
 -- the number of entries of a segment is its last word
 abbrev pub entries_of : List ℕ → ℕ
@@ -16,23 +18,27 @@ label_of words n = slice_index words (length words - 1 - n)
 unfoldable pub is_well_sized : List ℕ → Bool
 is_well_sized words = nat_le 2 (length words) && nat_le (length words) 16383 && nat_le (entries_of words) 127 && nat_le (entries_of words) (length words - 1)
 
--- a label with bits 0 and 1 off is local: it is the offset of a word before the table
-unfoldable pub is_local : List ℕ → ℕ → Bool
-is_local words label = nat_lt label 16384 && nat_lt label (length words - 1 - entries_of words)
+-- a local label leads to a word before the table of its segment
+unfoldable pub is_local : List ℕ → Label → Bool
+is_local words (Local offset) = nat_lt offset (length words - 1 - entries_of words)
+is_local words (External seg entry) = false
+is_local words (Bad w) = false
 
 -- entry n of a segment is there, and its label is local
 unfoldable pub is_local_entry : Option (List ℕ) → ℕ → Bool
 is_local_entry None n = false
-is_local_entry (Some words) n = not (n == 0) && nat_le n (entries_of words) && is_local words (label_of words n)
+is_local_entry (Some words) n = not (n == 0) && nat_le n (entries_of words) && is_local words (label (label_of words n))
 
--- a label with bit 0 on is external: bits 8 to 15 name a segment, and bits 1 to 7 a local entry of it; segment 255 is the gate, whose entries are the eight intrinsics
-unfoldable pub is_external : List (List ℕ) → ℕ → Bool
-is_external segments label =
-    bit 0 label && (if bits 8 15 label == 255 then nat_lt 0 (bits 1 7 label) && nat_le (bits 1 7 label) 8 else is_local_entry (slice_get segments (bits 8 15 label)) (bits 1 7 label))
+-- an external label leads to a local entry of a segment; segment 255 is the gate, whose entries are the eight intrinsics
+unfoldable pub is_external : List (List ℕ) → ℕ → ℕ → Bool
+is_external segments seg entry =
+    if seg == 255 then nat_lt 0 entry && nat_le entry 8 else is_local_entry (slice_get segments seg) entry
 
--- a label of a table is local or external
-unfoldable pub is_label : List (List ℕ) → List ℕ → ℕ → Bool
-is_label segments words label = is_local words label || is_external segments label
+-- a label of a segment's table leads somewhere
+unfoldable pub leads : List (List ℕ) → List ℕ → Label → Bool
+leads segments words (Local offset) = is_local words (Local offset)
+leads segments words (External seg entry) = is_external segments seg entry
+leads segments words (Bad w) = false
 
 -- 1 to 62 segments, the main one among them, and at most 32,000 data words
 unfoldable pub is_head : List (List ℕ) → ℕ → List ℕ → Bool
@@ -47,7 +53,7 @@ bad_segment s (words ∷ rest) = if is_well_sized words then bad_segment (s + 1)
 unfoldable pub bad_label : List (List ℕ) → ℕ → List ℕ → ℕ → ℕ → Option Defect
 bad_label segments s words n zero = None
 bad_label segments s words n (suc left) =
-    if is_label segments words (label_of words n) then bad_label segments s words (n + 1) left else Some (Label s n)
+    if leads segments words (label (label_of words n)) then bad_label segments s words (n + 1) left else Some (BadLabel s n)
 
 -- the first of two faults
 abbrev pub or_else : Option Defect → Option Defect → Option Defect

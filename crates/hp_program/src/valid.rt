@@ -1,8 +1,10 @@
 //! The tests that make a program valid, each by its definition, and the first of them that fails.
 ghost use Rattle.std.specs.Prelude.{◌≡◌, ℕ, ◌≤◌, List, map, slice_index, slice_get, option_map, length, None};
-ghost use Rattle.hp_program.specs.Valid.{entries_of, label_of, is_well_sized, is_local, is_local_entry, is_external, is_label, is_head, bad_segment, bad_label, bad_table, first_defect};
+ghost use Rattle.hp_instr.specs.Labels.{label};
+ghost use Rattle.hp_program.specs.Valid.{entries_of, label_of, is_well_sized, is_local, is_local_entry, is_external, leads, is_head, bad_segment, bad_label, bad_table, first_defect};
 
 use crate::program::Defect;
+use hp_instr::{Label, read_label};
 
 /// The word at an index, and 0 past the end.
 fn word_at(words: &[u16], index: usize) -> u16
@@ -39,15 +41,19 @@ fn well_sized(words: &[u16]) -> bool
         && entries as usize <= words.len() - 1
 }
 
+/// A label is local, and leads to a word before its segment's table.
 #[tactic(auto, unfolding(crate::specs::Valid::is_local))]
-fn local(words: &[u16], label: u16) -> bool
+fn local(words: &[u16], label: Label) -> bool
     ensures { result ≡ is_local words.now label }
 {
     let before_table = words
         .len()
         .saturating_sub(1)
         .saturating_sub(entry_count(words) as usize);
-    label < 16384 && (label as usize) < before_table
+    match label {
+        Label::Local(offset) => (offset as usize) < before_table,
+        Label::External { .. } | Label::Bad(_) => false,
+    }
 }
 
 /// Entry `n` of a segment that may be missing is there, and its label is local.
@@ -57,7 +63,9 @@ fn local_entry(words: Option<&[u16]>, n: u16) -> bool
 {
     match words {
         None => false,
-        Some(words) => n != 0 && n <= entry_count(words) && local(words, label_word(words, n)),
+        Some(words) => n != 0
+            && n <= entry_count(words)
+            && local(words, read_label(label_word(words, n))),
     }
 }
 
@@ -71,26 +79,28 @@ fn segment(segments: &[Vec<u16>], seg: usize) -> Option<&[u16]>
     }
 }
 
+/// An external label leads to a local entry, or to an intrinsic.
 #[tactic(auto, unfolding(crate::specs::Valid::is_external))]
-fn external(segments: &[Vec<u16>], label: u16) -> bool
-    ensures { result ≡ is_external (map (λ s. s.items) segments.now) label }
+fn external(segments: &[Vec<u16>], seg: u8, entry: u8) -> bool
+    ensures { result ≡ is_external (map (λ s. s.items) segments.now) seg entry }
 {
-    let entry = label / 256 % 128;
-    let seg = label % 256;
-    if label / 32768 == 0 {
-        false
-    } else if seg == 255 {
+    if seg == 255 {
         0 < entry && entry <= 8
     } else {
-        local_entry(segment(segments, seg as usize), entry)
+        local_entry(segment(segments, seg as usize), entry as u16)
     }
 }
 
-#[tactic(auto, unfolding(crate::specs::Valid::is_label))]
-fn good_label(segments: &[Vec<u16>], words: &[u16], label: u16) -> bool
-    ensures { result ≡ is_label (map (λ s. s.items) segments.now) words.now label }
+/// A label of a segment's table leads somewhere.
+#[tactic(auto, unfolding(crate::specs::Valid::leads))]
+fn leads(segments: &[Vec<u16>], words: &[u16], label: Label) -> bool
+    ensures { result ≡ leads (map (λ s. s.items) segments.now) words.now label }
 {
-    local(words, label) || external(segments, label)
+    match label {
+        Label::Local(_) => local(words, label),
+        Label::External { seg, entry } => external(segments, seg, entry),
+        Label::Bad(_) => false,
+    }
 }
 
 #[tactic(auto, unfolding(crate::specs::Valid::is_head))]
@@ -125,7 +135,7 @@ fn first_bad_label(segments: &[Vec<u16>], s: u8, words: &[u16]) -> Option<Defect
 {
     let entries = entry_count(words);
     for k in 0..entries {
-        if !good_label(segments, words, label_word(words, k + 1)) {
+        if !leads(segments, words, read_label(label_word(words, k + 1))) {
             return Some(Defect::Label {
                 seg: s,
                 entry: (k + 1) as u8,
