@@ -1,2 +1,4 @@
 pub mod ByteLemmas
 pub mod GateLemmas
+pub mod GateKeeping
+pub mod CallKeeping

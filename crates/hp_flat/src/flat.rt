@@ -44,6 +44,18 @@ impl Model for Flat {
     ghost invariant = { IsRoomy };
 }
 
+impl Flat {
+    ghost use Rattle.std.specs.Prelude.{◌≤◌, length};
+
+    /// A law of the type, for callers: never more words on the stack than STACK, nor more bytes printed than there is room for.
+    pub fn keeps_its_limits(&self)
+        ensures words { length self.now.stack ≤ self.now.stack_limit }
+        ensures bytes { length self.now.printed ≤ self.now.room }
+    {
+        let _ = &self.stack;
+    }
+}
+
 /// Why a session can't be opened.
 #[derive(Clone, Copy, Debug, PartialEq, Eq)]
 pub enum OpenFlat {

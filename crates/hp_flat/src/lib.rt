@@ -2,6 +2,7 @@
 #![tactic(auto)]
 
 mod flat;
+mod laws;
 mod opening;
 mod step;
 mod stepping;
@@ -11,3 +12,4 @@ mod tests;
 pub use flat::{Flat, OpenFlat};
 pub use hp_program::{Defect, NoMemory, Program};
 pub use hp_session::{Line, Regs};
+pub use laws::{ended_runs_stay, runs_continue, steps_add_up};

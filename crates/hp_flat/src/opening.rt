@@ -38,7 +38,7 @@ fn opening_stack(alloc: Global, globals: &[u16], limit: u16) -> Result<Vec<u16>,
 impl Flat {
     /// The session of a program as it opens, with these terminal lines, `stack` words of stack, `extra` words of extra
     /// segment and room for `room` printed bytes. It reserves all the memory that its steps need.
-    #[tactic(auto, using(hp_program::proofs::ValidLaws::few_globals))]
+    #[tactic(auto, using(hp_program::proofs::ValidLaws::few_globals, hp_program::proofs::ValidLaws::main_there))]
     pub fn open(
         alloc: Global,
         program: &Program,
@@ -48,6 +48,7 @@ impl Flat {
         room: u32,
     ) -> Result<Flat, OpenFlat>
         ensures ok { IfOk result (λ f. f ≡ opened_of program.now lines.now.items stack extra room) }
+        ensures starts { IfOk result (λ f. f.regs.seg < length (segments_of program.now)) }
         ensures small { stack < length program.now.globals.items + 4 → result ≡ Err (OpenFlat.StackTooSmall (length program.now.globals.items + 4) stack) }
         ensures enough { length program.now.globals.items + 4 ≤ stack → IfErr result (λ e. e ≡ OpenFlat.NoMemory) }
     {

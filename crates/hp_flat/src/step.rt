@@ -1,8 +1,10 @@
 //! One step: the word at P is fetched, and its row decides.
-ghost use Rattle.std.specs.Prelude.{◌≡◌, IsTrue};
+ghost use Rattle.std.specs.Prelude.{◌≡◌, IsTrue, true, length};
 ghost use Rattle.hp_instr.specs.Given.{has_word};
 ghost use Rattle.hp_instr.specs.declared.instruction.Instr.TheVariants.{Control};
+ghost use Rattle.hp_word.specs.declared.endings.Ending.TheVariants.{Running};
 ghost use Rattle.hp_session.specs.State.{Does};
+ghost use Rattle.hp_session.specs.Keeping.{Continues, is_trapped};
 ghost use Rattle.hp_flat.specs.Step.{at_left, pair_row, control_row, word_row, row, outcome, step};
 ghost use Rattle.hp_program.specs.Programs.{segments_of};
 
@@ -136,7 +138,10 @@ fn act(session: &mut Session, program: &Program) -> Result<(), Trap>
 /// One step.
 #[tactic(auto, unfolding(crate::specs::Step::step))]
 pub(crate) fn make_step(session: &mut Session, program: &Program)
-    ensures { session.new ≡ step (segments_of program.now) session.old }
+    requires { session.old.ending ≡ Running }
+    ensures value { session.new ≡ step (segments_of program.now) session.old }
+    ensures kept { Continues (length (segments_of program.now)) session.old session.new }
+    ensures trap { is_trapped session.new.ending ≡ true → session.new ≡ record session.old { ending = session.new.ending } }
 {
     if let Err(trap) = act(session, program) {
         session.ending = Ending::Trapped(trap);

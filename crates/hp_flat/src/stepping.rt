@@ -1,7 +1,8 @@
 //! A `Flat` makes a step: its parts go into the session that the rows work on, and come back.
-ghost use Rattle.std.specs.Prelude.{◌≡◌, ◌<◌, length};
+ghost use Rattle.std.specs.Prelude.{◌≡◌, ◌<◌, true, length};
 ghost use Rattle.hp_word.specs.declared.endings.Ending.TheVariants.{Running};
 ghost use Rattle.hp_program.specs.Programs.{segments_of};
+ghost use Rattle.hp_session.specs.Keeping.{Continues, is_trapped};
 ghost use Rattle.hp_flat.specs.Step.{step};
 
 use crate::flat::Flat;
@@ -24,7 +25,11 @@ impl Flat {
     pub fn step(&mut self, program: &Program)
         requires running { self.old.ending ≡ Running }
         requires segment { self.old.regs.seg < length (segments_of program.now) }
-        ensures { self.new ≡ step (segments_of program.now) self.old }
+        ensures value { self.new ≡ step (segments_of program.now) self.old }
+        // what every step keeps, and that a trap changes the ending alone
+        ensures kept { Continues (length (segments_of program.now)) self.old self.new }
+        ensures within { self.new.regs.seg < length (segments_of program.now) }
+        ensures trap { is_trapped self.new.ending ≡ true → self.new ≡ record self.old { ending = self.new.ending } }
     {
         let mut session = Session {
             regs: self.regs,

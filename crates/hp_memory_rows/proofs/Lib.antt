@@ -1,0 +1,2 @@
+pub mod MemoryKeeping
+pub mod MoveKeeping

@@ -1,0 +1,2 @@
+pub mod KeepingForms
+pub mod KeepingLaws
