@@ -1,6 +1,5 @@
 -- Steps made one by one.
-use Rattle.std.proofs.Common.{◌≡◌, ℕ, zero, suc, ◌-◌, ◌<◌, Bool, true, false, List, refl, sym, ap, ◌∙◌, arith}
-use Rattle.std.specs.Bool.{OnTrue}
+use Rattle.std.proofs.Common.{◌≡◌, ℕ, zero, suc, ◌-◌, ◌<◌, true, false, List, refl, sym, ap, ◌∙◌, arith}
 use Rattle.hp_session.specs.State.{Machine}
 use Rattle.hp_flat.specs.Step.{step, after, is_running}
 
@@ -24,8 +23,3 @@ pub after_step : (segments : List (List ℕ)) (n : ℕ) (m : Machine) → 0 < n 
 after_step segments n m long h = let e : n ≡ suc (n - 1) = omega arith in sym (ap (λ k. after segments k m) e ∙ after_suc segments (n - 1) m h)
 
 pub ruleset steps = (after_none, after_ended, after_step)
-
--- a fact that a true test tells
-pub told : (b : Bool) (P : Type 0) → b ≡ true → OnTrue b P → P
-told true P h p = p
-told false P h p = cc

@@ -1,6 +1,5 @@
 //! A session run by the flat machine.
 ghost use Rattle.std.specs.Prelude.{◌≡◌, ◌<◌, IfOk, [], length};
-ghost use Rattle.std.specs.Bool.{OnTrue};
 ghost use Rattle.hp_flat.specs.Step.{after, is_running};
 ghost use Rattle.hp_program.specs.Programs.{segments_of};
 ghost use Rattle.hp3000_top.specs.Runs.{run_of};
@@ -25,30 +24,20 @@ fn running(ending: Ending) -> bool
     matches!(ending, Ending::Running)
 }
 
-/// Whether the session stands in a segment of its program.
-fn in_program(flat: &Flat, program: &Program) -> bool
-    ensures { OnTrue result (flat.now.regs.seg < length (segments_of program.now)) }
-{
-    (flat.regs.seg as usize) < program.segments.len()
-}
-
-/// Makes steps until so many were made or the session has ended, and answers that each could be made.
+/// Makes steps until so many were made or the session has ended.
 #[tactic(auto, using(crate::proofs::RunLemmas::steps))]
-fn make_steps(flat: &mut Flat, program: &Program, steps: u64) -> bool
-    ensures { OnTrue result (flat.new ≡ after (segments_of program.now) steps flat.old) }
+fn make_steps(flat: &mut Flat, program: &Program, steps: u64)
+    requires { flat.old.regs.seg < length (segments_of program.now) }
+    ensures { flat.new ≡ after (segments_of program.now) steps flat.old }
 {
     let mut left = steps;
     while left > 0 {
         if !running(flat.ending) {
-            return true;
-        }
-        if !in_program(flat, program) {
-            return false;
+            return;
         }
         flat.step(program);
         left -= 1;
     }
-    true
 }
 
 /// The session of a program in a job with this quantum, after all its turns.
@@ -61,9 +50,6 @@ pub fn run(alloc: Global, program: &Program, quantum: u32) -> Result<Flat, Unrea
         Err(OpenFlat::StackTooSmall { .. }) => return Err(Unread::Later),
         Err(OpenFlat::NoMemory) => return Err(Unread::NoMemory),
     };
-    if make_steps(&mut flat, program, quantum as u64 * TURNS as u64) {
-        Ok(flat)
-    } else {
-        Err(Unread::Later)
-    }
+    make_steps(&mut flat, program, quantum as u64 * TURNS as u64);
+    Ok(flat)
 }

@@ -5,11 +5,10 @@ use Rattle.hp_flat.specs.Step.{after}
 use Rattle.hp_program.specs.Programs.{segments_of}
 use Rattle.hp_flat.specs.Views.{opened_of}
 use Rattle.hp3000_top.specs.Runs.{run_of}
-use Rattle.hp3000_top.proofs.RunLemmas.{told}
 use Rattle.hp3000_top.proofs.session.run.Goals as goal
 
-pub returns-then-make_steps : goal.returns-then-make_steps
+pub returns : goal.returns
 unfolding run_of
-returns-then-make_steps c =
-    told c.make_steps.result _ c.if-make_steps.true c.make_steps.ensures
+returns c =
+    c.make_steps.ensures
     ∙ ap (after (segments_of c.args.program.now) (c.args.quantum * 100000)) (c.in-Ok.ensures.ok ∙ ap (λ (lines : List Line). opened_of c.args.program.now lines 1024 0 16384) c.new-lines.ensures.items)
