@@ -1,14 +1,30 @@
 -- The answer to a thin job, from the answers of its parts.
-use Rattle.std.proofs.Common.{◌≡◌, ℕ, Bool, true, false, List, [], ◌∷◌, Option, None, Some, refl, sym, ap, subst, ◌∙◌}
-use Rattle.std.specs.Prelude.{IfSome, IsSome, IsSomeAnd, option_map, option_and_then, if◌then◌else◌}
+use Rattle.std.proofs.Common.{◌≡◌, ℕ, ◌+◌, ◌<◌, ◌≤◌, length, arith, Result, Ok, Err, Bool, true, false, List, [], ◌∷◌, Option, None, Some, refl, sym, ap, subst, ◌∙◌}
+use Rattle.std.specs.Prelude.{◌&&◌, nat_le, IfSome, IsSome, IsSomeAnd, IfErr, IsErrAnd, OnOk, option_map, option_and_then, if◌then◌else◌}
+use Rattle.std.specs.Result.{is_err}
 use Rattle.std.proofs.lemmas.Bool.{false≢true}
 use Rattle.hp_program.specs.declared.program.Program.{Program}
 use Rattle.thin_jobs.specs.ThinUnits as u
 use Rattle.thin_jobs.specs.ThinTexts.{unit_in}
 use Rattle.thin_jobs.specs.ThinJobs.{Job, State, start, job_lines, fed_all, is_whole, job_of, thin_job}
-use Rattle.hp3000_top.specs.ProgramViews.{IsMadeOf}
+use Rattle.thin_grammar.specs.ThinLines.{Thin_job}
+use Rattle.thin_grammar.proofs.Jobs as grammar
+use Rattle.thin_grammar.proofs.SpellJobs.{job_spelled}
+use Rattle.thin_grammar.proofs.NameFacts.{both as both_told}
+use Rattle.thin_jobs.specs.declared.unread.Unread.{Unread}
+use Rattle.thin_jobs.specs.declared.unread.Unread.TheVariants.{Later, NoMemory}
+use Rattle.thin_jobs.specs.Gives.{Gives}
+use Rattle.thin_jobs.specs.UnitViews.{ReadsUnit}
+use Rattle.std.specs.Io.KnownBytes.{Appends}
+use Rattle.std.proofs.Math.Bool.{and-true}
+use Rattle.std.proofs.lemmas.Bool.Decides.{nat_tests}
+use Rattle.thin_compiler.specs.ThinCode.{bound_of, is_in_bounds}
+use Rattle.thin_compiler.specs.ProgramViews.{IsMadeOf, Makes}
+use Rattle.thin_compiler.proofs.ProgramLemmas.{few_data}
 use Rattle.hp3000_top.specs.Runs.{run_of}
-use Rattle.hp3000_top.specs.Answers.{IsJobOf, IsAnswered, report_of_run}
+use Rattle.hp3000_top.specs.Answers.{IsJobOf, IsAnswered, FitsNot, DeliversJob, Delivers, IsNotBuilt, report_of_run}
+use Rattle.hp_outside.specs.Whole.{ReadsToEnd}
+use Rattle.hp_outside.specs.declared.streams.Failed.{Failed}
 
 -- the job of a state with this unit
 abbrev job_with : State → u.Unit → Job
@@ -32,11 +48,126 @@ unfolding thin_job
 job_read bytes unit s read h some e =
     subst (λ (o : Option State). IsJobOf (option_and_then job_of o) s.quantum s.name unit) (sym read) (of_state unit s h some e)
 
+-- a refusal handed on says what it said
+pub handed : {X : Type 0} (r : Result X Unread) (fault : Unread) (P : Type 0) → IsErrAnd r (λ e. e ≡ fault) → (fault ≡ Later → P) → IfErr r (λ e. e ≡ Later → P)
+handed (Ok x) fault P h f = tt
+handed (Err e) fault P h f = λ k. f (sym h ∙ k)
+
+pub gives_none : {X Y : Type 0} (v : X → Y) (fault : Unread) (given : Option Y) → Gives v (Err fault) given → fault ≡ Later → given ≡ None
+gives_none v Later given h k = h
+gives_none v NoMemory given h k = cc
+
+pub reads_none : (fault : Unread) (given : Option u.Unit) → ReadsUnit (Err fault) given → fault ≡ Later → given ≡ None
+reads_none Later given h k = h
+reads_none NoMemory given h k = cc
+
+-- where the lines or the text are none of a thin job, the bytes are none
+pub lines_unread : (bytes : List ℕ) → fed_all (job_lines bytes) start ≡ None → thin_job bytes ≡ None
+unfolding thin_job
+lines_unread bytes h = ap (option_and_then job_of) h
+
+unwhole : (s : State) → is_whole s.place ≡ false → job_of s ≡ None
+unfolding job_of
+unwhole s h = rw h refl
+
+no_unit : (s : State) → unit_in s.text ≡ None → job_of s ≡ None
+unfolding job_of
+no_unit s h = by (is_whole s.place)
+  where
+    by : (b : Bool) → (if b then option_map (job_with s) (unit_in s.text) else None) ≡ None
+    by true = ap (option_map (job_with s)) h
+    by false = refl
+
+pub lines_left : (bytes : List ℕ) (s : State) → fed_all (job_lines bytes) start ≡ Some s → is_whole s.place ≡ false → thin_job bytes ≡ None
+unfolding thin_job
+lines_left bytes s h w = ap (option_and_then job_of) h ∙ unwhole s w
+
+pub unit_unread : (bytes : List ℕ) (s : State) → fed_all (job_lines bytes) start ≡ Some s → unit_in s.text ≡ None → thin_job bytes ≡ None
+unfolding thin_job
+unit_unread bytes s h w = ap (option_and_then job_of) h ∙ no_unit s w
+
+-- what the unit of the job says of its program
+of_unit : (r : Result Program Unread) (job : Job) (unit : Option u.Unit) → unit ≡ Some job.unit → IfSome unit (λ t. Makes r t.names t.statements) → Makes r job.unit.names job.unit.statements
+of_unit r job unit e h = subst (λ (o : Option u.Unit). IfSome o (λ t. Makes r t.names t.statements)) e h
+
 -- what was made of the job's unit and run under its name is its answer
 pub answered : (given : Option Job) (quantum : ℕ) (name : List ℕ) (unit : Option u.Unit) (p : Program) (text : List ℕ) → IsJobOf given quantum name unit
-    → IfSome unit (λ t. IsMadeOf t.names t.statements p) → text ≡ report_of_run name (run_of p quantum) → IsSomeAnd given (λ job. IsAnswered job (p ∷ []) text)
+    → IfSome unit (λ t. Makes (Ok p) t.names t.statements) → text ≡ report_of_run name (run_of p quantum) → IsSomeAnd given (λ job. IsAnswered job (p ∷ []) text)
 answered None quantum name unit p text is made told = is
-answered (Some job) quantum name unit p text is made told = (
-  subst (λ (o : Option u.Unit). IfSome o (λ t. IsMadeOf t.names t.statements p)) is.2 made,
-  told ∙ ap (λ (n : List ℕ). report_of_run n (run_of p quantum)) (sym is.1) ∙ ap (λ (q : ℕ). report_of_run job.name (run_of p q)) (sym is.0),
-)
+answered (Some job) quantum name unit p text is made told =
+    let m = of_unit (Ok p) job unit is.2 made in
+    (m.1, m.0, told ∙ ap (λ (n : List ℕ). report_of_run n (run_of p quantum)) (sym is.1) ∙ ap (λ (q : ℕ). report_of_run job.name (run_of p q)) (sym is.0))
+
+-- where none was made the unit does not fit
+pub unmade : (given : Option Job) (quantum : ℕ) (name : List ℕ) (unit : Option u.Unit) (fault : Unread) → fault ≡ Later → IsJobOf given quantum name unit
+    → IfSome unit (λ t. Makes (Err fault) t.names t.statements) → FitsNot given
+unmade None quantum name unit fault e is made = tt
+unmade (Some job) quantum name unit fault e is made =
+    of_unit (Err Later) job unit is.2 (subst (λ (fault : Unread). IfSome unit (λ t. Makes (Err fault) t.names t.statements)) e made)
+
+-- where there is no job, none fits
+pub unread_fits : (given : Option Job) → given ≡ None → FitsNot given
+unread_fits None h = tt
+unread_fits (Some job) h = cc
+
+-- want of memory is nothing else
+pub never : {P : Type 0} (fault : Unread) → fault ≡ NoMemory → fault ≡ Later → P
+never Later h k = cc
+never NoMemory h k = cc
+
+-- the data words of what was made leave room on the stack
+pub data_fit : (given : Option Job) (quantum : ℕ) (name : List ℕ) (unit : Option u.Unit) (p : Program) → IsJobOf given quantum name unit
+    → IfSome unit (λ t. Makes (Ok p) t.names t.statements) → length p.globals.items + 4 ≤ 1024
+data_fit None quantum name unit p is made = absurd is
+data_fit (Some job) quantum name unit p is made =
+    let m = of_unit (Ok p) job unit is.2 made in
+    let few = (both_told (nat_le (bound_of job.unit.statements) 16383) (nat_le (length job.unit.names) 256) m.1).1 in
+    few_data p job.unit.names job.unit.statements m.0 (grind (arith, nat_tests, few))
+
+-- ---- the clauses of the top call, by the grammar
+
+-- the answer to a thin job is one of a job that the grammar spells
+pub delivered : (bytes : List ℕ) (made : List Program) (text : List ℕ) (old new : Option (List ℕ)) → IsSomeAnd (thin_job bytes) (λ job. IsAnswered job made text) → Appends old new text
+    → (job : Job) × Thin_job job bytes × (bound_of job.unit.statements ≤ 16383) × DeliversJob job made old new
+delivered bytes made text old new h a = by (thin_job bytes) refl h
+  where
+    of_job : (job : Job) (made : List Program) → IsAnswered job made text → DeliversJob job made old new
+    of_job job [] k = k
+    of_job job (p ∷ []) k = (k.1, subst (λ (text : List ℕ). Appends old new text) k.2 a)
+    of_job job (p ∷ q ∷ ps) k = k
+
+    fits : (job : Job) (made : List Program) → IsAnswered job made text → bound_of job.unit.statements ≤ 16383
+    fits job [] k = absurd k
+    fits job (p ∷ []) k = let few = (both_told (nat_le (bound_of job.unit.statements) 16383) (nat_le (length job.unit.names) 256) k.0).0 in grind (arith, nat_tests, few)
+    fits job (p ∷ q ∷ ps) k = absurd k
+
+    by : (o : Option Job) → thin_job bytes ≡ o → IsSomeAnd o (λ job. IsAnswered job made text) → (job : Job) × Thin_job job bytes × (bound_of job.unit.statements ≤ 16383) × DeliversJob job made old new
+    by (Some job) e k = (job, job_spelled job bytes e, fits job made k, of_job job made k)
+    by None e k = absurd k
+
+-- what is not answered is no thin job whose segment is within its bound
+pub not_built : (bytes : List ℕ) → FitsNot (thin_job bytes) → (job : Job) → Thin_job job bytes → 16383 < bound_of job.unit.statements
+not_built bytes h job v =
+    let read = grammar.job_read job bytes v in
+    let k : (nat_le (bound_of job.unit.statements) 16383 && nat_le (length job.unit.names) 256) ≡ false = subst FitsNot read h in
+    let few = grammar.few_declared job bytes v in
+    let l : nat_le (length job.unit.names) 256 ≡ true = grind (arith, nat_tests, few) in
+    let m : nat_le (bound_of job.unit.statements) 16383 ≡ false = sym (and-true (nat_le (bound_of job.unit.statements) 16383)) ∙ rw l at k in
+    grind (arith, nat_tests, m)
+
+-- what was written where the sink did not fail
+pub written : (r : Result (Unit {0}) Failed) (b : Bool) (old new : Option (List ℕ)) (bytes text : List ℕ) → bytes ≡ text → OnOk r (Appends old new bytes) → b ≡ is_err r → b ≡ false → Appends old new text
+written (Ok x) b old new bytes text e h i f = subst (λ (text : List ℕ). Appends old new text) e h
+written (Err x) b old new bytes text e h i f = cc
+
+-- of the bytes that were read to the end
+pub delivers : (left rest : Option (List ℕ)) (bytes : List ℕ) (made : List Program) (text : List ℕ) (old new : Option (List ℕ)) → ReadsToEnd 1048576 left rest bytes
+    → IsSomeAnd (thin_job bytes) (λ job. IsAnswered job made text) → Appends old new text → Delivers left made old new
+delivers None rest bytes made text old new r h a = tt
+delivers (Some all) rest bytes made text old new r h a =
+    subst (λ (all : List ℕ). (job : Job) × Thin_job job all × (bound_of job.unit.statements ≤ 16383) × DeliversJob job made old new) r.all (delivered bytes made text old new h a)
+
+pub not_built_of : (left rest : Option (List ℕ)) (bytes : List ℕ) → ReadsToEnd 1048576 left rest bytes → FitsNot (thin_job bytes) → IsNotBuilt left
+not_built_of None rest bytes r h = tt
+not_built_of (Some all) rest bytes r h =
+    subst (λ (all : List ℕ). (job : Job) → Thin_job job all → 16383 < bound_of job.unit.statements) r.all (not_built bytes h)

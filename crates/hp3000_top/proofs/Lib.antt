@@ -1,6 +1,2 @@
-pub mod CodeLemmas
-pub mod CallLemmas
-pub mod NodeLemmas
-pub mod ProgramLemmas
 pub mod RunLemmas
 pub mod AnswerLemmas

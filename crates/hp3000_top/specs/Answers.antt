@@ -1,5 +1,5 @@
 -- What the top call answers and writes.
-use Rattle.std.specs.Prelude.{◌≡◌, ℕ, Bool, false, List, [], ◌∷◌, Option, Some, IsSomeAnd, IfSome, codes, nat_eq, length, ◌≤◌}
+use Rattle.std.specs.Prelude.{◌≡◌, ℕ, Bool, true, false, List, [], ◌∷◌, Option, Some, IsSomeAnd, IfSome, codes, nat_eq, length, ◌≤◌, ◌<◌}
 use Rattle.std.specs.Io.KnownBytes.{Appends, IsAtEnd}
 use lib.Pointwise.{pointwise}
 use Rattle.hp_program.specs.declared.program.Program.{Program}
@@ -7,8 +7,10 @@ use Rattle.hp_session.specs.State.{Machine}
 use Rattle.thin_jobs.specs.ThinUnits as u
 use Rattle.hp3000_top.specs.declared.exit.Exit.{Exit}
 use Rattle.hp3000_top.specs.declared.exit.Exit.TheVariants as e
-use Rattle.thin_jobs.specs.ThinJobs.{Job, thin_job}
-use Rattle.hp3000_top.specs.ProgramViews.{IsMadeOf}
+use Rattle.thin_jobs.specs.ThinJobs.{Job}
+use Rattle.thin_grammar.specs.ThinLines.{Thin_job}
+use Rattle.thin_compiler.specs.ThinCode.{bound_of, is_in_bounds}
+use Rattle.thin_compiler.specs.ProgramViews.{IsMadeOf}
 use Rattle.hp3000_top.specs.Reports.{report_of}
 use Rattle.hp3000_top.specs.Runs.{run_of}
 
@@ -29,9 +31,17 @@ IsJobOf given quantum name unit = IsSomeAnd given (λ job. (job.quantum ≡ quan
 abbrev pub report_of_run : List ℕ → Machine → List ℕ
 report_of_run name m = report_of name m.printed m.ending
 
+-- a segment can be made of the job's unit
+abbrev pub Fits : Job → Type 0
+Fits job = is_in_bounds job.unit.names job.unit.statements ≡ true
+
+-- the job, if there is one, has a unit of which no segment can be made
+abbrev pub FitsNot : Option Job → Type 0
+FitsNot given = IfSome given (λ job. is_in_bounds job.unit.names job.unit.statements ≡ false)
+
 -- the one program is made of the job's unit, and the bytes are the report of its run by the flat machine
 abbrev pub IsAnswered : Job → List Program → List ℕ → Type 0
-IsAnswered job (p ∷ []) text = IsMadeOf job.unit.names job.unit.statements p × (text ≡ report_of_run job.name (run_of p job.quantum))
+IsAnswered job (p ∷ []) text = Fits job × IsMadeOf job.unit.names job.unit.statements p × (text ≡ report_of_run job.name (run_of p job.quantum))
 IsAnswered job _ text = ⊥
 
 -- the input was read to its end, and has at most so many bytes
@@ -50,6 +60,10 @@ abbrev pub DeliversJob : Job → List Program → Option (List ℕ) → Option (
 DeliversJob job (p ∷ []) old new = IsMadeOf job.unit.names job.unit.statements p × Appends old new (report_of_run job.name (run_of p job.quantum))
 DeliversJob job _ old new = ⊥
 
--- the bytes that were left are a thin job, and it was delivered
+-- the bytes that were left are a thin job, whose segment has a bound of at most 16,383 words, and it was delivered
 abbrev pub Delivers : Option (List ℕ) → List Program → Option (List ℕ) → Option (List ℕ) → Type 0
-Delivers left made old new = IfSome left (λ bytes. IsSomeAnd (thin_job bytes) (λ job. DeliversJob job made old new))
+Delivers left made old new = IfSome left (λ bytes. (job : Job) × Thin_job job bytes × (bound_of job.unit.statements ≤ 16383) × DeliversJob job made old new)
+
+-- the bytes are no thin job, or one whose segment has a greater bound
+abbrev pub IsNotBuilt : Option (List ℕ) → Type 0
+IsNotBuilt left = IfSome left (λ bytes. (job : Job) → Thin_job job bytes → 16383 < bound_of job.unit.statements)

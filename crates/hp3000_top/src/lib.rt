@@ -6,9 +6,6 @@ mod report;
 mod session;
 #[cfg(test)]
 mod tests;
-mod thin_code;
-mod thin_program;
-mod thin_statements;
 mod top;
 
 pub use exit::Exit;

@@ -1,10 +1,11 @@
 //! A session run by the flat machine.
-ghost use Rattle.std.specs.Prelude.{◌≡◌, ◌<◌, IfOk, [], length};
+ghost use Rattle.std.specs.Prelude.{◌≡◌, ◌<◌, ◌≤◌, ◌+◌, IfOk, IfErr, [], length};
+ghost use Rattle.thin_jobs.specs.declared.unread.Unread.TheVariants.{NoMemory};
 ghost use Rattle.hp_flat.specs.Step.{after, is_running};
 ghost use Rattle.hp_program.specs.Programs.{segments_of};
 ghost use Rattle.hp3000_top.specs.Runs.{run_of};
 
-use hp_flat::{Flat, OpenFlat, Program};
+use hp_flat::{Flat, Program};
 use hp_word::Ending;
 use std::alloc::Global;
 use thin_jobs::Unread;
@@ -40,15 +41,16 @@ fn make_steps(flat: &mut Flat, program: &Program, steps: u64)
     }
 }
 
-/// The session of a program in a job with this quantum, after all its turns.
+/// The session of a program in a job with this quantum, after all its turns. The stack holds the data words and the
+/// marker, so only memory may be wanting.
 pub fn run(alloc: Global, program: &Program, quantum: u32) -> Result<Flat, Unread>
-    ensures { IfOk result (λ f. f ≡ run_of program.now quantum) }
+    requires { length program.now.globals.items + 4 ≤ 1024 }
+    ensures ok { IfOk result (λ f. f ≡ run_of program.now quantum) }
+    ensures err { IfErr result (λ e. e ≡ NoMemory) }
 {
     let lines = Vec::new(alloc);
-    let mut flat = match Flat::open(alloc, program, &lines, STACK, 0, ROOM) {
-        Ok(flat) => flat,
-        Err(OpenFlat::StackTooSmall { .. }) => return Err(Unread::Later),
-        Err(OpenFlat::NoMemory) => return Err(Unread::NoMemory),
+    let Ok(mut flat) = Flat::open(alloc, program, &lines, STACK, 0, ROOM) else {
+        return Err(Unread::NoMemory);
     };
     make_steps(&mut flat, program, quantum as u64 * TURNS as u64);
     Ok(flat)

@@ -1,22 +1,23 @@
 //! The top call.
-ghost use Rattle.std.specs.Prelude.{◌≡◌, ◌≢◌, ◌↔◌, ◌<◌, ◌≤◌, ◌⊎◌, map, length, IfSome, IsSomeAnd, IfOk, Option, None, Some, false, string_bytes, codes};
+ghost use Rattle.std.specs.Prelude.{◌≡◌, ◌≢◌, ◌↔◌, ◌<◌, ◌≤◌, ◌⊎◌, map, length, IfSome, IsSomeAnd, IfOk, IfErr, ◌+◌, Option, None, Some, false, string_bytes, codes};
 ghost use Rattle.std.specs.Io.KnownBytes.{Appends};
 ghost use Rattle.hp_outside.specs.Faults.{Rose};
 ghost use Rattle.hp_outside.specs.Whole.{IsLongerThan};
 ghost use Rattle.thin_jobs.specs.Gives.{Gives};
+ghost use Rattle.thin_jobs.specs.declared.unread.Unread.TheVariants.{Later, NoMemory};
 ghost use Rattle.thin_jobs.specs.ThinJobs.{job_lines, fed_all, job_of, thin_job};
-ghost use Rattle.hp3000_top.specs.Answers.{is_run, IsJobOf, IsAnswered, IsWhole, IsSilent, Delivers, report_of_run, later_line};
+ghost use Rattle.hp3000_top.specs.Answers.{is_run, IsJobOf, IsAnswered, IsWhole, IsSilent, Delivers, IsNotBuilt, FitsNot, report_of_run, later_line};
 ghost use Rattle.thin_jobs.specs.ThinTrees.{thin_of};
 ghost use Rattle.hp3000_top.specs.Runs.{run_of};
 
 use crate::exit::Exit;
 use crate::report::report;
 use crate::session::run;
-use crate::thin_program::make;
 use hp_flat::Program;
 use hp_outside::{ReadAll, Sink, Source, read_all, write_all};
 use spl_tree::{Name, SplUnit};
 use std::alloc::Global;
+use thin_compiler::make;
 use thin_jobs::{Unread, lines, read_lines, read_unit, whole};
 
 /// The greatest number of bytes of an input.
@@ -45,7 +46,8 @@ struct ThinJob {
 
 /// The thin job that an input is.
 fn job_in(alloc: Global, bytes: &[u8]) -> Result<ThinJob, Unread>
-    ensures { IfOk result (λ j. IsJobOf (thin_job bytes.now) j.quantum j.name.text.items (thin_of j.unit)) }
+    ensures ok { IfOk result (λ j. IsJobOf (thin_job bytes.now) j.quantum j.name.text.items (thin_of j.unit)) }
+    ensures later { IfErr result (λ e. e ≡ Later → thin_job bytes.now ≡ None) }
 {
     let lines = lines(alloc, bytes)?;
     let job = read_lines(alloc, &lines)?;
@@ -67,7 +69,9 @@ fn session_report(
     program: &Program,
     quantum: u32,
 ) -> Result<Vec<u8>, Unread>
-    ensures { IfOk result (λ text. text.items ≡ report_of_run name.now.text.items (run_of program.now quantum)) }
+    requires { length program.now.globals.items + 4 ≤ 1024 }
+    ensures ok { IfOk result (λ text. text.items ≡ report_of_run name.now.text.items (run_of program.now quantum)) }
+    ensures err { IfErr result (λ e. e ≡ NoMemory) }
 {
     let session = run(alloc, program, quantum)?;
     let text = report(
@@ -88,7 +92,8 @@ struct Answer {
 
 /// The answer to the thin job that an input is.
 fn answer_of(alloc: Global, bytes: &[u8]) -> Result<Answer, Unread>
-    ensures { IfOk result (λ a. IsSomeAnd (thin_job bytes.now) (λ job. IsAnswered job a.made.items a.text.items)) }
+    ensures ok { IfOk result (λ a. IsSomeAnd (thin_job bytes.now) (λ job. IsAnswered job a.made.items a.text.items)) }
+    ensures later { IfErr result (λ e. e ≡ Later → FitsNot (thin_job bytes.now)) }
 {
     let job = job_in(alloc, bytes)?;
     let program = make(alloc, &job.unit)?;
@@ -123,6 +128,7 @@ pub fn hp3000_main<I: Source, O: Sink>(
     // What was written.
     ensures silent { IsSilent result → output.new ≡ output.old }
     ensures refused { result ≡ Exit.Refused → Appends (O.written output.old) (O.written output.new) later_line }
+    ensures later { result ≡ Exit.Refused → IsNotBuilt (I.left input.old) }
     ensures done { result ≡ Exit.Done → Delivers (I.left input.old) made.new.items (O.written output.old) (O.written output.new) }
     ensures kept { result ≢ Exit.Done → made.new ≡ made.old }
 {

@@ -7,8 +7,8 @@ use Rattle.hp_flat.specs.Views.{opened_of}
 use Rattle.hp3000_top.specs.Runs.{run_of}
 use Rattle.hp3000_top.proofs.session.run.Goals as goal
 
-pub returns : goal.returns
+pub returns-clause-ok : goal.returns-clause-ok
 unfolding run_of
-returns c =
+returns-clause-ok c =
     c.make_steps.ensures
     ∙ ap (after (segments_of c.args.program.now) (c.args.quantum * 100000)) (c.in-Ok.ensures.ok ∙ ap (λ (lines : List Line). opened_of c.args.program.now lines 1024 0 16384) c.new-lines.ensures.items)

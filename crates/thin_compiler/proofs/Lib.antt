@@ -1,0 +1,5 @@
+pub mod CodeLemmas
+pub mod CallLemmas
+pub mod NodeLemmas
+pub mod ProgramLemmas
+pub mod ProgramValid

@@ -1,0 +1,4 @@
+pub mod ThinCode
+pub mod OperandViews
+pub mod StepViews
+pub mod ProgramViews

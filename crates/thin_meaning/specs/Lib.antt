@@ -1,0 +1,4 @@
+pub mod World
+pub mod ThinMeaning
+pub mod Steps
+pub mod Laws
