@@ -1,13 +1,13 @@
 -- What a valid program keeps.
-use Rattle.std.proofs.Common.{◌≡◌, ℕ, zero, suc, ◌+◌, ◌-◌, ◌<◌, ◌≤◌, Bool, true, false, List, [], ◌∷◌, length, Option, None, Some, refl, arith}
-use Rattle.std.specs.Prelude.{not, if◌then◌else◌}
+use Rattle.std.proofs.Common.{◌≡◌, ℕ, zero, suc, ◌+◌, ◌-◌, ◌<◌, ◌≤◌, Bool, true, false, List, [], ◌∷◌, length, Option, None, Some, refl, sym, arith}
+use Rattle.std.specs.Prelude.{not, slice_get, if◌then◌else◌}
 use Rattle.std.proofs.lemmas.Bool.Decides.{nat_tests}
 use Rattle.hp_program.specs.declared.program.Program.{Program}
 use Rattle.hp_program.specs.declared.program.Defect.{Defect}
-use Rattle.hp_program.specs.declared.program.Defect.TheVariants.{Head, Label as BadLabel, Main}
+use Rattle.hp_program.specs.declared.program.Defect.TheVariants.{Head, Segment, Label as BadLabel, Main}
 use Rattle.hp_instr.specs.Labels.{label}
 use Rattle.hp_program.specs.Programs.{words_of, segments_of}
-use Rattle.hp_program.specs.Valid.{entries_of, label_of, leads, is_head, bad_label, bad_table, or_else, first_defect}
+use Rattle.hp_program.specs.Valid.{entries_of, label_of, is_well_sized, leads, is_head, bad_segment, bad_label, bad_table, or_else, first_defect}
 
 -- a test that fails is the first defect
 head_first : (b : Bool) (other : Option Defect) → (if not b then Some Head else other) ≡ None → b ≡ true
@@ -55,6 +55,27 @@ no_bad_table segments main entry globals h = by (is_head segments main globals) 
 passed : (c : Bool) (d : Defect) (o : Option Defect) → (if c then o else Some d) ≡ None → (c ≡ true) × (o ≡ None)
 passed true d o k = (refl, k)
 passed false d o k = cc
+
+-- each segment is well sized, from number n on
+sized_at : (n : ℕ) (segments : List (List ℕ)) (k : ℕ) (words : List ℕ) → bad_segment n segments ≡ None → slice_get segments k ≡ Some words → is_well_sized words ≡ true
+unfolding bad_segment
+sized_at n [] k words h is = cc
+sized_at n (first ∷ rest) zero words h is = let same : first ≡ words = cc in rw (sym same) (passed _ (Segment n) _ h).0
+sized_at n (first ∷ rest) (suc k) words h is = sized_at (n + 1) rest k words (passed (is_well_sized first) (Segment n) _ h).1 is
+
+no_bad_segment : (segments : List (List ℕ)) (main entry : ℕ) (globals : List ℕ) → first_defect segments main entry globals ≡ None → bad_segment 0 segments ≡ None
+unfolding first_defect
+no_bad_segment segments main entry globals h = by (is_head segments main globals) _ h where
+  by : (c : Bool) (o : Option Defect) → (if not c then Some Head else or_else (bad_segment 0 segments) o) ≡ None → bad_segment 0 segments ≡ None
+  by true o k = first_none _ o k
+  by false o k = cc
+
+-- a segment of a program has at most 16,383 words
+pub segment_fits : (p : Program) (s : ℕ) (words : List ℕ) → slice_get (segments_of p) s ≡ Some words → length words ≤ 16383
+unfolding is_well_sized
+segment_fits p s words is =
+    let sized = sized_at 0 (segments_of p) s words (no_bad_segment (segments_of p) p.main p.entry p.globals.items p.valid) is in
+    grind (arith, nat_tests)
 
 -- each label from entry n on
 labels_from : (segments : List (List ℕ)) (s : ℕ) (words : List ℕ) (n left j : ℕ) → bad_label segments s words n left ≡ None → j < left

@@ -1,3 +1,4 @@
--- In reading order: a valid program, and the words of its segments.
+-- In reading order: a valid program, the words of its segments, and what a store of code answers.
 pub mod Valid
 pub mod Programs
+pub mod Stores

@@ -3,8 +3,10 @@
 
 mod program;
 mod segments;
+mod store;
 mod valid;
 
 pub use program::{Defect, NoMemory, Program};
+pub use store::{CodeStore, Fetched};
 pub use segments::{fetch, segment_words};
 pub use valid::{entry_count, label_word};

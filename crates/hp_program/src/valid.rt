@@ -70,7 +70,7 @@ fn local_entry(words: Option<&[u16]>, n: u16) -> bool
 }
 
 /// The words of segment `seg`, if there is one.
-fn segment(segments: &[Vec<u16>], seg: usize) -> Option<&[u16]>
+pub(crate) fn segment(segments: &[Vec<u16>], seg: usize) -> Option<&[u16]>
     ensures { option_map (λ w. w.now) result ≡ slice_get (map (λ s. s.items) segments.now) seg }
 {
     match segments.get(seg) {
