@@ -1,3 +1,4 @@
 pub mod ValidLemmas
 pub mod ValidLaws
 pub mod SegmentLemmas
+pub mod KnownPrograms
