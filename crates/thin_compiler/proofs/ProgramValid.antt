@@ -50,7 +50,7 @@ statement_length names e (u.quit s) =
 statement_length names e u.terminate = omega arith
 statement_length names e u.no_statement = omega arith
 
-statements_length : (names : List (List ℕ)) (e : Entries) (sts : List u.Statement) → length (statements_words names e sts) ≤ 3 * nodes sts
+pub statements_length : (names : List (List ℕ)) (e : Entries) (sts : List u.Statement) → length (statements_words names e sts) ≤ 3 * nodes sts
 unfolding statements_words
 statements_length names e [] = omega arith
 statements_length names e (st ∷ sts) =
@@ -62,13 +62,13 @@ statements_length names e (st ∷ sts) =
 -- ---- a segment with one of the three tables at its end
 
 -- a word of the table, counted from the segment's end
-from_end : (front t : List ℕ) (n : ℕ) → n < length t → slice_index (front ++ t) (length (front ++ t) - 1 - n) ≡ slice_index t (length t - 1 - n)
+pub from_end : (front t : List ℕ) (n : ℕ) → n < length t → slice_index (front ++ t) (length (front ++ t) - 1 - n) ≡ slice_index t (length t - 1 - n)
 from_end front t n h =
     let a = length-append front t in
     let e : length (front ++ t) - 1 - n ≡ length front + (length t - 1 - n) = omega (arith, a, h) in
     rw e (get_or-append-add front t (length t - 1 - n) 0)
 
-last_word : (front t : List ℕ) → 0 < length t → slice_index (front ++ t) (length (front ++ t) - 1) ≡ slice_index t (length t - 1)
+pub last_word : (front t : List ℕ) → 0 < length t → slice_index (front ++ t) (length (front ++ t) - 1) ≡ slice_index t (length t - 1)
 last_word front t h =
     let a = length-append front t in
     let e : length (front ++ t) - 1 ≡ length front + (length t - 1) = omega (arith, a, h) in
@@ -98,11 +98,11 @@ main_label segments words entries e m l = rw (m, start_label) (main_local words 
 abbrev pub Outer : List (List ℕ) → List ℕ → ℕ → Type 0
 Outer segments words w = leads segments words (label w) ≡ true
 
-quit_label : label 0o104377 ≡ External 255 8
+pub quit_label : label 0o104377 ≡ External 255 8
 unfolding label
 quit_label = refl
 
-terminate_label : label 0o103777 ≡ External 255 7
+pub terminate_label : label 0o103777 ≡ External 255 7
 unfolding label
 terminate_label = refl
 
@@ -115,7 +115,7 @@ unfolding leads is_external
 terminate_leads segments words = rw terminate_label refl
 
 -- a segment with two entries, and one with three
-record Three (words : List ℕ) (a b : ℕ) : Type 0 where
+pub record Three (words : List ℕ) (a b : ℕ) : Type 0 where
   pub count : entries_of words ≡ 3
   pub long : 4 < length words
   pub short : length words ≤ 16383
@@ -123,7 +123,7 @@ record Three (words : List ℕ) (a b : ℕ) : Type 0 where
   pub second : label_of words 2 ≡ b
   pub third : label_of words 3 ≡ a
 
-record Two (words : List ℕ) (a : ℕ) : Type 0 where
+pub record Two (words : List ℕ) (a : ℕ) : Type 0 where
   pub count : entries_of words ≡ 2
   pub long : 3 < length words
   pub short : length words ≤ 16383
@@ -169,7 +169,7 @@ two_valid words globals a g t ha =
     no_defect words globals g (well_sized words 2 t.count (omega arith) t.long t.short) (main_entry words 2 t.count (omega arith) t.main t.long)
     (rw t.count (two_labels (words ∷ []) words a t ha))
 
-three_of : (front : List ℕ) (a b : ℕ) → 0 < length front → length front + 4 ≤ 16383 → Three (front ++ a ∷ b ∷ 0 ∷ 3 ∷ []) a b
+pub three_of : (front : List ℕ) (a b : ℕ) → 0 < length front → length front + 4 ≤ 16383 → Three (front ++ a ∷ b ∷ 0 ∷ 3 ∷ []) a b
 three_of front a b some few =
     let t : List ℕ = a ∷ b ∷ 0 ∷ 3 ∷ [] in
     let l = length-append front t in
@@ -182,7 +182,7 @@ three_of front a b some few =
       third = from_end front t 3 (omega arith);
     }
 
-two_of : (front : List ℕ) (a : ℕ) → 0 < length front → length front + 3 ≤ 16383 → Two (front ++ a ∷ 0 ∷ 2 ∷ []) a
+pub two_of : (front : List ℕ) (a : ℕ) → 0 < length front → length front + 3 ≤ 16383 → Two (front ++ a ∷ 0 ∷ 2 ∷ []) a
 two_of front a some few =
     let t : List ℕ = a ∷ 0 ∷ 2 ∷ [] in
     let l = length-append front t in
@@ -222,12 +222,12 @@ front_length names sts =
     let a = length-append (statements_words names (c.entries_of sts) sts) ((0o030000 + (c.entries_of sts).terminate) ∷ []) in
     omega (arith, a)
 
-table_length : (first some : Bool) → 3 ≤ length (table first some)
+pub table_length : (first some : Bool) → 3 ≤ length (table first some)
 table_length true some = omega arith
 table_length false true = omega arith
 table_length false false = omega arith
 
-table_few : (first some : Bool) → length (table first some) ≤ 4
+pub table_few : (first some : Bool) → length (table first some) ≤ 4
 table_few true some = omega arith
 table_few false true = omega arith
 table_few false false = omega arith

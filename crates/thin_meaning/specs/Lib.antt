@@ -1,4 +1,5 @@
 pub mod World
 pub mod ThinMeaning
 pub mod Steps
+pub mod Closed
 pub mod Laws

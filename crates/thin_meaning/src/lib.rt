@@ -3,4 +3,4 @@
 
 mod laws;
 
-pub use laws::{ended_runs_stay, runs_end};
+pub use laws::{closed_runs_are_calm, ended_runs_stay, runs_end};

@@ -1,0 +1,5 @@
+pub mod Rows
+pub mod Follow
+pub mod Simulation
+pub mod Carry
+pub mod Opening
