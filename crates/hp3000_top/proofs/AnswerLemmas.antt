@@ -1,5 +1,5 @@
 -- The answer to a thin job, from the answers of its parts.
-use Rattle.std.proofs.Common.{◌≡◌, ℕ, ◌+◌, ◌<◌, ◌≤◌, length, arith, Result, Ok, Err, Bool, true, false, List, [], ◌∷◌, Option, None, Some, refl, sym, ap, subst, ◌∙◌}
+use Rattle.std.proofs.Common.{◌≡◌, ℕ, ◌+◌, ◌*◌, ◌<◌, ◌≤◌, length, arith, Result, Ok, Err, Bool, true, false, List, [], ◌∷◌, Option, None, Some, refl, sym, ap, subst, ◌∙◌}
 use Rattle.std.specs.Prelude.{◌&&◌, nat_le, IfSome, IsSome, IsSomeAnd, IfErr, IsErrAnd, OnOk, option_map, option_and_then, if◌then◌else◌}
 use Rattle.std.specs.Result.{is_err}
 use Rattle.std.proofs.lemmas.Bool.{false≢true}
@@ -21,9 +21,13 @@ use Rattle.std.proofs.lemmas.Bool.Decides.{nat_tests}
 use Rattle.thin_compiler.specs.ThinCode.{bound_of, is_in_bounds}
 use Rattle.thin_compiler.specs.ProgramViews.{IsMadeOf, Makes}
 use Rattle.thin_compiler.proofs.ProgramLemmas.{few_data}
-use Rattle.hp3000_top.specs.Runs.{run_of}
-use Rattle.hp3000_top.specs.Answers.{IsJobOf, IsAnswered, FitsNot, DeliversJob, Delivers, IsNotBuilt, report_of_run}
-use Rattle.hp_outside.specs.Whole.{ReadsToEnd}
+use Rattle.hp3000_top.specs.Runs.{run_of, thin_seat}
+use Rattle.hp3000_top.specs.Answers.{IsJobOf, IsAnswered, FitsNot, DeliversJob, Delivers, Reports, IsAsAlone, IsBuilt, IsNotBuilt, report_of_run}
+use Rattle.hp3000_top.proofs.ClosedJobs.{closed_job}
+use Rattle.thin_meaning.specs.ThinMeaning.{Point, alone}
+use Rattle.thin_carries.specs.Carries.{Carries, flat_point}
+use Rattle.thin_carries.proofs.Opening.{carries}
+use Rattle.hp_outside.specs.Whole.{ReadsToEnd, IsLongerThan}
 use Rattle.hp_outside.specs.declared.streams.Failed.{Failed}
 
 -- the job of a state with this unit
@@ -127,23 +131,55 @@ data_fit (Some job) quantum name unit p is made =
 -- ---- the clauses of the top call, by the grammar
 
 -- the answer to a thin job is one of a job that the grammar spells
-pub delivered : (bytes : List ℕ) (made : List Program) (text : List ℕ) (old new : Option (List ℕ)) → IsSomeAnd (thin_job bytes) (λ job. IsAnswered job made text) → Appends old new text
-    → (job : Job) × Thin_job job bytes × (bound_of job.unit.statements ≤ 16383) × DeliversJob job made old new
-delivered bytes made text old new h a = by (thin_job bytes) refl h
+pub record Spelled (bytes : List ℕ) (made : List Program) (text : List ℕ) : Type 0 where
+  pub job : Job
+  pub thin : Thin_job job bytes
+  pub program : Program
+  pub one : made ≡ program ∷ []
+  pub fits : is_in_bounds job.unit.names job.unit.statements ≡ true
+  pub is_made : IsMadeOf job.unit.names job.unit.statements program
+  pub report : text ≡ report_of_run job.name (run_of program job.quantum)
+
+spelled_of : (bytes : List ℕ) (job : Job) (made : List Program) (text : List ℕ) → Thin_job job bytes → IsAnswered job made text → Spelled bytes made text
+spelled_of bytes job [] text v k = absurd k
+spelled_of bytes job (p ∷ []) text v k = record { job = job; thin = v; program = p; one = refl; fits = k.0; is_made = k.1; report = k.2 }
+spelled_of bytes job (p ∷ q ∷ ps) text v k = absurd k
+
+spelled : (bytes : List ℕ) (made : List Program) (text : List ℕ) → IsSomeAnd (thin_job bytes) (λ job. IsAnswered job made text) → Spelled bytes made text
+spelled bytes made text h = by (thin_job bytes) refl h
   where
-    of_job : (job : Job) (made : List Program) → IsAnswered job made text → DeliversJob job made old new
-    of_job job [] k = k
-    of_job job (p ∷ []) k = (k.1, subst (λ (text : List ℕ). Appends old new text) k.2 a)
-    of_job job (p ∷ q ∷ ps) k = k
-
-    fits : (job : Job) (made : List Program) → IsAnswered job made text → bound_of job.unit.statements ≤ 16383
-    fits job [] k = absurd k
-    fits job (p ∷ []) k = let few = (both_told (nat_le (bound_of job.unit.statements) 16383) (nat_le (length job.unit.names) 256) k.0).0 in grind (arith, nat_tests, few)
-    fits job (p ∷ q ∷ ps) k = absurd k
-
-    by : (o : Option Job) → thin_job bytes ≡ o → IsSomeAnd o (λ job. IsAnswered job made text) → (job : Job) × Thin_job job bytes × (bound_of job.unit.statements ≤ 16383) × DeliversJob job made old new
-    by (Some job) e k = (job, job_spelled job bytes e, fits job made k, of_job job made k)
+    by : (o : Option Job) → thin_job bytes ≡ o → IsSomeAnd o (λ job. IsAnswered job made text) → Spelled bytes made text
+    by (Some job) e k = spelled_of bytes job made text (job_spelled job bytes e) k
     by None e k = absurd k
+
+-- its program carries its unit
+carried : {bytes : List ℕ} {made : List Program} {text : List ℕ} → (k : Spelled bytes made text) → Carries k.program k.job.unit
+carried {bytes = bytes} k = carries k.program k.job.unit k.is_made k.fits (closed_job k.job bytes k.thin)
+
+delivered : (bytes : List ℕ) (made : List Program) (text : List ℕ) (old new : Option (List ℕ)) → Spelled bytes made text → Appends old new text
+    → (job : Job) × Thin_job job bytes × (bound_of job.unit.statements ≤ 16383) × DeliversJob job made old new
+delivered bytes made text old new k a =
+    let few = (both_told (nat_le (bound_of k.job.unit.statements) 16383) (nat_le (length k.job.unit.names) 256) k.fits).0 in (
+      k.job,
+      k.thin,
+      grind (arith, nat_tests, few),
+      subst (λ (made : List Program). DeliversJob k.job made old new) (sym k.one) (k.is_made, carried k, subst (λ (text : List ℕ). Appends old new text) k.report a),
+    )
+
+-- what was reported is where its unit, run alone, stands after some steps
+told_alone : (name : List ℕ) (p q : Point) (old new : Option (List ℕ)) → p ≡ q → Reports name q.printed q.standing old new → Reports name p.printed p.standing old new
+told_alone name p q old new e h = subst (λ (p : Point). Reports name p.printed p.standing old new) (sym e) h
+
+as_alone : (bytes : List ℕ) (made : List Program) (text : List ℕ) (old new : Option (List ℕ)) → Spelled bytes made text → Appends old new text
+    → (job : Job) × Thin_job job bytes × ((n : ℕ) × Reports job.name (alone job.unit thin_seat n).printed (alone job.unit thin_seat n).standing old new)
+unfolding run_of
+as_alone bytes made text old new k a =
+    let c = few_names k.job bytes k.thin in
+    let f = (carried k).forth thin_seat (omega (arith, c)) (k.job.quantum * 100000) in
+    (k.job, k.thin, (f.at, told_alone k.job.name (alone k.job.unit thin_seat f.at) (flat_point (run_of k.program k.job.quantum)) old new f.point (subst (λ (text : List ℕ). Appends old new text) k.report a)))
+  where
+    few_names : (job : Job) (bytes : List ℕ) → Thin_job job bytes → length job.unit.names ≤ 100
+    few_names job bytes v = grammar.few_declared job bytes v
 
 -- what is not answered is no thin job whose segment is within its bound
 pub not_built : (bytes : List ℕ) → FitsNot (thin_job bytes) → (job : Job) → Thin_job job bytes → 16383 < bound_of job.unit.statements
@@ -165,7 +201,24 @@ pub delivers : (left rest : Option (List ℕ)) (bytes : List ℕ) (made : List P
     → IsSomeAnd (thin_job bytes) (λ job. IsAnswered job made text) → Appends old new text → Delivers left made old new
 delivers None rest bytes made text old new r h a = tt
 delivers (Some all) rest bytes made text old new r h a =
-    subst (λ (all : List ℕ). (job : Job) × Thin_job job all × (bound_of job.unit.statements ≤ 16383) × DeliversJob job made old new) r.all (delivered bytes made text old new h a)
+    subst (λ (all : List ℕ). (job : Job) × Thin_job job all × (bound_of job.unit.statements ≤ 16383) × DeliversJob job made old new) r.all
+    (delivered bytes made text old new (spelled bytes made text h) a)
+
+pub is_as_alone : (left rest : Option (List ℕ)) (bytes : List ℕ) (made : List Program) (text : List ℕ) (old new : Option (List ℕ)) → ReadsToEnd 1048576 left rest bytes
+    → IsSomeAnd (thin_job bytes) (λ job. IsAnswered job made text) → Appends old new text → IsAsAlone left old new
+is_as_alone None rest bytes made text old new r h a = tt
+is_as_alone (Some all) rest bytes made text old new r h a =
+    subst (λ (all : List ℕ). (job : Job) × Thin_job job all × ((n : ℕ) × Reports job.name (alone job.unit thin_seat n).printed (alone job.unit thin_seat n).standing old new)) r.all
+    (as_alone bytes made text old new (spelled bytes made text h) a)
+
+-- a thin job within its bound is not refused, and none that is built is too long
+pub built_not_refused : (left : Option (List ℕ)) → IsBuilt left → IsNotBuilt left → ⊥
+built_not_refused None b n = b
+built_not_refused (Some bytes) b n = let l = n b.0 b.1 in let m = b.2 in omega (arith, l, m)
+
+pub built_not_long : (left : Option (List ℕ)) → IsBuilt left → IsLongerThan 1048576 left → ⊥
+built_not_long None b n = b
+built_not_long (Some bytes) b n = let m = b.3 in omega (arith, n, m)
 
 pub not_built_of : (left rest : Option (List ℕ)) (bytes : List ℕ) → ReadsToEnd 1048576 left rest bytes → FitsNot (thin_job bytes) → IsNotBuilt left
 not_built_of None rest bytes r h = tt

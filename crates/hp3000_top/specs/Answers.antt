@@ -1,5 +1,5 @@
 -- What the top call answers and writes.
-use Rattle.std.specs.Prelude.{◌≡◌, ℕ, Bool, true, false, List, [], ◌∷◌, Option, Some, IsSomeAnd, IfSome, codes, nat_eq, length, ◌≤◌, ◌<◌}
+use Rattle.std.specs.Prelude.{◌≡◌, ℕ, Bool, true, false, List, [], ◌∷◌, Option, None, Some, IsSomeAnd, IfSome, codes, nat_eq, length, ◌≤◌, ◌<◌}
 use Rattle.std.specs.Io.KnownBytes.{Appends, IsAtEnd}
 use lib.Pointwise.{pointwise}
 use Rattle.hp_program.specs.declared.program.Program.{Program}
@@ -12,7 +12,9 @@ use Rattle.thin_grammar.specs.ThinLines.{Thin_job}
 use Rattle.thin_compiler.specs.ThinCode.{bound_of, is_in_bounds}
 use Rattle.thin_compiler.specs.ProgramViews.{IsMadeOf}
 use Rattle.hp3000_top.specs.Reports.{report_of}
-use Rattle.hp3000_top.specs.Runs.{run_of}
+use Rattle.thin_meaning.specs.ThinMeaning.{Standing, stands, stray, alone}
+use Rattle.thin_carries.specs.Carries.{Carries}
+use Rattle.hp3000_top.specs.Runs.{run_of, thin_seat}
 
 -- the one word of the verb that is built
 abbrev pub is_run : List (List ℕ) → Bool
@@ -55,9 +57,10 @@ IsSilent e.Refused = ⊥
 IsSilent e.WriteFault = ⊥
 IsSilent _ = Unit {0}
 
--- the one program is made of the job's unit, and the report of its run was appended to what was written
+-- the one program is made of the job's unit and carries it, and the report of its run was appended to what was written
 abbrev pub DeliversJob : Job → List Program → Option (List ℕ) → Option (List ℕ) → Type 0
-DeliversJob job (p ∷ []) old new = IsMadeOf job.unit.names job.unit.statements p × Appends old new (report_of_run job.name (run_of p job.quantum))
+DeliversJob job (p ∷ []) old new =
+    IsMadeOf job.unit.names job.unit.statements p × Carries p job.unit × Appends old new (report_of_run job.name (run_of p job.quantum))
 DeliversJob job _ old new = ⊥
 
 -- the bytes that were left are a thin job, whose segment has a bound of at most 16,383 words, and it was delivered
@@ -67,3 +70,25 @@ Delivers left made old new = IfSome left (λ bytes. (job : Job) × Thin_job job 
 -- the bytes are no thin job, or one whose segment has a greater bound
 abbrev pub IsNotBuilt : Option (List ℕ) → Type 0
 IsNotBuilt left = IfSome left (λ bytes. (job : Job) → Thin_job job bytes → 16383 < bound_of job.unit.statements)
+
+-- the report of a source run that stands so was appended to what was written; of one that has strayed there is none
+abbrev pub Reports : List ℕ → List ℕ → Standing → Option (List ℕ) → Option (List ℕ) → Type 0
+Reports name printed (stands ending) old new = Appends old new (report_of name printed ending)
+Reports name printed stray old new = ⊥
+
+-- the bytes that were left are a thin job, and what was reported is where its unit, run alone, stands after some number of steps: what it
+-- has printed there, and how it has ended there, if it has
+abbrev pub IsAsAlone : Option (List ℕ) → Option (List ℕ) → Option (List ℕ) → Type 0
+IsAsAlone left old new = IfSome left (λ bytes. (job : Job) × Thin_job job bytes
+    × ((n : ℕ) × Reports job.name (alone job.unit thin_seat n).printed (alone job.unit thin_seat n).standing old new))
+
+-- the bytes that are left are a thin job, at most 1,048,576, whose segment has a bound of at most 16,383 words
+abbrev pub IsBuilt : Option (List ℕ) → Type 0
+IsBuilt None = ⊥
+IsBuilt (Some bytes) = (job : Job) × Thin_job job bytes × (bound_of job.unit.statements ≤ 16383) × (length bytes ≤ 1048576)
+
+-- done, unless memory is wanting
+abbrev pub IsDone : Exit → Type 0
+IsDone e.Done = Unit {0}
+IsDone e.NoMemory = Unit {0}
+IsDone _ = ⊥

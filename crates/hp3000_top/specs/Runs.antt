@@ -3,6 +3,7 @@ use Rattle.std.specs.Prelude.{ℕ, ◌*◌, []}
 use Rattle.hp_program.specs.declared.program.Program.{Program}
 use Rattle.hp_session.specs.State.{Machine}
 use Rattle.hp_flat.specs.Step.{after}
+use Rattle.thin_meaning.specs.ThinMeaning.{Seat}
 use Rattle.hp_program.specs.Programs.{segments_of}
 use Rattle.hp_flat.specs.Views.{opened_of}
 
@@ -15,6 +16,10 @@ print_room = 16384
 
 abbrev pub turns : ℕ
 turns = 100000
+
+-- what the session of a thin job is given
+abbrev pub thin_seat : Seat
+thin_seat = record { stack = stack_words; extra = 0; room = print_room; lines = [] }
 
 -- the session after as many steps as the turns with this quantum have; it has no terminal lines and no extra segment
 unfoldable pub run_of : Program → ℕ → Machine

@@ -1,12 +1,12 @@
 //! The top call.
-ghost use Rattle.std.specs.Prelude.{◌≡◌, ◌≢◌, ◌↔◌, ◌<◌, ◌≤◌, ◌⊎◌, map, length, IfSome, IsSomeAnd, IfOk, IfErr, ◌+◌, Option, None, Some, false, string_bytes, codes};
+ghost use Rattle.std.specs.Prelude.{◌≡◌, ◌≢◌, ◌↔◌, ◌<◌, ◌≤◌, ◌⊎◌, map, length, IfSome, IsSomeAnd, IfOk, IfErr, ◌+◌, Option, None, Some, true, false, string_bytes, codes};
 ghost use Rattle.std.specs.Io.KnownBytes.{Appends};
 ghost use Rattle.hp_outside.specs.Faults.{Rose};
 ghost use Rattle.hp_outside.specs.Whole.{IsLongerThan};
 ghost use Rattle.thin_jobs.specs.Gives.{Gives};
 ghost use Rattle.thin_jobs.specs.declared.unread.Unread.TheVariants.{Later, NoMemory};
 ghost use Rattle.thin_jobs.specs.ThinJobs.{job_lines, fed_all, job_of, thin_job};
-ghost use Rattle.hp3000_top.specs.Answers.{is_run, IsJobOf, IsAnswered, IsWhole, IsSilent, Delivers, IsNotBuilt, FitsNot, report_of_run, later_line};
+ghost use Rattle.hp3000_top.specs.Answers.{is_run, IsJobOf, IsAnswered, IsWhole, IsSilent, Delivers, IsNotBuilt, IsAsAlone, IsBuilt, IsDone, FitsNot, report_of_run, later_line};
 ghost use Rattle.thin_jobs.specs.ThinTrees.{thin_of};
 ghost use Rattle.hp3000_top.specs.Runs.{run_of};
 
@@ -130,6 +130,10 @@ pub fn hp3000_main<I: Source, O: Sink>(
     ensures refused { result ≡ Exit.Refused → Appends (O.written output.old) (O.written output.new) later_line }
     ensures later { result ≡ Exit.Refused → IsNotBuilt (I.left input.old) }
     ensures done { result ≡ Exit.Done → Delivers (I.left input.old) made.new.items (O.written output.old) (O.written output.new) }
+
+    // The headline: the session has printed and ended exactly as its source, run alone, has at some step. And when it is done.
+    ensures headline { result ≡ Exit.Done → IsAsAlone (I.left input.old) (O.written output.old) (O.written output.new) }
+    ensures complete { is_run (map (λ w. string_bytes w) words.now.items) ≡ true → IsBuilt (I.left input.old) → (Rose (I.faults input.old) (I.faults input.new) → ⊥) → (Rose (O.faults output.old) (O.faults output.new) → ⊥) → IsDone result }
     ensures kept { result ≢ Exit.Done → made.new ≡ made.old }
 {
     if !runs(words) {
