@@ -1,5 +1,5 @@
 -- A segment of a program has at most 16,383 words.
-use Rattle.std.proofs.Common.{rules, ◌≡◌, ◌≤◌, ℕ, length, arith, sym}
+use Rattle.std.proofs.Common.{rules, ◌≡◌, ◌≤◌, length, arith}
 use Rattle.std.specs.Prelude.{slice_get, Some}
 use Rattle.hp_program.specs.Programs.{segments_of}
 use Rattle.hp_program.proofs.ValidLaws.{segment_fits}
