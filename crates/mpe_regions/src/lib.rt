@@ -1,0 +1,16 @@
+//! The code area of the machine: which segments are loaded, where each lies, and which was used longest ago.
+#![tactic(auto)]
+
+mod laws;
+mod lists;
+mod region;
+mod regions;
+
+pub use laws::{
+    holes_are_found, holes_are_lowest, regions_lie_apart, regions_lie_inside, small_ones_are_loaded,
+};
+pub use region::Region;
+pub use regions::Regions;
+
+#[cfg(test)]
+mod tests;
