@@ -1,1 +1,5 @@
 pub mod KnownTexts
+pub mod Fronts
+pub mod Classes
+pub mod PieceReads
+pub mod PieceStands

@@ -35,11 +35,11 @@ comment_piece n (Some m) = sound nothing (n + m)
 -- a character before the others of a string, written in so many bytes
 abbrev pub with_char : ℕ → Option (List ℕ × ℕ) → Option (List ℕ × ℕ)
 with_char b None = None
-with_char b (Some r) = Some (b ∷ r.0, r.1 + 1)
+with_char b (Some r) = Some (b ∷ r.0, suc r.1)
 
 abbrev pub with_byte : Option (List ℕ × ℕ) → Option (List ℕ × ℕ)
 with_byte None = None
-with_byte (Some r) = Some (r.0, r.1 + 1)
+with_byte (Some r) = Some (r.0, suc r.1)
 
 -- the characters of a string and how many bytes are left of it, its last quote with them; behind a quote that may end it
 abbrev pub string_from : Bool → List ℕ → Option (List ℕ × ℕ)
