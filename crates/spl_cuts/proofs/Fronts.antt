@@ -67,6 +67,11 @@ split p (b ∷ bs) = by (p b) refl (split p bs)
     by true h s = one_more p b bs h s
     by false h s = record { front = []; rest = b ∷ bs; is = refl; taken = take_while-cons p b bs ∙ rw h refl; left = refl; all = refl; stops = h }
 
+-- nothing behind a list
+pub append_none : (xs : List ℕ) → xs ++ [] ≡ xs
+append_none [] = refl
+append_none (x ∷ xs) = ap (λ (ys : List ℕ). x ∷ ys) (append_none xs)
+
 -- what passes is taken whole
 pub taken_whole : (p : ℕ → Bool) (xs rest : List ℕ) → list_all p xs ≡ true → Stops p rest → take_while p (xs ++ rest) ≡ xs
 taken_whole p [] [] a s = refl

@@ -3,3 +3,6 @@ pub mod Fronts
 pub mod Classes
 pub mod PieceReads
 pub mod PieceStands
+pub mod DefineReads
+pub mod Turns
+pub mod TextReads

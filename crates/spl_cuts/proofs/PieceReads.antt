@@ -14,7 +14,7 @@ use Rattle.spl_cuts.specs.Commands.{Setting, command}
 use Rattle.spl_cuts.specs.Pieces as g
 use Rattle.spl_cuts.specs.Pieces.{Item, nothing, token, settings, Stands, Faulty, Closed, Unclosed, Quoted, Name, Digits, Begins_none, is_comment_word, is_longer}
 use Rattle.spl_cuts.specs.Reading.{Outcome, sound, faulty, close_size, semicolon_size, comment_piece, with_char, with_byte, string_from, string_piece, line_piece, name_piece, number_piece, number_at, one_mark, two_marks, mark_at, piece, piece_at}
-use Rattle.spl_cuts.proofs.Fronts.{both, and_false, not_false, taken_whole, left_rest, stops_begins}
+use Rattle.spl_cuts.proofs.Fronts.{append_none, both, and_false, not_false, taken_whole, left_rest, stops_begins}
 use Rattle.spl_cuts.proofs.Classes.{Apart_mark, at_letter, at_digit, at_percent, at_quote, at_dollar, at_brackets, at_mark, one_apart, two_apart, no_mark}
 
 -- ---- comments
@@ -222,10 +222,6 @@ stands_read {f = f} (g.Stands.string cs bs rest q s) =
     string_length bs = let e : length (bs ++ 34 ∷ []) ≡ length bs + 1 = length-append bs (34 ∷ []) in omega (arith, e)
 stands_read {f = f} (g.Stands.mark_one b m rest h l) = at_mark f b rest (one_apart b m h) (not_brackets b rest l) ∙ one_mark_at b m rest h l
 stands_read {f = f} (g.Stands.mark_two b c m rest h) = let a = two_apart b c m h in at_mark f b (c ∷ rest) a.0 a.1 ∙ two_marks_at b c m rest h
-
-pub append_none : (xs : List ℕ) → xs ++ [] ≡ xs
-append_none [] = refl
-append_none (x ∷ xs) = ap (λ (ys : List ℕ). x ∷ ys) (append_none xs)
 
 -- the word COMMENT is short
 short_word : (w : List ℕ) → is_comment_word w ≡ true → length w ≤ 15

@@ -13,8 +13,8 @@ use Rattle.spl_cuts.specs.Commands.{Setting, command}
 use Rattle.spl_cuts.specs.Pieces as g
 use Rattle.spl_cuts.specs.Pieces.{Item, nothing, token, settings, Stands, Faulty, Closed, Unclosed, Quoted, Name, Digits, Begins_none, is_comment_word, is_longer}
 use Rattle.spl_cuts.specs.Reading.{Outcome, sound, faulty, close_size, semicolon_size, comment_piece, with_char, with_byte, string_from, string_piece, line_piece, name_piece, number_piece, number_at, one_mark, two_marks, mark_at, piece, piece_at}
-use Rattle.spl_cuts.proofs.Fronts.{both, and_false, not_false, some_is, mapped, Split, split, begins_taken, begins_stops}
-use Rattle.spl_cuts.proofs.PieceReads.{with_suffix, suffix_length, word_front, word_length, string_front, append_none}
+use Rattle.spl_cuts.proofs.Fronts.{append_none, both, and_false, not_false, some_is, mapped, Split, split, begins_taken, begins_stops}
+use Rattle.spl_cuts.proofs.PieceReads.{with_suffix, suffix_length, word_front, word_length, string_front}
 
 -- what an outcome says of a text
 pub data Told (f : Bool) (text : List ℕ) : Outcome → Type 0 where

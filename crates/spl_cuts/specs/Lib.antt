@@ -5,3 +5,4 @@ pub mod Pieces
 pub mod Defines
 pub mod Cutting
 pub mod Reading
+pub mod Laws

@@ -1,0 +1,43 @@
+-- The laws of cutting: what is read of a text is what it is cut into, or its first fault.
+use Rattle.std.specs.Prelude.{ℕ, ◌≡◌, List, Ok, Err}
+use Rattle.spl_tree.specs.declared.names_and_places.At.{At}
+use Rattle.spl_cuts.specs.declared.faults.LexKind.{LexKind}
+use Rattle.spl_cuts.specs.Signs.{Listed}
+use Rattle.spl_cuts.specs.Cutting.{Cuts, CutsWithin, Bad, FirstFault}
+use Rattle.spl_cuts.specs.Reading.{read_text}
+
+-- a text is read as the list that it is cut into
+abbrev pub CutsAreRead : Type 0
+CutsAreRead = (unit limit : ℕ) (text : List ℕ) (x : Listed) → CutsWithin unit limit text x → read_text unit limit text ≡ Ok x
+
+-- the list that is read of a text is the one that it is cut into
+abbrev pub TextsAreCut : Type 0
+TextsAreCut = (unit limit : ℕ) (text : List ℕ) (x : Listed) → read_text unit limit text ≡ Ok x → CutsWithin unit limit text x
+
+-- the first fault of a text is the one that is read
+abbrev pub FaultsAreRead : Type 0
+FaultsAreRead = (unit limit : ℕ) (text : List ℕ) (kind : LexKind) (at : At) → FirstFault unit limit text kind at → read_text unit limit text ≡ Err (kind, at)
+
+-- the fault that is read of a text is its first
+abbrev pub FaultsAreFirst : Type 0
+FaultsAreFirst = (unit limit : ℕ) (text : List ℕ) (kind : LexKind) (at : At) → read_text unit limit text ≡ Err (kind, at) → FirstFault unit limit text kind at
+
+-- a text is cut in at most one way
+abbrev pub CutsAreUnique : Type 0
+CutsAreUnique = (unit m n : ℕ) (text : List ℕ) (x y : Listed) → Cuts unit m text x → Cuts unit n text y → x ≡ y
+
+-- a text that is cut has no bad piece
+abbrev pub CutsAreSound : Type 0
+CutsAreSound = (unit m n : ℕ) (text : List ℕ) (x : Listed) (kind : LexKind) (at : At) → Cuts unit m text x → Bad unit n text kind at → ⊥
+
+-- a text has at most one bad piece
+abbrev pub BadPiecesAreUnique : Type 0
+BadPiecesAreUnique =
+    (unit m n : ℕ) (text : List ℕ) (kind other : LexKind) (at there : At) → Bad unit m text kind at → Bad unit n text other there
+        → (kind ≡ other) × (at ≡ there)
+
+-- a text has at most one first fault
+abbrev pub FaultsAreUnique : Type 0
+FaultsAreUnique =
+    (unit limit : ℕ) (text : List ℕ) (kind other : LexKind) (at there : At) → FirstFault unit limit text kind at
+        → FirstFault unit limit text other there → (kind ≡ other) × (at ≡ there)
