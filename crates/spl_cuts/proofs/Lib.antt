@@ -6,3 +6,4 @@ pub mod PieceStands
 pub mod DefineReads
 pub mod Turns
 pub mod TextReads
+pub mod TextCuts

@@ -2,5 +2,7 @@
 #![tactic(auto)]
 
 mod faults;
+mod laws;
 
 pub use faults::{LexFault, LexKind};
+pub use laws::{bad_pieces_are_unique, cuts_are_read, cuts_are_sound, cuts_are_unique, faults_are_first, faults_are_read, faults_are_unique, texts_are_cut};

@@ -1,0 +1,42 @@
+//! Laws of cutting, each as the contract of a function that does nothing.
+ghost use Rattle.spl_cuts.specs.Laws.{CutsAreRead, TextsAreCut, FaultsAreRead, FaultsAreFirst, CutsAreUnique, CutsAreSound, BadPiecesAreUnique, FaultsAreUnique};
+
+/// A text is read as the list that it is cut into.
+pub fn cuts_are_read()
+    ensures { CutsAreRead }
+{}
+
+/// The list that is read of a text is the one that it is cut into.
+pub fn texts_are_cut()
+    ensures { TextsAreCut }
+{}
+
+/// The first fault of a text is the one that is read.
+pub fn faults_are_read()
+    ensures { FaultsAreRead }
+{}
+
+/// The fault that is read of a text is its first.
+pub fn faults_are_first()
+    ensures { FaultsAreFirst }
+{}
+
+/// A text is cut in at most one way.
+pub fn cuts_are_unique()
+    ensures { CutsAreUnique }
+{}
+
+/// A text that is cut has no bad piece.
+pub fn cuts_are_sound()
+    ensures { CutsAreSound }
+{}
+
+/// A text has at most one bad piece.
+pub fn bad_pieces_are_unique()
+    ensures { BadPiecesAreUnique }
+{}
+
+/// A text has at most one first fault.
+pub fn faults_are_unique()
+    ensures { FaultsAreUnique }
+{}
