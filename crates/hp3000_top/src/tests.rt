@@ -199,3 +199,59 @@ fn inputs_that_are_no_thin_job(rt: HostRuntime) -> Result<(), Fail> {
     }
     Ok(())
 }
+
+/// A job with so many variables, of which it quits with the first.
+fn with_names(alloc: Global, count: u32) -> Result<Vec<u8>, Fail> {
+    let mut job = Vec::from_slice(alloc, b"!JOB\n!PROGRAM A\n!UNIT\nBEGIN INTEGER A0")?;
+    for i in 1..count {
+        job.extend_from_slice(format!(in alloc; ",A{i}")?.as_bytes())?;
+    }
+    job.extend_from_slice(b"; INTRINSIC QUIT; QUIT(A0) END.\n!SESSION A\n!EOJ\n")?;
+    Ok(job)
+}
+
+/// A job that quits with a sum of so many operands.
+fn with_operands(alloc: Global, count: u32) -> Result<Vec<u8>, Fail> {
+    let mut job = Vec::from_slice(
+        alloc,
+        b"!JOB\n!PROGRAM A\n!UNIT\nBEGIN INTEGER A; INTRINSIC QUIT; QUIT(1",
+    )?;
+    for _ in 1..count {
+        job.extend_from_slice(b"+A")?;
+    }
+    job.extend_from_slice(b") END.\n!SESSION A\n!EOJ\n")?;
+    Ok(job)
+}
+
+#[test]
+fn limits_at_their_edges(rt: HostRuntime) -> Result<(), Fail> {
+    let alloc = rt.alloc();
+    // a sum of 340 operands has the greatest bound that a segment may have
+    for (job, done) in [
+        (with_names(alloc, 100)?, true),
+        (with_names(alloc, 101)?, false),
+        (with_operands(alloc, 340)?, true),
+        (with_operands(alloc, 341)?, false),
+        (with_operands(alloc, 501)?, false),
+    ] {
+        let (exit, _) = run(alloc, &job)?;
+        assert_eq!(rt; exit == Exit::Done, done);
+        assert_eq!(rt; exit == Exit::Refused, !done);
+    }
+    let quanta: [(&[u8], bool); 4] = [
+        (b"0", false),
+        (b"1", true),
+        (b"0000000500", true),
+        (b"00000000500", false),
+    ];
+    for (quantum, done) in quanta {
+        let mut job = Vec::from_slice(alloc, b"!job\n!Quantum ")?;
+        job.extend_from_slice(quantum)?;
+        job.extend_from_slice(
+            b"\n!PROGRAM A2345678\n!UNIT\nBEGIN INTEGER A; INTRINSIC QUIT; QUIT(1) END.\n!SESSION a2345678\n!EOJ",
+        )?;
+        let (exit, _) = run(alloc, &job)?;
+        assert_eq!(rt; exit == Exit::Done, done);
+    }
+    Ok(())
+}
