@@ -1,10 +1,9 @@
 -- The classes of bytes lie apart, so that a piece's first byte tells its kind.
-use Rattle.std.proofs.Common.{ℕ, ◌≡◌, ◌+◌, ◌-◌, ◌≤◌, Bool, true, false, List, [], ◌∷◌, ◌++◌, length, drop, Option, Some, None, refl, sym, ap, subst, ◌∙◌, arith}
-use Rattle.std.specs.Prelude.{◌&&◌, ◌||◌, ◌==◌, nat_le, nat_lt, if◌then◌else◌}
+use Rattle.std.proofs.Common.{ℕ, ◌≡◌, Bool, true, false, List, ◌∷◌, length, drop, Some, None, refl, arith}
+use Rattle.std.specs.Prelude.{◌&&◌, ◌==◌}
 use Rattle.std.specs.List.{take_while}
 use Rattle.std.proofs.lemmas.Bool.Decides.{nat_tests}
-use Rattle.std.proofs.lemmas.Bool.{eqb-true}
-use Rattle.spl_cuts.specs.Bytes.{is_blank, is_letter, is_digit, is_octal_digit, is_name_byte, is_suffix, is_quote, is_in_line, begins, mark_of, mark_of_two, decimal, octal, is_allowed, blanked}
+use Rattle.spl_cuts.specs.Bytes.{is_blank, is_letter, is_digit, is_octal_digit, is_name_byte, is_suffix, is_quote, is_in_line, begins, mark_of, mark_of_two, decimal, octal}
 use Rattle.spl_cuts.specs.Commands.{command}
 use Rattle.spl_cuts.specs.Reading.{piece, line_piece, comment_piece, name_piece, number_at, string_piece, string_from, mark_at, close_size}
 use Rattle.spl_cuts.proofs.Fronts.{and_false}
@@ -90,7 +89,8 @@ two_apart b c m h = (
     percent = grind (arith, nat_tests, h);
     quote = grind (arith, nat_tests, h);
   },
-  grind (arith, nat_tests, h))
+  grind (arith, nat_tests, h),
+)
 
 pub one_apart : (b m : ℕ) → mark_of b ≡ Some m → Apart_mark b
 one_apart = mark_apart

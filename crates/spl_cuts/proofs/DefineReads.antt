@@ -1,5 +1,5 @@
 -- What a token makes of what was found before is what is read, and where it breaks a DEFINE nothing is.
-use Rattle.std.proofs.Common.{ℕ, zero, suc, ◌≡◌, ◌+◌, ◌<◌, ◌≤◌, Bool, true, false, List, [], ◌∷◌, ◌++◌, length, Option, Some, None, refl, sym, ap, subst, ◌∙◌, arith}
+use Rattle.std.proofs.Common.{ℕ, ◌≡◌, ◌≤◌, Bool, true, false, List, [], ◌∷◌, ◌++◌, Option, Some, None, refl, sym, ap, ◌∙◌, arith}
 use Rattle.std.specs.Prelude.{if◌then◌else◌}
 use Rattle.spl_cuts.specs.Signs.{Sign, word, number, wide, chars, mark, stop, Found}
 use Rattle.spl_cuts.specs.Defines as d
@@ -123,7 +123,7 @@ fed_told s t = by s.phase refl
       where
         at : (b c : Bool) → is_mark hash t.what ≡ b → is_define t.what ≡ c
             → Fed s t (if b then Some (record s { defines = s.defines ++ record { name = n; signs = ks } ∷ []; phase = behind_hash }) else
-                if c then None else Some (kept_as s t.what n ks (use_of s.defines t.what)))
+            if c then None else Some (kept_as s t.what n ks (use_of s.defines t.what)))
         at true c h g = Fed.takes (d.Takes.defined_so n ks p h)
         at false true h g = Fed.breaks (d.Breaks.nested n ks p g)
         at false false h g = kept_told s t n ks (use_of s.defines t.what) p h g refl

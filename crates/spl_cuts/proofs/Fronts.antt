@@ -1,9 +1,8 @@
 -- Tests, and the fronts of lists that a test passes.
-use Rattle.std.proofs.Common.{ℕ, zero, suc, ◌≡◌, ◌+◌, ◌-◌, ◌≤◌, Bool, true, false, List, [], ◌∷◌, ◌++◌, length, take, drop, Option, Some, None, refl, sym, ap, subst, ◌∙◌, arith, length-append}
-use Rattle.std.specs.Prelude.{◌&&◌, ◌||◌, not, option_map, Result, Ok, Err}
+use Rattle.std.proofs.Common.{ℕ, ◌≡◌, Bool, true, false, List, [], ◌∷◌, ◌++◌, length, take, drop, Option, Some, None, refl, sym, ap, ◌∙◌}
+use Rattle.std.specs.Prelude.{◌&&◌, not, option_map}
 use Rattle.std.specs.List.{take_while, list_all}
 use Rattle.std.proofs.lemmas.List.Sums.{take_while-cons}
-use Rattle.std.proofs.lemmas.List.{append_assoc}
 use Rattle.std.proofs.Math.Seq.{drop-append_seam, take-append_seam}
 use Rattle.spl_cuts.specs.Bytes.{Stops, begins}
 

@@ -1,5 +1,5 @@
 -- Some texts with their tokens or fault, worked by hand.
-use Rattle.std.proofs.Common.{ℕ, ◌≡◌, List, [], ◌∷◌, ◌++◌, map, Bool, true, false, refl}
+use Rattle.std.proofs.Common.{ℕ, ◌≡◌, List, [], ◌∷◌, ◌++◌, map, true, false, refl}
 use Rattle.std.specs.Prelude.{codes, Result, Ok, Err}
 use Prim.Native.String.{String}
 use Rattle.spl_tree.specs.declared.names_and_places.At.{At}

@@ -7,3 +7,4 @@ pub mod DefineReads
 pub mod Turns
 pub mod TextReads
 pub mod TextCuts
+pub mod FewSegments

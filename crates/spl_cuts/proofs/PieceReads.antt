@@ -1,21 +1,21 @@
 -- A piece that stands at the front of a text is read there, whatever follows it.
-use Rattle.std.proofs.Common.{ℕ, zero, suc, ◌≡◌, ◌+◌, ◌-◌, ◌<◌, ◌≤◌, Bool, true, false, List, [], ◌∷◌, ◌++◌, length, map, take, drop, Option, Some, None, refl, sym, ap, subst, ◌∙◌, arith, length-append}
-use Rattle.std.specs.Prelude.{◌&&◌, ◌||◌, ◌==◌, not, nat_le, nat_lt, option_map, if◌then◌else◌, is_some, codes}
+use Rattle.std.proofs.Common.{ℕ, suc, ◌≡◌, ◌+◌, ◌<◌, ◌≤◌, Bool, true, false, List, [], ◌∷◌, ◌++◌, length, map, Option, Some, None, refl, sym, ap, ◌∙◌, arith, length-append}
+use Rattle.std.specs.Prelude.{◌&&◌, ◌||◌, ◌==◌, not, nat_le, option_map, is_some, codes}
 use Rattle.std.specs.Cmp.Lexicographic.{same_text}
-use Rattle.std.specs.List.{take_while, list_all}
+use Rattle.std.specs.List.{list_all}
 use Rattle.std.proofs.lemmas.Bool.Decides.{nat_tests}
 use Rattle.std.proofs.lemmas.List.{append_assoc, length-map}
 use Rattle.std.proofs.Math.Seq.{drop-append_seam}
 use Rattle.spl_cuts.specs.declared.faults.LexKind.{LexKind}
 use Rattle.spl_cuts.specs.declared.faults.LexKind.TheVariants as k
-use Rattle.spl_cuts.specs.Signs.{Sign, word, number, wide, chars, mark}
-use Rattle.spl_cuts.specs.Bytes.{is_blank, is_letter, is_digit, is_octal_digit, is_name_byte, is_suffix, is_quote, is_semicolon, is_in_line, capital, Stops, begins, mark_of, mark_of_two, Base, decimal, octal, is_digit_of, prefix, value}
-use Rattle.spl_cuts.specs.Commands.{Setting, command}
+use Rattle.spl_cuts.specs.Signs.{word, number, wide, chars, mark}
+use Rattle.spl_cuts.specs.Bytes.{is_blank, is_name_byte, is_suffix, is_quote, is_semicolon, is_in_line, capital, Stops, begins, mark_of, mark_of_two, Base, decimal, octal, is_digit_of, prefix, value}
+use Rattle.spl_cuts.specs.Commands.{Setting}
 use Rattle.spl_cuts.specs.Pieces as g
 use Rattle.spl_cuts.specs.Pieces.{Item, nothing, token, settings, Stands, Faulty, Closed, Unclosed, Quoted, Name, Digits, Begins_none, is_comment_word, is_longer}
-use Rattle.spl_cuts.specs.Reading.{Outcome, sound, faulty, close_size, semicolon_size, comment_piece, with_char, with_byte, string_from, string_piece, line_piece, name_piece, number_piece, number_at, one_mark, two_marks, mark_at, piece, piece_at}
-use Rattle.spl_cuts.proofs.Fronts.{append_none, both, and_false, not_false, taken_whole, left_rest, stops_begins}
-use Rattle.spl_cuts.proofs.Classes.{Apart_mark, at_letter, at_digit, at_percent, at_quote, at_dollar, at_brackets, at_mark, one_apart, two_apart, no_mark}
+use Rattle.spl_cuts.specs.Reading.{sound, faulty, close_size, semicolon_size, comment_piece, with_char, with_byte, string_from, string_piece, line_piece, name_piece, number_piece, number_at, one_mark, two_marks, mark_at, piece, piece_at}
+use Rattle.spl_cuts.proofs.Fronts.{append_none, both, and_false, not_false, taken_whole, stops_begins}
+use Rattle.spl_cuts.proofs.Classes.{at_letter, at_digit, at_percent, at_quote, at_dollar, at_brackets, at_mark, one_apart, two_apart, no_mark}
 
 -- ---- comments
 

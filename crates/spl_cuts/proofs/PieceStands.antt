@@ -1,19 +1,19 @@
 -- What is read at the front of a text stands there: a piece with the bytes that are told, or a faulty one.
-use Rattle.std.proofs.Common.{ℕ, zero, suc, ◌≡◌, ◌+◌, ◌-◌, ◌<◌, ◌≤◌, Bool, true, false, List, [], ◌∷◌, ◌++◌, length, map, take, drop, Option, Some, None, refl, sym, ap, subst, ◌∙◌, arith, length-append}
-use Rattle.std.specs.Prelude.{◌&&◌, ◌||◌, ◌==◌, not, nat_le, nat_lt, option_map, if◌then◌else◌, is_some}
+use Rattle.std.proofs.Common.{ℕ, suc, ◌≡◌, ◌+◌, ◌<◌, Bool, true, false, List, [], ◌∷◌, ◌++◌, length, map, drop, Option, Some, None, refl, sym, ap, subst, ◌∙◌, arith, length-append}
+use Rattle.std.specs.Prelude.{◌&&◌, ◌==◌, not, nat_le, option_map, if◌then◌else◌}
 use Rattle.std.specs.List.{take_while, list_all}
 use Rattle.std.proofs.lemmas.Bool.Decides.{nat_tests}
 use Rattle.std.proofs.lemmas.Bool.{eqb-true}
 use Rattle.std.proofs.lemmas.List.{append_assoc}
 use Rattle.spl_cuts.specs.declared.faults.LexKind.{LexKind}
 use Rattle.spl_cuts.specs.declared.faults.LexKind.TheVariants as k
-use Rattle.spl_cuts.specs.Signs.{Sign, word, number, wide, chars, mark}
+use Rattle.spl_cuts.specs.Signs.{word, wide}
 use Rattle.spl_cuts.specs.Bytes.{is_blank, is_letter, is_digit, is_octal_digit, is_name_byte, is_suffix, is_quote, is_semicolon, is_in_line, capital, Stops, begins, mark_of, mark_of_two, Base, decimal, octal, is_digit_of, prefix, value}
 use Rattle.spl_cuts.specs.Commands.{Setting, command}
 use Rattle.spl_cuts.specs.Pieces as g
 use Rattle.spl_cuts.specs.Pieces.{Item, nothing, token, settings, Stands, Faulty, Closed, Unclosed, Quoted, Name, Digits, Begins_none, is_comment_word, is_longer}
-use Rattle.spl_cuts.specs.Reading.{Outcome, sound, faulty, close_size, semicolon_size, comment_piece, with_char, with_byte, string_from, string_piece, line_piece, name_piece, number_piece, number_at, one_mark, two_marks, mark_at, piece, piece_at}
-use Rattle.spl_cuts.proofs.Fronts.{append_none, both, and_false, not_false, some_is, mapped, Split, split, begins_taken, begins_stops}
+use Rattle.spl_cuts.specs.Reading.{Outcome, sound, faulty, close_size, semicolon_size, comment_piece, with_char, with_byte, string_from, string_piece, line_piece, name_piece, number_piece, number_at, one_mark, two_marks, mark_at, piece}
+use Rattle.spl_cuts.proofs.Fronts.{append_none, both, Split, split, begins_taken, begins_stops}
 use Rattle.spl_cuts.proofs.PieceReads.{with_suffix, suffix_length, word_front, word_length, string_front}
 
 -- what an outcome says of a text
@@ -41,6 +41,7 @@ closing_on b c bs _ h (Closing.closed (d ∷ ds) rest is v) = Closing.closed (b 
   where
     front : d ∷ (ds ++ rest) ≡ c ∷ bs → c ≡ d
     front e = sym (ap head_or_none e)
+
     same : c ≡ d → ((b == 62) && (c == 62)) ≡ false → ((b == 62) && (d == 62)) ≡ false
     same e h = subst (λ (x : ℕ). ((b == 62) && (x == 62)) ≡ false) e h
 closing_on b c bs _ h (Closing.open_ v) = Closing.open_ (g.Unclosed.on h v)
@@ -83,7 +84,7 @@ comment_word_told : (f : Bool) (w text : List ℕ) (bs : List ℕ) (o : Option �
 unfolding comment_piece
 comment_word_told f w text bs _ is n c (Ending.ended body rest e a) =
     Told.stands (length w + suc (length body)) (w ++ (body ++ 59 ∷ [])) rest (word_front w body rest ∙ ap (λ (xs : List ℕ). w ++ xs) e ∙ is)
-        (word_length w body) (omega arith) (g.Stands.comment_word w body rest (subst (λ (xs : List ℕ). Name w xs) (sym e) n) c a)
+    (word_length w body) (omega arith) (g.Stands.comment_word w body rest (subst (λ (xs : List ℕ). Name w xs) (sym e) n) c a)
 comment_word_told f w text bs _ is n c (Ending.unended a) = Told.fails (w ++ bs) [] (append_none (w ++ bs) ∙ is) (g.Faulty.comment_word w bs n c a)
 
 -- ---- names
@@ -95,6 +96,7 @@ name_told f w text bs is n = by (is_comment_word w) (nat_le (length w) 15) refl 
     some : (w : List ℕ) → begins is_letter w ≡ true → 0 < length w
     some [] h = cc
     some (b ∷ bs) h = omega arith
+
     by : (c l : Bool) → is_comment_word w ≡ c → nat_le (length w) 15 ≡ l
         → Told f text (if c then comment_piece (length w) (semicolon_size bs) else if l then sound (token (word (map capital w))) (length w) else faulty k.NameTooLong)
     by true l hc hl = comment_word_told f w text bs (semicolon_size bs) is n hc (ending bs)
@@ -117,21 +119,24 @@ number_told f base ds text rest is d = by (begins is_suffix rest) refl (nat_le (
     some : (ds : List ℕ) → begins (is_digit_of base) ds ≡ true → 0 < length ds
     some [] h = cc
     some (b ∷ bs) h = omega arith
+
     long : 0 < length (prefix base) + length ds
     long = let h = some ds d.some in omega (arith, h)
+
     double : (rest : List ℕ) → (prefix base ++ ds) ++ rest ≡ text → Digits base ds rest → begins is_suffix rest ≡ true → (l : Bool) → nat_le (value base ds) 4294967295 ≡ l
         → Told f text (if l then sound (token (wide (value base ds))) (length (prefix base) + length ds + 1) else faulty k.NumberTooLarge)
     double [] is d h l e = cc
     double (x ∷ rest) is d h true e =
         Told.stands (length (prefix base) + length ds + 1) (prefix base ++ (ds ++ x ∷ [])) rest (with_suffix base ds rest x ∙ is) (suffix_length base ds x) (omega arith)
-            (g.Stands.double base ds x rest d h (grind (arith, nat_tests, e)))
+        (g.Stands.double base ds x rest d h (grind (arith, nat_tests, e)))
     double (x ∷ rest) is d h false e = Told.fails (prefix base ++ (ds ++ x ∷ [])) rest (with_suffix base ds rest x ∙ is) (g.Faulty.double base ds x rest d h (grind (arith, nat_tests, e)))
+
     by : (s : Bool) → begins is_suffix rest ≡ s → (l : Bool) → nat_le (value base ds) 65535 ≡ l → (m : Bool) → nat_le (value base ds) 4294967295 ≡ m
         → Told f text (number_piece base ds s)
     by true h l e m g = rw g (double rest is d h m g)
     by false h true e m g' =
         rw e (Told.stands (length (prefix base) + length ds) (prefix base ++ ds) rest is (sym (length-append (prefix base) ds)) long
-            (g.Stands.single base ds rest d (begins_stops is_suffix rest h) (grind (arith, nat_tests, e))))
+        (g.Stands.single base ds rest d (begins_stops is_suffix rest h) (grind (arith, nat_tests, e))))
     by false h false e m g' = rw e (Told.fails (prefix base ++ ds) rest is (g.Faulty.single base ds rest d (begins_stops is_suffix rest h) (grind (arith, nat_tests, e))))
 
 digits_told : (f : Bool) (base : Base) (b : ℕ) (bs text : List ℕ) → prefix base ++ b ∷ bs ≡ text → is_digit_of base b ≡ true → Told f text (number_at base (b ∷ bs))
@@ -139,8 +144,8 @@ unfolding number_at
 digits_told f base b bs text is h =
     let s = split (is_digit_of base) (b ∷ bs) in
     rw (s.taken, s.left) (number_told f base s.front text s.rest
-        (append_assoc (prefix base) s.front s.rest ∙ ap (λ (xs : List ℕ). prefix base ++ xs) s.is ∙ is)
-        (record { some = begins_taken (is_digit_of base) (is_digit_of base) b bs s h h; all = s.all; longest = s.stops }))
+    (append_assoc (prefix base) s.front s.rest ∙ ap (λ (xs : List ℕ). prefix base ++ xs) s.is ∙ is)
+    (record { some = begins_taken (is_digit_of base) (is_digit_of base) b bs s h h; all = s.all; longest = s.stops }))
 
 -- ---- strings
 
@@ -178,7 +183,7 @@ unfolding string_piece
 string_told f bs _ (Stringed.whole cs body rest is q s) =
     let e : length (body ++ 34 ∷ []) ≡ length body + 1 = length-append body (34 ∷ []) in
     Told.stands (1 + suc (length body)) (34 ∷ (body ++ 34 ∷ [])) rest (ap (λ (xs : List ℕ). 34 ∷ xs) (string_front body rest ∙ is)) (omega (arith, e)) (omega arith)
-        (g.Stands.string cs body rest q s)
+    (g.Stands.string cs body rest q s)
 string_told f bs _ (Stringed.broken cs body rest is q s) = Told.fails (34 ∷ body) rest (ap (λ (xs : List ℕ). 34 ∷ xs) is) (g.Faulty.string cs body rest q s)
 
 -- ---- command lines
@@ -213,26 +218,29 @@ pub told : (f : Bool) (b : ℕ) (bs : List ℕ) → Told f (b ∷ bs) (piece f b
 unfolding piece
 told f b bs =
     by (is_blank b) (f && (b == 36)) ((b == 60) && begins (λ c. c == 60) bs) (is_letter b) (is_digit b) ((b == 37) && begins is_octal_digit bs) (is_quote b)
-        refl refl refl refl refl refl refl
+    refl refl refl refl refl refl refl
   where
     brackets : (bs : List ℕ) → (b == 60) ≡ true → begins (λ c. c == 60) bs ≡ true → Told f (b ∷ bs) (comment_piece 2 (close_size (drop 1 bs)))
     brackets [] h e = cc
     brackets (c ∷ bs) h e = rw (eqb-true b 60 h, eqb-true c 60 e) (comment_told f bs (close_size bs) (closing bs))
+
     percent : (bs : List ℕ) → (b == 37) ≡ true → begins is_octal_digit bs ≡ true → Told f (b ∷ bs) (number_at octal bs)
     percent [] h e = cc
     percent (c ∷ bs) h e = rw (eqb-true b 37 h) (digits_told f octal c bs (37 ∷ c ∷ bs) refl e)
+
     lined : (f : Bool) → f ≡ true → (b == 36) ≡ true → Told f (b ∷ bs) (line_piece (length (take_while is_in_line bs)) (command (take_while is_in_line bs)))
     lined true e h = rw (eqb-true b 36 h) (line_told bs)
     lined false e h = cc
+
     by : (x1 x2 x3 x4 x5 x6 x7 : Bool) → is_blank b ≡ x1 → (f && (b == 36)) ≡ x2 → ((b == 60) && begins (λ c. c == 60) bs) ≡ x3 → is_letter b ≡ x4 → is_digit b ≡ x5
         → ((b == 37) && begins is_octal_digit bs) ≡ x6 → is_quote b ≡ x7
         → Told f (b ∷ bs) (if x1 then sound nothing 1 else
-            if x2 then line_piece (length (take_while is_in_line bs)) (command (take_while is_in_line bs)) else
-            if x3 then comment_piece 2 (close_size (drop 1 bs)) else
-            if x4 then name_piece (take_while is_name_byte (b ∷ bs)) (drop (length (take_while is_name_byte (b ∷ bs))) (b ∷ bs)) else
-            if x5 then number_at decimal (b ∷ bs) else
-            if x6 then number_at octal bs else
-            if x7 then string_piece (string_from false bs) else mark_at b bs)
+        if x2 then line_piece (length (take_while is_in_line bs)) (command (take_while is_in_line bs)) else
+        if x3 then comment_piece 2 (close_size (drop 1 bs)) else
+        if x4 then name_piece (take_while is_name_byte (b ∷ bs)) (drop (length (take_while is_name_byte (b ∷ bs))) (b ∷ bs)) else
+        if x5 then number_at decimal (b ∷ bs) else
+        if x6 then number_at octal bs else
+        if x7 then string_piece (string_from false bs) else mark_at b bs)
     by true x2 x3 x4 x5 x6 x7 h1 h2 h3 h4 h5 h6 h7 = Told.stands 1 (b ∷ []) bs refl refl (omega arith) (g.Stands.blank bs h1)
     by false true x3 x4 x5 x6 x7 h1 h2 h3 h4 h5 h6 h7 = let h = both f (b == 36) h2 in lined f h.0 h.1
     by false false true x4 x5 x6 x7 h1 h2 h3 h4 h5 h6 h7 = let h = both (b == 60) (begins (λ c. c == 60) bs) h3 in brackets bs h.0 h.1

@@ -1,5 +1,5 @@
 -- What is read of a text is what it is cut into, or its first fault; so both are the only ones.
-use Rattle.std.proofs.Common.{ℕ, zero, suc, ◌≡◌, ◌+◌, ◌-◌, ◌<◌, ◌≤◌, Bool, true, false, List, [], ◌∷◌, ◌++◌, length, map, take, drop, Option, Some, None, refl, sym, ap, subst, ◌∙◌, arith, length-append}
+use Rattle.std.proofs.Common.{ℕ, zero, suc, ◌≡◌, ◌+◌, ◌-◌, ◌<◌, ◌≤◌, Bool, true, false, List, [], ◌∷◌, ◌++◌, take, drop, Option, refl, sym, ap, subst, ◌∙◌, arith}
 use Rattle.std.specs.Prelude.{nat_lt, Result, Ok, Err, if◌then◌else◌}
 use Rattle.std.specs.List.{list_all}
 use Rattle.std.proofs.lemmas.Bool.Decides.{nat_tests}
@@ -8,18 +8,18 @@ use Rattle.spl_tree.specs.declared.names_and_places.At.{At}
 use Rattle.spl_cuts.specs.declared.faults.LexKind.{LexKind}
 use Rattle.spl_cuts.specs.declared.faults.LexKind.TheVariants as k
 use Rattle.spl_cuts.specs.Signs.{Sign, Listed}
-use Rattle.spl_cuts.specs.Bytes.{is_allowed, blanked, past_all}
-use Rattle.spl_cuts.specs.Pieces.{Item, nothing, token, settings, Stands, Faulty}
+use Rattle.spl_cuts.specs.Bytes.{is_allowed, past_all}
+use Rattle.spl_cuts.specs.Pieces.{Item, nothing, token, settings}
 use Rattle.spl_cuts.specs.Defines.{State, Takes, Breaks, is_outside}
 use Rattle.spl_cuts.specs.Cutting as c
 use Rattle.spl_cuts.specs.Cutting.{Here, here, after, begins_line, start, fresh, listed, Adds, StandsBlanked, Cut, Fault, Cuts, Bad, Passes, CutsWithin, FirstFault}
-use Rattle.spl_cuts.specs.Reading.{fed, limited, added, finished, continued, Turn, go, fault, turned, turn, read, read_text}
+use Rattle.spl_cuts.specs.Reading.{fed, limited, added, finished, continued, Turn, turned, turn, read, read_text}
 use Rattle.spl_cuts.proofs.Fronts.{taken_front, left_rest}
 use Rattle.spl_cuts.proofs.DefineReads as d
 use Rattle.spl_cuts.proofs.DefineReads.{Fed, fed_told}
 use Rattle.spl_cuts.proofs.Turns as t
 use Rattle.spl_cuts.proofs.Turns.{Turned, turn_told}
-use Rattle.spl_cuts.proofs.TextReads.{cuts_read, fault_is_read, cut_read, fault_read}
+use Rattle.spl_cuts.proofs.TextReads.{cuts_read, fault_is_read}
 
 -- what an answer says of a text that begins here behind what was found
 data Explains (limit : ℕ) (h : Here) (s : State) (text : List ℕ) : Result Listed (LexKind × At) → Type 0 where
@@ -89,9 +89,9 @@ turn_explained limit h s b bs _ few (t.Turned.goes {item} n front rest is e long
     let r : drop (n - 1) bs ≡ rest = behind n long ∙ left_rest n front rest (b ∷ bs) e is in
     subst (λ (xs : List ℕ). Explains limit h s xs (continued h (added limit h s item) (λ s1. read limit (n - 1) (after h (take n (b ∷ bs)) item) s1 bs))) is
     (piece_told limit h s item front rest (added limit h s item) (λ s1. read limit (n - 1) (after h (take n (b ∷ bs)) item) s1 bs) v a few (added_told limit h s item few)
-        (λ s1 l. subst (λ (xs : List ℕ). Explains limit (after h xs item) s1 rest (read limit (n - 1) (after h (take n (b ∷ bs)) item) s1 bs)) f
-            (subst (λ (xs : List ℕ). Explains limit (after h (take n (b ∷ bs)) item) s1 xs (read limit (n - 1) (after h (take n (b ∷ bs)) item) s1 bs)) r
-            (next (n - 1) (after h (take n (b ∷ bs)) item) s1 l))))
+    (λ s1 l. subst (λ (xs : List ℕ). Explains limit (after h xs item) s1 rest (read limit (n - 1) (after h (take n (b ∷ bs)) item) s1 bs)) f
+    (subst (λ (xs : List ℕ). Explains limit (after h (take n (b ∷ bs)) item) s1 xs (read limit (n - 1) (after h (take n (b ∷ bs)) item) s1 bs)) r
+    (next (n - 1) (after h (take n (b ∷ bs)) item) s1 l))))
   where
     behind : (n : ℕ) → 0 < n → drop (n - 1) bs ≡ drop n (b ∷ bs)
     behind zero l = absurd (omega (arith, l))

@@ -1,6 +1,6 @@
 -- A text is read as it is cut, piece by piece, and its fault where it is.
-use Rattle.std.proofs.Common.{ℕ, zero, suc, ◌≡◌, ◌+◌, ◌-◌, ◌<◌, ◌≤◌, Bool, true, false, List, [], ◌∷◌, ◌++◌, length, map, take, drop, Option, Some, None, refl, sym, ap, subst, ◌∙◌, arith, length-append}
-use Rattle.std.specs.Prelude.{nat_lt, Result, Ok, Err, if◌then◌else◌}
+use Rattle.std.proofs.Common.{ℕ, zero, suc, ◌≡◌, ◌-◌, ◌<◌, ◌≤◌, true, false, List, [], ◌∷◌, ◌++◌, length, map, take, drop, Some, None, refl, sym, ap, ◌∙◌, arith, length-append}
+use Rattle.std.specs.Prelude.{nat_lt, Ok, Err}
 use Rattle.std.specs.List.{list_all}
 use Rattle.std.proofs.lemmas.Bool.Decides.{nat_tests}
 use Rattle.std.proofs.lemmas.List.{append_assoc, length-map}
@@ -10,11 +10,11 @@ use Rattle.spl_cuts.specs.declared.faults.LexKind.{LexKind}
 use Rattle.spl_cuts.specs.declared.faults.LexKind.TheVariants as k
 use Rattle.spl_cuts.specs.Signs.{Sign, Listed}
 use Rattle.spl_cuts.specs.Bytes.{is_allowed, blanked, past_all}
-use Rattle.spl_cuts.specs.Pieces.{Item, nothing, token, settings, Stands, Faulty}
-use Rattle.spl_cuts.specs.Defines.{State, Takes, Breaks, is_outside}
+use Rattle.spl_cuts.specs.Pieces.{Item, token}
+use Rattle.spl_cuts.specs.Defines.{State, is_outside}
 use Rattle.spl_cuts.specs.Cutting as c
 use Rattle.spl_cuts.specs.Cutting.{Here, here, after, begins_line, start, fresh, listed, Adds, StandsBlanked, Cut, Fault, Cuts, Bad, Passes, CutsWithin, FirstFault}
-use Rattle.spl_cuts.specs.Reading.{fed, limited, added, finished, continued, Turn, go, fault, turned, turn, read, read_text}
+use Rattle.spl_cuts.specs.Reading.{fed, limited, added, finished, continued, go, fault, turned, turn, read, read_text}
 use Rattle.spl_cuts.proofs.Fronts.{left_rest}
 use Rattle.spl_cuts.proofs.DefineReads.{takes_fed, breaks_fed, takes_grows}
 use Rattle.spl_cuts.proofs.Turns.{turn_goes, turn_finds, turn_fails, stands_some, faulty_some}
@@ -86,7 +86,7 @@ cut_read {h = h} {s = s} limit (c.Cut.piece {s1 = s1} front rest left item v a d
     let few : s1.count ≤ limit = omega (arith, l, m) in
     let some = blanked_some front rest (stands_some v) in
     read_goes limit (length front) h s s1 item (front ++ rest) rest some.0 some.1 (turn_goes (begins_line h) front rest item v a) (adds_added limit d few)
-        (left_rest (length front) front rest (front ++ rest) refl refl)
+    (left_rest (length front) front rest (front ++ rest) refl refl)
     ∙ ap (λ (xs : List ℕ). read limit 0 (after h xs item) s1 rest) (take-append_seam front rest)
     ∙ cut_read limit more l
 

@@ -1,5 +1,5 @@
 -- One turn of the reader, both ways: a piece or its fault at the front of a text with bytes that are allowed nowhere.
-use Rattle.std.proofs.Common.{ℕ, zero, suc, ◌≡◌, ◌+◌, ◌-◌, ◌<◌, ◌≤◌, Bool, true, false, List, [], ◌∷◌, ◌++◌, length, map, take, drop, Option, Some, None, refl, sym, ap, subst, ◌∙◌, arith, length-append}
+use Rattle.std.proofs.Common.{ℕ, suc, ◌≡◌, ◌+◌, ◌<◌, Bool, true, false, List, [], ◌∷◌, ◌++◌, length, map, take, drop, refl, sym, ap, subst, ◌∙◌, arith, length-append}
 use Rattle.std.specs.Prelude.{nat_lt, if◌then◌else◌}
 use Rattle.std.specs.List.{take_while, list_all}
 use Rattle.std.proofs.lemmas.Bool.Decides.{nat_tests}
@@ -7,10 +7,10 @@ use Rattle.std.proofs.lemmas.List.{map-append, length-map, take-map, drop-map, t
 use Rattle.std.proofs.Math.Seq.{take-append_seam}
 use Rattle.spl_cuts.specs.declared.faults.LexKind.{LexKind}
 use Rattle.spl_cuts.specs.declared.faults.LexKind.TheVariants as k
-use Rattle.spl_cuts.specs.Bytes.{is_allowed, blanked, begins, Stops, prefix}
+use Rattle.spl_cuts.specs.Bytes.{is_allowed, blanked, Stops, prefix}
 use Rattle.spl_cuts.specs.Pieces as g
 use Rattle.spl_cuts.specs.Pieces.{Item, Stands, Faulty, Name, Digits}
-use Rattle.spl_cuts.specs.Reading.{Outcome, sound, faulty, piece, piece_at, Turn, go, fault, checked, turn}
+use Rattle.spl_cuts.specs.Reading.{Outcome, sound, piece, piece_at, Turn, go, fault, checked, turn}
 use Rattle.spl_cuts.proofs.Fronts.{append_none, Split, split, taken_whole, taken_front, left_rest}
 use Rattle.spl_cuts.proofs.PieceReads.{stands_read, faulty_read}
 use Rattle.spl_cuts.proofs.PieceStands as p
@@ -39,7 +39,7 @@ pub turn_finds : (f : Bool) (good more rest : List ℕ) (b : ℕ) (item : Item) 
 unfolding checked
 turn_finds f good more rest b item v a h =
     let t : take_while is_allowed (take (length (good ++ b ∷ more)) ((good ++ b ∷ more) ++ rest)) ≡ good =
-        ap (take_while is_allowed) (take-append_seam (good ++ b ∷ more) rest) ∙ taken_whole is_allowed good (b ∷ more) a h in
+    ap (take_while is_allowed) (take-append_seam (good ++ b ∷ more) rest) ∙ taken_whole is_allowed good (b ∷ more) a h in
     let e : length (good ++ b ∷ more) ≡ length good + suc (length more) = length-append good (b ∷ more) in
     let l : nat_lt (length good) (length (good ++ b ∷ more)) ≡ true = grind (arith, nat_tests, e) in
     checked_sound f (good ++ b ∷ more) rest item v ∙ rw (t, l) refl
@@ -79,13 +79,13 @@ checked_told f text item n e long v =
             absurd (grind (arith, nat_tests, l, g))
         at (b ∷ more) is st =
             Turned.finds (length s.front) s.front more (drop n text) b (ap (λ (xs : List ℕ). xs ++ drop n text) is ∙ take-append-drop n text) refl
-                (subst (λ (xs : List ℕ). Stands f (map blanked xs) item (map blanked (drop n text))) (sym is) v) s.all st
+            (subst (λ (xs : List ℕ). Stands f (map blanked xs) item (map blanked (drop n text))) (sym is) v) s.all st
     by s false l = at s.rest s.is
       where
         at : (rest : List ℕ) → s.front ++ rest ≡ take n text → Turned f text (go item n)
         at [] is =
             Turned.goes n (take n text) (drop n text) (take-append-drop n text) e long v
-                (subst (λ (xs : List ℕ). list_all is_allowed xs ≡ true) (sym (append_none s.front) ∙ is) s.all)
+            (subst (λ (xs : List ℕ). list_all is_allowed xs ≡ true) (sym (append_none s.front) ∙ is) s.all)
         at (b ∷ more) is =
             let g : length (s.front ++ b ∷ more) ≡ n = ap (λ (xs : List ℕ). length xs) is ∙ sym e in
             let g' : length (s.front ++ b ∷ more) ≡ length s.front + suc (length more) = length-append s.front (b ∷ more) in
@@ -102,7 +102,7 @@ outcome_told f text _ (p.Told.fails {kind} front rest is v) =
     let a = front_of text front rest (length front) is refl in
     let b = rest_of text front rest (length front) is refl in
     Turned.fails (take (length front) text) (drop (length front) text) (take-append-drop (length front) text)
-        (subst (λ (xs : List ℕ). Faulty f xs kind (map blanked (drop (length front) text))) a (subst (λ (xs : List ℕ). Faulty f front kind xs) b v))
+    (subst (λ (xs : List ℕ). Faulty f xs kind (map blanked (drop (length front) text))) a (subst (λ (xs : List ℕ). Faulty f front kind xs) b v))
 
 pub turn_told : (f : Bool) (b : ℕ) (bs : List ℕ) → Turned f (b ∷ bs) (turn f (b ∷ bs))
 unfolding turn

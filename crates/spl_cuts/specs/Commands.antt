@@ -1,5 +1,5 @@
 -- Command lines: what stands behind their `$`.
-use Rattle.std.specs.Prelude.{ℕ, ◌+◌, ◌≤◌, Bool, true, false, ◌==◌, ◌&&◌, ◌||◌, not, nat_le, List, [], ◌∷◌, length, map, filter, drop, take_while, Option, None, Some, option_map, option_and_then, if◌then◌else◌}
+use Rattle.std.specs.Prelude.{ℕ, Bool, true, false, ◌==◌, ◌&&◌, ◌||◌, nat_lt, nat_le, List, [], ◌∷◌, length, map, filter, drop, take_while, Option, None, Some, option_map, option_and_then, if◌then◌else◌}
 use Rattle.std.specs.List.{slice_split, list_all}
 use Rattle.spl_tree.specs.Symbols.{is_word}
 use Rattle.spl_cuts.specs.Bytes.{is_blank, is_letter, is_digit, is_name_byte, capital, begins}
@@ -17,13 +17,9 @@ is_name w = begins is_letter w && list_all is_name_byte w && nat_le (length w) 1
 abbrev pub is_number : List ℕ → Bool
 is_number w = begins is_digit w && list_all is_digit w
 
-abbrev pub is_some_word : List ℕ → Bool
-is_some_word [] = false
-is_some_word (b ∷ bs) = true
-
 -- the words that blanks part
 abbrev pub words : List ℕ → List (List ℕ)
-words text = filter is_some_word (slice_split is_blank text)
+words text = filter (λ w. nat_lt 0 (length w)) (slice_split is_blank text)
 
 -- a name alone
 abbrev pub plain : List ℕ → Option Setting
@@ -35,10 +31,15 @@ valued n v =
     if is_name n && (is_name v || is_number v)
     then Some (if is_word (map capital n) "SEGMENT" && is_name v then segment (map capital v) else other) else None
 
--- an option, by the words on both sides of each `=`
-unfoldable pub setting : List (List (List ℕ)) → Option Setting
-setting ((n ∷ []) ∷ []) = plain n
-setting ((n ∷ []) ∷ (v ∷ []) ∷ []) = valued n v
+-- the only one of some words, if there is just one
+abbrev pub only : List (List ℕ) → Option (List ℕ)
+only (w ∷ []) = Some w
+only _ = None
+
+-- an option, by the word on each side of its `=`
+unfoldable pub setting : List (Option (List ℕ)) → Option Setting
+setting (n ∷ []) = option_and_then plain n
+setting (n ∷ v ∷ []) = option_and_then (λ n. option_and_then (valued n) v) n
 setting _ = None
 
 abbrev pub is_equals : ℕ → Bool
@@ -49,7 +50,7 @@ is_comma b = b == 44
 
 -- the option that stands between two commas; blanks may stand round it and round its `=`
 unfoldable pub option : List ℕ → Option Setting
-option text = setting (map words (slice_split is_equals text))
+option text = setting (map (λ side. only (words side)) (slice_split is_equals text))
 
 -- all options, if each is one
 unfoldable pub options : List (List ℕ) → Option (List Setting)

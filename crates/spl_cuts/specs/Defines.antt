@@ -1,11 +1,11 @@
 -- DEFINE: each is left out of the list, and each use of its name stands for its tokens.
-use Rattle.std.specs.Prelude.{ℕ, ◌≡◌, ◌+◌, Bool, true, false, ◌==◌, ◌&&◌, ◌||◌, not, nat_eq, List, [], ◌∷◌, ◌++◌, length, map, Option, None, Some, if◌then◌else◌}
+use Rattle.std.specs.Prelude.{ℕ, ◌≡◌, ◌+◌, Bool, true, false, ◌==◌, nat_eq, List, [], ◌∷◌, ◌++◌, length, Option, None, Some, if◌then◌else◌}
 use Rattle.std.specs.List.{list_any}
 use lib.Pointwise.{pointwise}
 use Prim.Native.String.{String}
 use Rattle.spl_tree.specs.Symbols.{reserved_words, is_word}
 use Rattle.spl_tree.specs.declared.symbols.Symbol.{Symbol}
-use Rattle.spl_cuts.specs.Signs.{Sign, word, number, wide, chars, mark, stop, Found}
+use Rattle.spl_cuts.specs.Signs.{Sign, word, mark, Found}
 
 -- a name, and the tokens that it stands for
 pub record Define : Type 0 where

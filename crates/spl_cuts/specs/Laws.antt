@@ -1,5 +1,5 @@
 -- The laws of cutting: what is read of a text is what it is cut into, or its first fault.
-use Rattle.std.specs.Prelude.{ℕ, ◌≡◌, List, Ok, Err}
+use Rattle.std.specs.Prelude.{ℕ, ◌≡◌, ◌+◌, ◌*◌, ◌≤◌, List, length, Ok, Err}
 use Rattle.spl_tree.specs.declared.names_and_places.At.{At}
 use Rattle.spl_cuts.specs.declared.faults.LexKind.{LexKind}
 use Rattle.spl_cuts.specs.Signs.{Listed}
@@ -34,10 +34,14 @@ CutsAreSound = (unit m n : ℕ) (text : List ℕ) (x : Listed) (kind : LexKind) 
 abbrev pub BadPiecesAreUnique : Type 0
 BadPiecesAreUnique =
     (unit m n : ℕ) (text : List ℕ) (kind other : LexKind) (at there : At) → Bad unit m text kind at → Bad unit n text other there
-        → (kind ≡ other) × (at ≡ there)
+    → (kind ≡ other) × (at ≡ there)
 
 -- a text has at most one first fault
 abbrev pub FaultsAreUnique : Type 0
 FaultsAreUnique =
     (unit limit : ℕ) (text : List ℕ) (kind other : LexKind) (at there : At) → FirstFault unit limit text kind at
-        → FirstFault unit limit text other there → (kind ≡ other) × (at ≡ there)
+    → FirstFault unit limit text other there → (kind ≡ other) × (at ≡ there)
+
+-- each segment but the first takes a command line of at least 17 bytes
+abbrev pub SegmentsAreFew : Type 0
+SegmentsAreFew = (unit count : ℕ) (text : List ℕ) (x : Listed) → Cuts unit count text x → 17 * length x.segments ≤ 17 + length text

@@ -1,5 +1,5 @@
 -- The pieces of a text: blanks, comments, command lines and tokens, each the longest at its place; and faulty pieces.
-use Rattle.std.specs.Prelude.{ℕ, ◌≡◌, ◌+◌, ◌<◌, ◌≤◌, Bool, true, false, ◌==◌, ◌&&◌, ◌||◌, not, is_some, List, [], ◌∷◌, ◌++◌, length, map, codes, Option, None, Some}
+use Rattle.std.specs.Prelude.{ℕ, ◌≡◌, ◌<◌, ◌≤◌, Bool, true, false, ◌==◌, ◌&&◌, ◌||◌, not, is_some, List, [], ◌∷◌, ◌++◌, length, map, None, Some}
 use Rattle.std.specs.List.{list_all}
 use Rattle.spl_tree.specs.Symbols.{is_word}
 use Rattle.spl_cuts.specs.declared.faults.LexKind.{LexKind}

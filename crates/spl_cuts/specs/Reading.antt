@@ -1,6 +1,5 @@
 -- A text read from its front, piece by piece.
-use Rattle.std.specs.Prelude.{ℕ, zero, suc, ◌+◌, ◌-◌, Bool, true, false, ◌==◌, ◌&&◌, ◌||◌, nat_lt, nat_le, List, [], ◌∷◌, ◌++◌, length, map, take, drop, take_while, Option, None, Some, Result, Ok, Err, option_map, if◌then◌else◌}
-use Rattle.std.specs.List.{list_all}
+use Rattle.std.specs.Prelude.{ℕ, zero, suc, ◌+◌, ◌-◌, Bool, true, false, ◌==◌, ◌&&◌, nat_lt, nat_le, List, [], ◌∷◌, ◌++◌, length, map, take, drop, take_while, Option, None, Some, Result, Ok, Err, option_map, if◌then◌else◌}
 use Rattle.spl_tree.specs.declared.names_and_places.At.{At}
 use Rattle.spl_cuts.specs.declared.faults.LexKind.{LexKind}
 use Rattle.spl_cuts.specs.declared.faults.LexKind.TheVariants as k
@@ -8,7 +7,7 @@ use Rattle.spl_cuts.specs.Signs.{Sign, word, number, wide, chars, mark, Found, L
 use Rattle.spl_cuts.specs.Bytes.{is_allowed, blanked, is_blank, is_letter, is_digit, is_octal_digit, is_name_byte, is_suffix, is_quote, is_semicolon, is_in_line, capital, begins, mark_of, mark_of_two, Base, decimal, octal, is_digit_of, prefix, value, past_all}
 use Rattle.spl_cuts.specs.Commands.{Setting, command}
 use Rattle.spl_cuts.specs.Pieces.{Item, nothing, token, settings, is_comment_word}
-use Rattle.spl_cuts.specs.Defines.{State, Phase, outside, before_name, before_equals, inside, behind_hash, Define, defined, use_of, is_reserved, is_define, is_mark, comma, semicolon, equals, hash, at_use, is_outside}
+use Rattle.spl_cuts.specs.Defines.{State, Phase, outside, before_name, before_equals, inside, behind_hash, defined, use_of, is_reserved, is_define, is_mark, comma, semicolon, equals, hash, at_use, is_outside}
 use Rattle.spl_cuts.specs.Cutting.{Here, here, start, fresh, after, begins_line, listed}
 
 -- the piece at the front of a text: what it gives and how many bytes it has, or its fault

@@ -1,5 +1,5 @@
 //! Laws of cutting, each as the contract of a function that does nothing.
-ghost use Rattle.spl_cuts.specs.Laws.{CutsAreRead, TextsAreCut, FaultsAreRead, FaultsAreFirst, CutsAreUnique, CutsAreSound, BadPiecesAreUnique, FaultsAreUnique};
+ghost use Rattle.spl_cuts.specs.Laws.{CutsAreRead, TextsAreCut, FaultsAreRead, FaultsAreFirst, CutsAreUnique, CutsAreSound, BadPiecesAreUnique, FaultsAreUnique, SegmentsAreFew};
 
 /// A text is read as the list that it is cut into.
 pub fn cuts_are_read()
@@ -39,4 +39,9 @@ pub fn bad_pieces_are_unique()
 /// A text has at most one first fault.
 pub fn faults_are_unique()
     ensures { FaultsAreUnique }
+{}
+
+/// Each segment but the first takes a command line of at least 17 bytes.
+pub fn segments_are_few()
+    ensures { SegmentsAreFew }
 {}

@@ -5,4 +5,7 @@ mod faults;
 mod laws;
 
 pub use faults::{LexFault, LexKind};
-pub use laws::{bad_pieces_are_unique, cuts_are_read, cuts_are_sound, cuts_are_unique, faults_are_first, faults_are_read, faults_are_unique, texts_are_cut};
+pub use laws::{
+    bad_pieces_are_unique, cuts_are_read, cuts_are_sound, cuts_are_unique, faults_are_first,
+    faults_are_read, faults_are_unique, segments_are_few, texts_are_cut,
+};
