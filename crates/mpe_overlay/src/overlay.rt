@@ -1,6 +1,6 @@
 //! The code area with its programs: a segment is brought in when it is needed, and may be given up at any time.
-ghost use Rattle.std.specs.Prelude.{◌≡◌, ℕ, ◌+◌, ◌≤◌, [], ◌∷◌, List, length, map, Option, Some, slice_get, option_map, IfOk, IsSomeAnd, IsTrue, ◌↔◌, true};
-ghost use Rattle.hp_program.specs.Programs.{segments_of};
+ghost use Rattle.std.specs.Prelude.{◌≡◌, ℕ, ◌+◌, ◌≤◌, [], ◌∷◌, List, length, Some, slice_get, option_map, IfOk, IsSomeAnd, IsTrue, ◌↔◌, true};
+ghost use Rattle.std.specs.Bool.{OnFalse};
 ghost use Rattle.mpe_regions.specs.Area.{region_of, is_live};
 ghost use Rattle.mpe_regions.specs.Loads.{needed, dropped};
 ghost use Rattle.mpe_overlay.specs.Codes.{codes_of, key_of, segment_at, size_of};
@@ -102,6 +102,7 @@ impl Overlay {
     pub fn evict(&mut self, program: u8, seg: u8) -> bool
         ensures live { result ≡ is_live (key_of program seg) self.old.regions.area }
         ensures area { self.new.regions.area ≡ dropped (key_of program seg) self.old.regions.area }
+        ensures kept { OnFalse result (self.new.regions ≡ self.old.regions) }
 
         // What it leaves alone.
         ensures base { self.new.base ≡ self.old.base }
