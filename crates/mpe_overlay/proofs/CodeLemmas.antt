@@ -1,13 +1,11 @@
 -- The words of regions: what is read in one, what a copy leaves of others, and that each region keeps the words of its segment.
-use Rattle.std.proofs.Common.{◌≡◌, ◌≢◌, ℕ, ◌+◌, ◌-◌, ◌*◌, ◌/◌, ◌%◌, ◌<◌, ◌≤◌, List, [], ◌∷◌, ◌++◌, length, take, drop, get_or, Option, None, Some, refl, sym, ap, subst, ◌∙◌, arith, inl, inr, length-append, length-drop, length-take}
-use Rattle.std.specs.Prelude.{◌⊎◌, slice_get, slice_range, option_map, unwrap_or}
+use Rattle.std.proofs.Common.{◌≡◌, ℕ, ◌+◌, ◌-◌, ◌<◌, ◌≤◌, List, ◌++◌, length, take, drop, get_or, None, Some, refl, sym, ap, ◌∙◌, arith, inl, inr, length-append, length-drop, length-take}
+use Rattle.std.specs.Prelude.{◌⊎◌, slice_range}
 use Rattle.std.proofs.Math.Seq.{drop-append-add}
-use Rattle.std.proofs.lemmas.Bool.{cases_eq}
 use Rattle.std.proofs.lemmas.List.{append_assoc, take-append-le, take-take, drop-drop, drop_at, take_at}
 use Rattle.std.proofs.lemmas.List.Edits.{get_or-between, length-between}
-use Rattle.std.proofs.lemmas.Option.{slice_get-get_or, slice_get_past, slice_get_within}
+use Rattle.std.proofs.lemmas.Option.{slice_get-get_or, slice_get_past}
 use Rattle.std.proofs.lemmas.Slice.{between_is}
-use Rattle.hp_program.specs.declared.store.Fetched.{Fetched}
 use Rattle.hp_program.specs.declared.store.Fetched.TheVariants.{Word, Absent, Outside}
 use Rattle.hp_program.specs.Stores.{word_or_outside, fetched}
 use Rattle.mpe_regions.specs.declared.region.Region.{Region}

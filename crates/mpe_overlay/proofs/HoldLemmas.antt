@@ -1,18 +1,17 @@
 -- Each region keeps the words of its segment: where regions go, and where a segment is brought in.
-use Rattle.std.proofs.Common.{◌≡◌, ◌≢◌, ℕ, ◌+◌, ◌*◌, ◌<◌, ◌≤◌, Bool, true, false, List, [], ◌∷◌, ◌++◌, length, take, drop, Option, None, Some, refl, sym, ap, subst, ◌∙◌, arith, inl, inr}
+use Rattle.std.proofs.Common.{◌≡◌, ◌≢◌, ℕ, ◌+◌, ◌<◌, ◌≤◌, Bool, true, false, List, ◌∷◌, ◌++◌, length, take, drop, Option, None, Some, refl, sym, ap, subst, ◌∙◌, arith, inl, inr}
 use Rattle.std.specs.Prelude.{◌==◌, ◌⊎◌, is_some, IsSomeAnd, nat_lt, slice_get, option_map, if◌then◌else◌}
 use Rattle.std.proofs.lemmas.Bool.{cases_eq, ltb-true, eqb-true}
 use Rattle.std.proofs.lemmas.Option.{same_Some}
 use Rattle.mpe_regions.specs.declared.region.Region.{Region}
-use Rattle.mpe_regions.specs.Area.{Area, times, times_placed, region_of, is_live, IsAbsent}
-use Rattle.mpe_regions.specs.Loads.{Load, hole, put, placed, load, dropped, without}
+use Rattle.mpe_regions.specs.Area.{Area, times_placed, region_of, is_live, IsAbsent}
+use Rattle.mpe_regions.specs.Loads.{hole, put, placed, load, dropped}
 use Rattle.mpe_regions.specs.Sound.{IsSound}
 use Rattle.mpe_regions.specs.Kept.{Kept}
-use Rattle.mpe_regions.specs.AreaLaws.{IsLoaded}
 use Rattle.mpe_regions.proofs.KeyLemmas.{length-below, times-absent, find-placed_same, find-placed_other}
 use Rattle.mpe_regions.proofs.PlaceLemmas.{hole-within, hole-apart}
 use Rattle.mpe_regions.proofs.LoadLemmas.{loaded, less-dropped}
-use Rattle.mpe_overlay.specs.Codes.{codes_of, key_of, segment_at}
+use Rattle.mpe_overlay.specs.Codes.{key_of, segment_at}
 use Rattle.mpe_overlay.specs.Holds.{words_in, HoldsCode}
 use Rattle.mpe_overlay.specs.Held.{held_in}
 use Rattle.mpe_overlay.proofs.CodeLemmas.{words-apart, words-here, length-copied}

@@ -1,11 +1,10 @@
 -- Two programs in a small area, worked by hand.
-use Rattle.std.proofs.Common.{◌≡◌, ℕ, Bool, true, false, List, [], ◌∷◌, Option, None, Some, refl}
+use Rattle.std.proofs.Common.{◌≡◌, ℕ, List, [], ◌∷◌, None, Some, refl}
 use Rattle.hp_program.specs.declared.store.Fetched.TheVariants.{Word, Absent, Outside}
 use Rattle.hp_program.specs.Stores.{fetched}
-use Rattle.mpe_regions.specs.declared.region.Region.{Region}
 use Rattle.mpe_regions.specs.Area.{Area}
 use Rattle.mpe_overlay.specs.declared.loaded.Loaded.TheVariants.{There, Brought}
-use Rattle.mpe_overlay.specs.Codes.{key_of, segment_at, size_of}
+use Rattle.mpe_overlay.specs.Codes.{key_of, segment_at}
 use Rattle.mpe_overlay.specs.Holds.{words_in}
 use Rattle.mpe_overlay.specs.Held.{held_in}
 use Rattle.mpe_overlay.specs.Needs.{answer, counted}

@@ -1,10 +1,10 @@
 -- The loop that makes room: where a hole is, it ends as the load does; where none is, one key less is live.
-use Rattle.std.proofs.Common.{◌≡◌, ◌≢◌, ℕ, ◌+◌, ◌<◌, ◌≤◌, List, [], ◌∷◌, length, Option, None, Some, refl, sym, ap, subst, ◌∙◌, arith, inl, inr, add-zero}
+use Rattle.std.proofs.Common.{◌≡◌, ◌≢◌, ℕ, ◌+◌, ◌<◌, ◌≤◌, List, [], ◌∷◌, length, None, Some, refl, sym, ap, subst, ◌∙◌, arith, inl, inr, add-zero}
 use Rattle.std.specs.Prelude.{◌⊎◌, slice_get}
 use Rattle.std.proofs.lemmas.Bool.{cases_eq, eq-eqb}
 use Rattle.mpe_regions.specs.declared.region.Region.{Region}
-use Rattle.mpe_regions.specs.Area.{Area, times, times_used, times_placed, region_of, IsAbsent, oldest_of}
-use Rattle.mpe_regions.specs.Loads.{Load, hole, put, put_if, load, after_more, dropped, without}
+use Rattle.mpe_regions.specs.Area.{Area, times_used, region_of, IsAbsent, oldest_of}
+use Rattle.mpe_regions.specs.Loads.{Load, hole, put_if, load, after_more, dropped, without}
 use Rattle.mpe_regions.specs.Sound.{IsSound}
 use Rattle.mpe_regions.proofs.KeyLemmas.{length-others, find-without_same, find-without_other}
 use Rattle.mpe_regions.proofs.LoadLemmas.{load-here, load-next, hole-empty}

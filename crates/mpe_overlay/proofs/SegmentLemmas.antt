@@ -1,14 +1,14 @@
 -- The segment that a key names: which program and number it has, and how many words.
-use Rattle.std.proofs.Common.{◌≡◌, ℕ, zero, suc, ◌+◌, ◌-◌, ◌*◌, ◌/◌, ◌%◌, ◌<◌, ◌≤◌, Bool, true, false, List, [], ◌∷◌, length, get_or, map, Option, None, Some, refl, sym, ap, subst, ◌∙◌, arith}
+use Rattle.std.proofs.Common.{◌≡◌, ℕ, zero, suc, ◌+◌, ◌*◌, ◌/◌, ◌%◌, ◌<◌, ◌≤◌, Bool, true, false, List, [], ◌∷◌, length, get_or, Option, None, Some, refl, sym, ap, subst, ◌∙◌, arith}
 use Rattle.std.specs.Prelude.{slice_get, option_map, option_and_then, unwrap_or, not, IsSome, if◌then◌else◌}
 use Rattle.std.proofs.lemmas.Bool.Decides.{nat_tests}
 use Rattle.std.proofs.lemmas.List.{length-map}
 use Rattle.std.proofs.lemmas.Option.{slice_get-map, slice_get_read, slice_get_within, slice_get_past, option_and_then_some}
 use Rattle.hp_program.specs.declared.program.Program.{Program}
 use Rattle.hp_program.specs.declared.program.Defect.{Defect}
-use Rattle.hp_program.specs.declared.program.Defect.TheVariants.{Head, Segment, Main}
+use Rattle.hp_program.specs.declared.program.Defect.TheVariants.{Head, Segment}
 use Rattle.hp_program.specs.Programs.{segments_of, words_of}
-use Rattle.hp_program.specs.Valid.{is_well_sized, is_head, bad_segment, bad_table, first_defect, or_else}
+use Rattle.hp_program.specs.Valid.{is_well_sized, is_head, bad_segment, first_defect, or_else}
 use Rattle.mpe_overlay.specs.Codes.{codes_of, key_of, segment_at}
 
 -- Keys.

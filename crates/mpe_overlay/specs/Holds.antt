@@ -1,5 +1,5 @@
 -- What the code area keeps: each region has the words of the segment whose key it has.
-use Rattle.std.specs.Prelude.{◌≡◌, ℕ, ◌+◌, ◌≤◌, List, length, slice_range, Option, Some}
+use Rattle.std.specs.Prelude.{◌≡◌, ℕ, ◌+◌, ◌≤◌, List, length, slice_range, Some}
 use Rattle.mpe_regions.specs.declared.region.Region.{Region}
 use Rattle.mpe_regions.specs.Area.{Area, region_of}
 use Rattle.mpe_regions.specs.Kept.{Kept}

@@ -1,5 +1,5 @@
 -- What a need of a segment answers, and how it counts.
-use Rattle.std.specs.Prelude.{ℕ, ◌+◌, ◌%◌, ◌^◌, Bool, true, false, Option, None, Some, unwrap_or, if◌then◌else◌}
+use Rattle.std.specs.Prelude.{ℕ, ◌+◌, ◌%◌, ◌^◌, unwrap_or, if◌then◌else◌}
 use Rattle.mpe_regions.specs.Area.{Area, is_live}
 use Rattle.mpe_regions.specs.Loads.{Load, load}
 use Rattle.mpe_overlay.specs.declared.loaded.Loaded.{Loaded}

@@ -1,11 +1,11 @@
 -- Keys in a list: how often each occurs, and which element a key finds, after each change of the list.
-use Rattle.std.proofs.Common.{◌≡◌, ◌≢◌, ℕ, zero, suc, ◌+◌, ◌<◌, ◌≤◌, Bool, true, false, List, [], ◌∷◌, ◌++◌, length, Option, None, Some, refl, sym, ap, ◌∙◌, arith, zero-add, inl, inr}
-use Rattle.std.specs.Prelude.{◌==◌, ◌⊎◌, nat_lt, not, filter, insert, is_some, if◌then◌else◌}
+use Rattle.std.proofs.Common.{◌≡◌, ◌≢◌, ℕ, zero, suc, ◌+◌, ◌<◌, ◌≤◌, Bool, true, false, List, [], ◌∷◌, ◌++◌, length, None, Some, refl, sym, ap, ◌∙◌, arith, zero-add, inl, inr}
+use Rattle.std.specs.Prelude.{◌==◌, ◌⊎◌, nat_lt, not, filter, insert, if◌then◌else◌}
 use Rattle.std.proofs.lemmas.Bool.{eqb-true, eq-eqb, cases_eq}
 use Rattle.std.proofs.lemmas.Bool.Decides.{nat_tests}
 use Rattle.mpe_regions.specs.declared.region.Region.{Region}
-use Rattle.mpe_regions.specs.Area.{times, times_placed, times_used, region_of}
-use Rattle.mpe_regions.specs.Loads.{placed, without, forgotten}
+use Rattle.mpe_regions.specs.Area.{times, times_placed, region_of}
+use Rattle.mpe_regions.specs.Loads.{placed, without}
 use Rattle.mpe_regions.specs.Ranks.{rank}
 
 -- Counts.

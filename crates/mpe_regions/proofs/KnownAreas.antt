@@ -1,7 +1,6 @@
 -- An area of a hundred words, worked by hand.
-use Rattle.std.proofs.Common.{◌≡◌, Bool, true, false, List, [], ◌∷◌, Option, None, Some, refl}
-use Rattle.mpe_regions.specs.declared.region.Region.{Region}
-use Rattle.mpe_regions.specs.Area.{Area, region_of, oldest_of}
+use Rattle.std.proofs.Common.{◌≡◌, true, false, [], ◌∷◌, None, Some, refl}
+use Rattle.mpe_regions.specs.Area.{Area, oldest_of}
 use Rattle.mpe_regions.specs.Loads.{hole, put, dropped, used, touched, load, needed}
 use Rattle.mpe_regions.specs.Sound.{is_hole}
 

@@ -1,14 +1,14 @@
 -- Loads: where a hole is, the load ends; where none is, the oldest key is dropped and it begins again; an empty area has room.
-use Rattle.std.proofs.Common.{◌≡◌, ◌≢◌, ℕ, suc, ◌+◌, ◌<◌, ◌≤◌, Bool, true, false, List, [], ◌∷◌, ◌++◌, length, Option, None, Some, refl, sym, ap, subst, ◌∙◌, arith, zero-add, inl, inr}
-use Rattle.std.specs.Prelude.{◌==◌, ◌⊎◌, not, nat_le, filter, if◌then◌else◌}
+use Rattle.std.proofs.Common.{◌≡◌, ◌≢◌, ℕ, ◌<◌, ◌≤◌, true, List, [], ◌∷◌, length, Option, None, Some, refl, sym, ap, subst, ◌∙◌, arith, zero-add, inl, inr}
+use Rattle.std.specs.Prelude.{◌==◌, ◌⊎◌, nat_le}
 use Rattle.std.proofs.lemmas.Bool.{le-leb, eq-eqb, cases_eq}
 use Rattle.std.proofs.lemmas.List.{nil_from_length}
 use Rattle.mpe_regions.specs.declared.region.Region.{Region}
-use Rattle.mpe_regions.specs.Area.{Area, times, times_used, times_placed, region_of, IsAbsent}
-use Rattle.mpe_regions.specs.Loads.{Load, hole, hole_from, put, placed, fill, after_more, load, load_by, without, forgotten, dropped}
+use Rattle.mpe_regions.specs.Area.{Area, times_used, region_of, IsAbsent}
+use Rattle.mpe_regions.specs.Loads.{Load, hole, hole_from, put, fill, after_more, load, load_by, without, forgotten, dropped}
 use Rattle.mpe_regions.specs.Sound.{IsSound}
 use Rattle.mpe_regions.specs.AreaLaws.{IsLoaded}
-use Rattle.mpe_regions.proofs.KeyLemmas.{others, others-absent, find-placed_same, find-without_same, find-without_other}
+use Rattle.mpe_regions.proofs.KeyLemmas.{others-absent, find-placed_same, find-without_same, find-without_other}
 use Rattle.mpe_regions.proofs.SoundLemmas.{sound-put, sound-dropped}
 
 -- One step of a load.

@@ -1,11 +1,10 @@
 -- A sound area stays sound: after a put into a hole, after a drop, and after a use.
-use Rattle.std.proofs.Common.{◌≡◌, ◌≢◌, ℕ, ◌+◌, ◌<◌, ◌≤◌, Bool, true, false, List, [], ◌∷◌, ◌++◌, length, Option, None, Some, refl, sym, ap, ◌∙◌, arith, length-append, inl, inr}
+use Rattle.std.proofs.Common.{◌≡◌, ◌≢◌, ℕ, ◌+◌, ◌<◌, ◌≤◌, Bool, true, false, List, [], ◌∷◌, ◌++◌, Option, None, Some, refl, sym, ◌∙◌, arith, length-append, inl, inr}
 use Rattle.std.specs.Prelude.{◌==◌, ◌⊎◌, is_some, if◌then◌else◌}
 use Rattle.std.proofs.lemmas.Bool.{cases_eq, eq-eqb, ne_eqb, eqb-true}
-use Rattle.std.proofs.lemmas.Bool.Decides.{nat_tests}
 use Rattle.mpe_regions.specs.declared.region.Region.{Region}
-use Rattle.mpe_regions.specs.Area.{Area, times, times_placed, times_used, region_of, is_live, IsAbsent}
-use Rattle.mpe_regions.specs.Loads.{hole, put, put_if, placed, without, forgotten, dropped, used, touched}
+use Rattle.mpe_regions.specs.Area.{Area, times_placed, times_used, region_of, IsAbsent}
+use Rattle.mpe_regions.specs.Loads.{hole, put, put_if, without, forgotten, dropped, used, touched}
 use Rattle.mpe_regions.specs.Sound.{IsSound}
 use Rattle.mpe_regions.proofs.KeyLemmas.{others-absent, times-append, times-others_same, times-others_other, length-others, times-placed, length-placed, times-absent, times-live}
 use Rattle.mpe_regions.proofs.PlaceLemmas.{laid-placed, laid-without}

@@ -1,5 +1,5 @@
 -- The plain form of the table: the two lists of the area stand in two vectors.
-use Rattle.std.specs.Prelude.{ℕ, ◌≤◌, length, vec_capacity}
+use Rattle.std.specs.Prelude.{◌≤◌, length, vec_capacity}
 use Rattle.mpe_regions.specs.declared.regions.Regions.TheInside.{Inside}
 use Rattle.mpe_regions.specs.Area.{Area}
 use Rattle.mpe_regions.specs.Sound.{IsSound}

@@ -1,5 +1,5 @@
 -- The loop goes as the load does: it ends where a hole is, and each turn before gives the oldest key up.
-use Rattle.std.proofs.Common.{◌≡◌, ◌+◌, ◌<◌, ◌≤◌, length, sym, ◌∙◌, arith}
+use Rattle.std.proofs.Common.{◌∙◌, arith}
 use Rattle.mpe_overlay.proofs.RoomLemmas.{Ends, Goes, room_ends, room_some, room_goes}
 use Rattle.mpe_overlay.proofs.room.make_room.Goals as goal
 

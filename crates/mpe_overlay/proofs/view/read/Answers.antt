@@ -1,9 +1,5 @@
 -- A region has the words from its place on, as many as its size.
-use Rattle.std.proofs.Common.{◌≡◌, sym, ap, ◌∙◌, None, Some}
-use Rattle.std.specs.Prelude.{option_map}
-use Rattle.hp_program.specs.Stores.{fetched}
-use Rattle.mpe_regions.specs.declared.region.Region.{Region}
-use Rattle.mpe_overlay.specs.Holds.{words_in}
+use Rattle.std.proofs.Common.{sym}
 use Rattle.mpe_overlay.proofs.CodeLemmas.{fetched-word, fetched-past, fetched-absent}
 use Rattle.mpe_overlay.proofs.view.read.Goals as goal
 

@@ -1,7 +1,7 @@
 -- The key names the segment of that program, which is well sized.
-use Rattle.std.proofs.Common.{◌≡◌, ◌<◌, ◌≤◌, length, List, ℕ, Some, sym, ap, ◌∙◌, arith, subst}
-use Rattle.hp_program.specs.Programs.{segments_of, words_of}
-use Rattle.mpe_overlay.specs.Codes.{codes_of, key_of, segment_at}
+use Rattle.std.proofs.Common.{◌<◌, ◌≤◌, length, List, ℕ, Some, sym, ap, ◌∙◌, arith}
+use Rattle.hp_program.specs.Programs.{segments_of}
+use Rattle.mpe_overlay.specs.Codes.{codes_of}
 use Rattle.mpe_overlay.proofs.SegmentLemmas.{program_there, segment_read, segment_at-program, program_at, segment_sized}
 use Rattle.mpe_overlay.proofs.words.segment_of.Goals as goal
 

@@ -1,5 +1,5 @@
 -- Where no hole is found each place meets a region or the end.
-use Rattle.std.proofs.Common.{◌≡◌, arith}
+use Rattle.std.proofs.Common.{arith}
 use Rattle.mpe_regions.proofs.PlaceLemmas.{hole-lowest}
 use Rattle.mpe_regions.proofs.laws.holes_are_found.Goals as goal
 

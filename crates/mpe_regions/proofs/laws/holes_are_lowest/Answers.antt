@@ -1,5 +1,5 @@
 -- The hole lies in the area and meets no region, and each lower place does.
-use Rattle.std.proofs.Common.{◌≡◌, ◌+◌, arith, true}
+use Rattle.std.proofs.Common.{◌+◌, arith}
 use Rattle.std.proofs.lemmas.Bool.{and_from, le-leb}
 use Rattle.std.proofs.lemmas.Option.{same_Some}
 use Rattle.mpe_regions.proofs.PlaceLemmas.{hole-within, hole-free, hole-lowest}

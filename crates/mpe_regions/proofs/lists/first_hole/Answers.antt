@@ -1,5 +1,5 @@
 -- The region here ends no higher than the area.
-use Rattle.std.proofs.Common.{◌+◌, ◌≤◌, ◌<◌, ◌^◌, slice_index_or, arith, Fits, w32}
+use Rattle.std.proofs.Common.{arith}
 use Rattle.mpe_regions.proofs.PlaceLemmas.{laid-reads}
 use Rattle.mpe_regions.proofs.lists.first_hole.Goals as goal
 

@@ -1,5 +1,5 @@
 -- Without the key there is space for it again.
-use Rattle.std.proofs.Common.{ℕ, ◌+◌, ◌<◌, length, arith}
+use Rattle.std.proofs.Common.{ℕ, arith}
 use Rattle.mpe_regions.proofs.KeyLemmas.{length-others}
 use Rattle.mpe_regions.proofs.lists.move_last.Goals as goal
 

@@ -1,7 +1,6 @@
 -- The place of the insertion is the rank that was counted, and with space left it succeeds.
-use Rattle.std.proofs.Common.{◌≡◌, ◌∙◌, ap, sym, true, arith}
-use Rattle.std.specs.Prelude.{is_ok, not, insert}
-use Rattle.std.proofs.lemmas.Grind.{common_steps}
+use Rattle.std.proofs.Common.{◌≡◌, ◌∙◌, ap, true}
+use Rattle.std.specs.Prelude.{is_ok, not}
 use Rattle.mpe_regions.specs.Ranks.{rank}
 use Rattle.mpe_regions.proofs.KeyLemmas.{placed-insert}
 use Rattle.mpe_regions.proofs.lists.put_in.Goals as goal

@@ -1,6 +1,5 @@
 -- The region is put into the hole that was found, and its key behind the others.
-use Rattle.std.proofs.Common.{◌≡◌, ◌+◌, ◌≤◌, ◌++◌, ◌∷◌, [], length, arith, sym, ◌∙◌, ap, subst, ◌<◌}
-use Rattle.mpe_regions.specs.declared.region.Region.{Region}
+use Rattle.std.proofs.Common.{◌≡◌, length, arith, sym, ◌∙◌, ap, subst, ◌<◌}
 use Rattle.mpe_regions.specs.Area.{region_of, IsAbsent}
 use Rattle.mpe_regions.specs.Loads.{hole, hole_from}
 use Rattle.std.specs.Prelude.{Some}

@@ -1,5 +1,5 @@
 -- The key is live, so it stands in the order of use.
-use Rattle.std.proofs.Common.{◌≡◌, ◌<◌, arith, ap, ◌∙◌}
+use Rattle.std.proofs.Common.{arith, ap, ◌∙◌}
 use Rattle.std.specs.Prelude.{not}
 use Rattle.mpe_regions.specs.Area.{region_of}
 use Rattle.mpe_regions.specs.PlainForm.{area_of}
