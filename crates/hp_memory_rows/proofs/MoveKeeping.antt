@@ -1,4 +1,4 @@
--- Each step of a move keeps what rows keep.
+-- Each step of a move keeps what rows keep. A law has its row's name.
 use Rattle.std.proofs.Common.{ℕ, Bool, List}
 use Rattle.hp_session.specs.State.{Machine}
 use Rattle.hp_session.proofs.KeepingForms.{IsKept, Keeps}

@@ -1,4 +1,5 @@
--- Each operation on the top words keeps what rows keep.
+-- Each operation on the top words keeps what rows keep. A law has its row's name. A row that
+-- takes words and leaves others has changed the stack and the registers alone, so it has kept the rest by computing.
 use Rattle.std.proofs.Common.{ℕ, ◌+◌, []}
 use Rattle.std.specs.Prelude.{bit_and, bit_or, bit_xor, ◌==◌, ◌∷◌, Ok}
 use Rattle.hp_word.specs.Words.{added, subtracted, logically_added, logically_subtracted, double_added, double_subtracted, words_compared, logically_compared}
@@ -11,7 +12,6 @@ use Rattle.hp_session.proofs.KeepingLaws.{same, either, taking-kept, pushing-kep
 use Rattle.hp_session.specs.Results.{logical}
 use Rattle.hp_stack_rows.specs.StackRows.{binary, product, negative, stepped, stepped_below, division, logical_division, logical_binary, logical_product, double_binary, double_negative, bitwise, inverted, comparison, double_comparison, tested, double_tested, byte_tested, x_from_below, x_from_top, x_plus_top, top_plus_x, x_and_top, x_and_below, below_becomes, exchanged, doubles_exchanged, rotated, below_deleted, copied, double_copied, operated}
 
--- a row that takes words and leaves a session with another stack and other registers
 binary-kept : (count : ℕ) (m : Machine) (f : ℕ → ℕ → Arith) → Keeps count m (binary f m)
 unfolding binary
 binary-kept count m f = taking-kept count m 2 _ (settled-kept count m 2 _)

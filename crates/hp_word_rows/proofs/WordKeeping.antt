@@ -1,4 +1,5 @@
--- Each instruction on the top words, X and the flags keeps what rows keep.
+-- Each instruction on the top words, X and the flags keeps what rows keep. A law has its row's name. A row that
+-- takes words and leaves others has changed the stack and the registers alone, so it has kept the rest by computing.
 use Rattle.std.proofs.Common.{ℕ, Bool}
 use Rattle.std.specs.Prelude.{◌+◌, Option, None, Some, Ok, Err, nat_le, length}
 use Rattle.hp_word.specs.declared.arithmetic.Arith.{Arith}
