@@ -17,7 +17,8 @@ pub record Ends (key size at given_up : ℕ) (first new : Area) : Type 0 where
   pub place : (load key size first).place ≡ Some at
   pub given : (load key size first).given_up ≡ given_up
 
-pub room_ends : (key size at given_up : ℕ) (first a new : Area) → Some at ≡ hole a size → new ≡ put_if key size (hole a size) a
+pub room_ends : (key size at given_up : ℕ) (first a new : Area) → Some at ≡ hole a size
+    → new ≡ put_if key size (hole a size) a
     → load key size first ≡ after_more given_up (load key size a) → Ends key size at given_up first new
 room_ends key size at given_up first a new found taken rest =
     let all = rest ∙ ap (after_more given_up) (load-here key size at a (sym found)) in
@@ -44,7 +45,8 @@ room_same : (key size : ℕ) (a new : Area) → None ≡ hole a size → new ≡
 room_same key size a new none taken = taken ∙ ap (λ o. put_if key size o a) (sym none)
 
 -- so an area without a hole has an oldest key
-pub room_some : (key size : ℕ) (a new : Area) → None ≡ hole a size → new ≡ put_if key size (hole a size) a → IsSound new → size ≤ a.size → None ≡ oldest_of new → ⊥
+pub room_some : (key size : ℕ) (a new : Area) → None ≡ hole a size → new ≡ put_if key size (hole a size) a → IsSound new
+    → size ≤ a.size → None ≡ oldest_of new → ⊥
 room_some key size a new none taken sound le empty =
     let same = room_same key size a new none taken in
     let Sound : Area → Type 0 = λ x. IsSound x in
@@ -76,7 +78,8 @@ absent_next key k list absent = by (cases_eq key k) where
 after_both : (n : ℕ) (l : Load) → after_more n (after_more 1 l) ≡ after_more (n + 1) l
 after_both n l = ap (λ (m : ℕ). record l { given_up = m }) (omega arith)
 
-goes : (key size given_up k : ℕ) (first a : Area) → IsSound a → IsAbsent key a → None ≡ hole a size → Some k ≡ oldest_of a
+goes : (key size given_up k : ℕ) (first a : Area) → IsSound a → IsAbsent key a → None ≡ hole a size
+    → Some k ≡ oldest_of a
     → load key size first ≡ after_more given_up (load key size a) → Goes key size given_up first a (dropped k a)
 goes key size given_up k first a sound absent none oldest rest =
     let ordered = order_first a.order k (sym oldest) in
@@ -89,8 +92,10 @@ goes key size given_up k first a sound absent none oldest rest =
     }
 
 -- the same, from the area that a refused take has left as it was
-pub room_goes : (key size given_up k : ℕ) (first a new next : Area) → None ≡ hole a size → new ≡ put_if key size (hole a size) a → IsSound new → IsAbsent key a
-    → Some k ≡ oldest_of new → next ≡ dropped k new → load key size first ≡ after_more given_up (load key size a) → Goes key size given_up first a next
+pub room_goes : (key size given_up k : ℕ) (first a new next : Area) → None ≡ hole a size
+    → new ≡ put_if key size (hole a size) a → IsSound new → IsAbsent key a
+    → Some k ≡ oldest_of new → next ≡ dropped k new → load key size first ≡ after_more given_up (load key size a)
+    → Goes key size given_up first a next
 room_goes key size given_up k first a new next none taken sound absent oldest gone rest =
     let same = room_same key size a new none taken in
     let Sound : Area → Type 0 = λ x. IsSound x in

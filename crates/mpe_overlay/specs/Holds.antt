@@ -13,11 +13,13 @@ words_in words r = slice_range words r.place (r.place + r.size)
 pub record LiesWithin (words : List ℕ) (a : Area) : Type 0 where
   pub within : (key : ℕ) (r : Region) → region_of key a.list ≡ Some r → r.place + r.size ≤ length words
 
--- the area has its size in words, ends within the greatest memory, and has room for every segment of 16 programs; each region has the words of its segment
+-- the area has its size in words, ends within the greatest memory, and has room for every segment of 16 programs; each
+-- region has the words of its segment
 pub record HoldsCode (base : ℕ) (words : List ℕ) (kept : Kept) (codes : List (List (List ℕ))) : Type 0 where
   pub long : length words ≡ kept.area.size
   pub small : base + kept.area.size ≤ 1048576
   pub few : length codes ≤ 16
   pub room : kept.room ≡ 4096
   pub within : (key : ℕ) (r : Region) → region_of key kept.area.list ≡ Some r → r.place + r.size ≤ length words
-  pub each : (key : ℕ) (r : Region) → region_of key kept.area.list ≡ Some r → segment_at codes key ≡ Some (words_in words r)
+  pub each : (key : ℕ) (r : Region) → region_of key kept.area.list ≡ Some r
+      → segment_at codes key ≡ Some (words_in words r)

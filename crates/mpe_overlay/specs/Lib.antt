@@ -1,4 +1,5 @@
--- In reading order: which words a segment of a program has and where they stand, what a need answers, and what a view holds.
+-- In reading order: which words a segment of a program has and where they stand, what a need answers, and what a view
+-- holds.
 pub mod Codes
 pub mod Holds
 pub mod Needs

@@ -8,6 +8,10 @@ use Rattle.mpe_regions.specs.Area.{times, times_placed, region_of}
 use Rattle.mpe_regions.specs.Loads.{placed, without}
 use Rattle.mpe_regions.specs.Ranks.{rank}
 
+-- the region of a key at a place, of a size in words
+abbrev pub loaded_at : ℕ → ℕ → ℕ → Region
+loaded_at key at size = record { key = key; place = at; size = size }
+
 -- Counts.
 
 -- the elements of other keys
@@ -19,11 +23,13 @@ append_step true m n k h = omega arith
 append_step false m n k h = h
 
 -- a key occurs in a joined list as often as in both parts
-pub times-append : {X : Type 0} (f : X → ℕ) (key : ℕ) (xs ys : List X) → times f key (xs ++ ys) ≡ times f key xs + times f key ys
+pub times-append : {X : Type 0} (f : X → ℕ) (key : ℕ) (xs ys : List X)
+    → times f key (xs ++ ys) ≡ times f key xs + times f key ys
 times-append f key [] ys = sym (zero-add (times f key ys))
 times-append f key (x ∷ xs) ys = append_step (f x == key) _ _ _ (times-append f key xs ys)
 
-same_step : {X : Type 0} (f : X → ℕ) (key : ℕ) (x : X) (xs : List X) → times f key xs ≡ 0 → times f key (if not (f x == key) then x ∷ xs else xs) ≡ 0
+same_step : {X : Type 0} (f : X → ℕ) (key : ℕ) (x : X) (xs : List X) → times f key xs ≡ 0
+    → times f key (if not (f x == key) then x ∷ xs else xs) ≡ 0
 same_step f key x xs h = by (f x == key) refl where
   by : (b : Bool) → (f x == key) ≡ b → times f key (if not b then x ∷ xs else xs) ≡ 0
   by true e = h
@@ -42,7 +48,8 @@ other_step f k key x xs ys ne h = by (f x == key) refl where
   by false e = ap (λ n. if f x == k then 1 + n else n) h
 
 -- and another key is among them as often as before
-pub times-others_other : {X : Type 0} (f : X → ℕ) (k key : ℕ) (xs : List X) → k ≢ key → times f k (others f key xs) ≡ times f k xs
+pub times-others_other : {X : Type 0} (f : X → ℕ) (k key : ℕ) (xs : List X) → k ≢ key
+    → times f k (others f key xs) ≡ times f k xs
 times-others_other f k key [] ne = refl
 times-others_other f k key (x ∷ xs) ne = other_step f k key x (others f key xs) xs ne (times-others_other f k key xs ne)
 
@@ -52,11 +59,13 @@ length_step true x xs ys n h = omega arith
 length_step false x xs ys n h = omega arith
 
 -- as many elements are left out as have the key
-pub length-others : {X : Type 0} (f : X → ℕ) (key : ℕ) (xs : List X) → length (others f key xs) + times f key xs ≡ length xs
+pub length-others : {X : Type 0} (f : X → ℕ) (key : ℕ) (xs : List X)
+    → length (others f key xs) + times f key xs ≡ length xs
 length-others f key [] = refl
 length-others f key (x ∷ xs) = length_step (f x == key) x (others f key xs) xs (times f key xs) (length-others f key xs)
 
-absent_step : {X : Type 0} (f : X → ℕ) (key : ℕ) (x : X) (xs ys : List X) → times f key (x ∷ xs) ≡ 0 → (times f key xs ≡ 0 → ys ≡ xs)
+absent_step : {X : Type 0} (f : X → ℕ) (key : ℕ) (x : X) (xs ys : List X) → times f key (x ∷ xs) ≡ 0
+    → (times f key xs ≡ 0 → ys ≡ xs)
     → (if not (f x == key) then x ∷ ys else ys) ≡ x ∷ xs
 absent_step f key x xs ys h same = by (f x == key) h where
   by : (b : Bool) → (if b then 1 + times f key xs else times f key xs) ≡ 0 → (if not b then x ∷ ys else ys) ≡ x ∷ xs
@@ -82,11 +91,13 @@ times_step false k x r xs ys h = ap (λ n. if r.key == k then 1 + n else n) h �
   turn false false = refl
 
 -- a region that is put in is there once more
-pub times-placed : (k : ℕ) (x : Region) (list : List Region) → times_placed k (placed x list) ≡ times_placed k (x ∷ list)
+pub times-placed : (k : ℕ) (x : Region) (list : List Region)
+    → times_placed k (placed x list) ≡ times_placed k (x ∷ list)
 times-placed k x [] = refl
 times-placed k x (r ∷ rs) = times_step (nat_lt x.place r.place) k x r rs (placed x rs) (times-placed k x rs)
 
-longer_step : (b : Bool) (x r : Region) (xs ys : List Region) → length ys ≡ length xs + 1 → length (if b then x ∷ r ∷ xs else r ∷ ys) ≡ length (r ∷ xs) + 1
+longer_step : (b : Bool) (x r : Region) (xs ys : List Region) → length ys ≡ length xs + 1
+    → length (if b then x ∷ r ∷ xs else r ∷ ys) ≡ length (r ∷ xs) + 1
 longer_step true x r xs ys h = omega arith
 longer_step false x r xs ys h = omega arith
 
@@ -111,7 +122,8 @@ placed-insert x (r ∷ rs) = insert_step (nat_lt x.place r.place) x r rs (placed
 pub times-absent : (key : ℕ) (list : List Region) → region_of key list ≡ None → times_placed key list ≡ 0
 times-absent key [] none = refl
 times-absent key (r ∷ rs) none = by (r.key == key) none (times-absent key rs) where
-  by : (b : Bool) → (if b then Some r else region_of key rs) ≡ None → (region_of key rs ≡ None → times_placed key rs ≡ 0)
+  by : (b : Bool) → (if b then Some r else region_of key rs) ≡ None
+      → (region_of key rs ≡ None → times_placed key rs ≡ 0)
       → (if b then 1 + times_placed key rs else times_placed key rs) ≡ 0
   by true h rest = cc
   by false h rest = rest h
@@ -119,7 +131,8 @@ times-absent key (r ∷ rs) none = by (r.key == key) none (times-absent key rs) 
 pub absent-times : (key : ℕ) (list : List Region) → times_placed key list ≡ 0 → region_of key list ≡ None
 absent-times key [] none = refl
 absent-times key (r ∷ rs) none = by (r.key == key) none (absent-times key rs) where
-  by : (b : Bool) → (if b then 1 + times_placed key rs else times_placed key rs) ≡ 0 → (times_placed key rs ≡ 0 → region_of key rs ≡ None)
+  by : (b : Bool) → (if b then 1 + times_placed key rs else times_placed key rs) ≡ 0
+      → (times_placed key rs ≡ 0 → region_of key rs ≡ None)
       → (if b then Some r else region_of key rs) ≡ None
   by true h rest = absurd (omega arith)
   by false h rest = rest h
@@ -128,7 +141,8 @@ absent-times key (r ∷ rs) none = by (r.key == key) none (absent-times key rs) 
 pub times-live : (key : ℕ) (list : List Region) (r : Region) → region_of key list ≡ Some r → 0 < times_placed key list
 times-live key [] x found = cc
 times-live key (r ∷ rs) x found = by (r.key == key) found (times-live key rs x) where
-  by : (b : Bool) → (if b then Some r else region_of key rs) ≡ Some x → (region_of key rs ≡ Some x → 0 < times_placed key rs)
+  by : (b : Bool) → (if b then Some r else region_of key rs) ≡ Some x
+      → (region_of key rs ≡ Some x → 0 < times_placed key rs)
       → 0 < (if b then 1 + times_placed key rs else times_placed key rs)
   by true h rest = omega arith
   by false h rest = rest h
@@ -137,7 +151,8 @@ times-live key (r ∷ rs) x found = by (r.key == key) found (times-live key rs x
 pub find-key : (key : ℕ) (list : List Region) (r : Region) → region_of key list ≡ Some r → r.key ≡ key
 find-key key [] x found = cc
 find-key key (r ∷ rs) x found = by (r.key == key) refl found (find-key key rs x) where
-  by : (b : Bool) → (r.key == key) ≡ b → (if b then Some r else region_of key rs) ≡ Some x → (region_of key rs ≡ Some x → x.key ≡ key) → x.key ≡ key
+  by : (b : Bool) → (r.key == key) ≡ b → (if b then Some r else region_of key rs) ≡ Some x
+      → (region_of key rs ≡ Some x → x.key ≡ key) → x.key ≡ key
   by true e h rest = let same : r ≡ x = cc in let is : r.key ≡ key = eqb-true r.key key e in rw (← same) is
   by false e h rest = rest h
 
@@ -157,28 +172,33 @@ pub find-without_other : (k key : ℕ) (list : List Region) → k ≢ key → re
 find-without_other k key [] ne = refl
 find-without_other k key (r ∷ rs) ne = find_step k key r (without key rs) rs ne (find-without_other k key rs ne)
 
-other_place : (k : ℕ) (b : Bool) (x r : Region) (xs ys : List Region) → (x.key == k) ≡ false → region_of k ys ≡ region_of k xs
+other_place : (k : ℕ) (b : Bool) (x r : Region) (xs ys : List Region) → (x.key == k) ≡ false
+    → region_of k ys ≡ region_of k xs
     → region_of k (if b then x ∷ r ∷ xs else r ∷ ys) ≡ region_of k (r ∷ xs)
 other_place k true x r xs ys ne h = rw ne refl
 other_place k false x r xs ys ne h = ap (λ o. if r.key == k then Some r else o) h
 
 -- where a region is put in, each other key finds what it found
-pub find-placed_other : (k : ℕ) (x : Region) (list : List Region) → x.key ≢ k → region_of k (placed x list) ≡ region_of k list
+pub find-placed_other : (k : ℕ) (x : Region) (list : List Region) → x.key ≢ k
+    → region_of k (placed x list) ≡ region_of k list
 find-placed_other k x [] ne = let no : (x.key == k) ≡ false = grind (arith, nat_tests) in rw no refl
 find-placed_other k x (r ∷ rs) ne =
     let no : (x.key == k) ≡ false = grind (arith, nat_tests) in
     other_place k (nat_lt x.place r.place) x r rs (placed x rs) no (find-placed_other k x rs ne)
 
-same_place : (b : Bool) (x r : Region) (xs ys : List Region) → region_of x.key (r ∷ xs) ≡ None → (region_of x.key xs ≡ None → region_of x.key ys ≡ Some x)
+same_place : (b : Bool) (x r : Region) (xs ys : List Region) → region_of x.key (r ∷ xs) ≡ None
+    → (region_of x.key xs ≡ None → region_of x.key ys ≡ Some x)
     → region_of x.key (if b then x ∷ r ∷ xs else r ∷ ys) ≡ Some x
 same_place true x r xs ys none h = let is : (x.key == x.key) ≡ true = grind (arith, nat_tests) in rw is refl
 same_place false x r xs ys none h = by (r.key == x.key) none where
-  by : (c : Bool) → (if c then Some r else region_of x.key xs) ≡ None → (if c then Some r else region_of x.key ys) ≡ Some x
+  by : (c : Bool) → (if c then Some r else region_of x.key xs) ≡ None
+      → (if c then Some r else region_of x.key ys) ≡ Some x
   by true e = cc
   by false e = h e
 
 -- and its own key finds it, if it is new
-pub find-placed_same : (x : Region) (list : List Region) → region_of x.key list ≡ None → region_of x.key (placed x list) ≡ Some x
+pub find-placed_same : (x : Region) (list : List Region) → region_of x.key list ≡ None
+    → region_of x.key (placed x list) ≡ Some x
 find-placed_same x [] none = let is : (x.key == x.key) ≡ true = grind (arith, nat_tests) in rw is refl
 find-placed_same x (r ∷ rs) none = same_place (nat_lt x.place r.place) x r rs (placed x rs) none (find-placed_same x rs)
 
@@ -191,8 +211,10 @@ none_left f (x ∷ xs) none =
     let some : 1 + times f (f x) xs ≡ 0 = rw is at (none (f x)) in
     absurd (omega arith)
 
--- where each key is below n and occurs at most once there are at most n elements: without the greatest key there are at most n - 1
-pub length-below : {X : Type 0} (f : X → ℕ) (n : ℕ) (xs : List X) → ((k : ℕ) → times f k xs ≤ 1) → ((k : ℕ) → n ≤ k → times f k xs ≡ 0) → length xs ≤ n
+-- where each key is below n and occurs at most once there are at most n elements: without the greatest key there are at
+-- most n - 1
+pub length-below : {X : Type 0} (f : X → ℕ) (n : ℕ) (xs : List X) → ((k : ℕ) → times f k xs ≤ 1)
+    → ((k : ℕ) → n ≤ k → times f k xs ≡ 0) → length xs ≤ n
 length-below f zero xs once below = none_left f xs (λ k. below k (omega arith))
 length-below f (suc n) xs once below =
     let rest = length-below f n (others f n xs) (λ k. still_once k (cases_eq k n)) (λ k le. still_below k le (cases_eq k n)) in

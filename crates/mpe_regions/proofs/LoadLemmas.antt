@@ -1,4 +1,5 @@
--- Loads: where a hole is, the load ends; where none is, the oldest key is dropped and it begins again; an empty area has room.
+-- Loads: where a hole is, the load ends; where none is, the oldest key is dropped and it begins again; an empty area
+-- has room.
 use Rattle.std.proofs.Common.{◌≡◌, ◌≢◌, ℕ, ◌<◌, ◌≤◌, true, List, [], ◌∷◌, length, Option, None, Some, refl, sym, ap, subst, ◌∙◌, arith, zero-add, inl, inr}
 use Rattle.std.specs.Prelude.{◌==◌, ◌⊎◌, nat_le}
 use Rattle.std.proofs.lemmas.Bool.{le-leb, eq-eqb, cases_eq}
@@ -8,7 +9,7 @@ use Rattle.mpe_regions.specs.Area.{Area, times_used, region_of, IsAbsent}
 use Rattle.mpe_regions.specs.Loads.{Load, hole, hole_from, put, fill, after_more, load, load_by, without, forgotten, dropped}
 use Rattle.mpe_regions.specs.Sound.{IsSound}
 use Rattle.mpe_regions.specs.AreaLaws.{IsLoaded}
-use Rattle.mpe_regions.proofs.KeyLemmas.{others-absent, find-placed_same, find-without_same, find-without_other}
+use Rattle.mpe_regions.proofs.KeyLemmas.{loaded_at, others-absent, find-placed_same, find-without_same, find-without_other}
 use Rattle.mpe_regions.proofs.SoundLemmas.{sound-put, sound-dropped}
 
 -- One step of a load.
@@ -25,7 +26,8 @@ pub load-here : (key size at : ℕ) (a : Area) → hole a size ≡ Some at → l
 load-here key size at a found = load_by-here key size at a.order a found
 
 -- where none is, it gives up the first key
-load_by-next : (key size k : ℕ) (ks : List ℕ) (a : Area) → hole a size ≡ None → load_by key size (k ∷ ks) a ≡ after_more 1 (load_by key size ks (dropped k a))
+load_by-next : (key size k : ℕ) (ks : List ℕ) (a : Area) → hole a size ≡ None
+    → load_by key size (k ∷ ks) a ≡ after_more 1 (load_by key size ks (dropped k a))
 load_by-next key size k ks a none = rw none refl
 
 -- the order of use without its first key is the rest
@@ -46,7 +48,8 @@ pub load-next : (key size k : ℕ) (ks : List ℕ) (a : Area) → IsSound a → 
     → load key size a ≡ after_more 1 (load key size (dropped k a))
 load-next key size k ks a sound is none =
     let rest = order-dropped k ks a sound is in
-    ap (λ o. load_by key size o a) is ∙ load_by-next key size k ks a none ∙ ap (λ o. after_more 1 (load_by key size o (dropped k a))) (sym rest)
+    ap (λ o. load_by key size o a) is ∙ load_by-next key size k ks a none
+    ∙ ap (λ o. after_more 1 (load_by key size o (dropped k a))) (sym rest)
 
 -- An area in which nothing is live.
 
@@ -67,14 +70,16 @@ absent-dropped key k a absent = by (cases_eq key k) where
   by (inr ne) = find-without_other key k a.list ne ∙ absent
 
 -- what is found after a drop was there before
-pub less-dropped : (k key : ℕ) (a : Area) (r : Region) → region_of k (without key a.list) ≡ Some r → region_of k a.list ≡ Some r
+pub less-dropped : (k key : ℕ) (a : Area) (r : Region) → region_of k (without key a.list) ≡ Some r
+    → region_of k a.list ≡ Some r
 less-dropped k key a r found = by (cases_eq k key) where
   by : (k ≡ key) ⊎ (k ≢ key) → region_of k a.list ≡ Some r
   by (inl e) = let none : region_of k (without key a.list) ≡ None = rw e (find-without_same key a.list) in cc
   by (inr ne) = sym (find-without_other k key a.list ne) ∙ found
 
 -- where a hole is, the key is put there
-loaded-here : (key size at : ℕ) (a : Area) → IsSound a → IsAbsent key a → 0 < size → hole a size ≡ Some at → IsLoaded key size a (load key size a)
+loaded-here : (key size at : ℕ) (a : Area) → IsSound a → IsAbsent key a → 0 < size → hole a size ≡ Some at
+    → IsLoaded key size a (load key size a)
 loaded-here key size at a sound absent some found =
     let is = load-here key size at a found in
     let P : Load → Type 0 = λ l. IsLoaded key size a l in
@@ -89,11 +94,12 @@ loaded-here key size at a sound absent some found =
       area_is = refl;
       place_is = refl;
       sound = sound-put key size at a sound absent some found;
-      live = find-placed_same (record { key = key; place = at; size = size }) a.list absent;
+      live = find-placed_same (loaded_at key at size) a.list absent;
     })
 
 -- what is loaded after a drop is loaded
-loaded-next : (key size k : ℕ) (a : Area) (l : Load) → IsLoaded key size (dropped k a) l → IsLoaded key size a (after_more 1 l)
+loaded-next : (key size k : ℕ) (a : Area) (l : Load) → IsLoaded key size (dropped k a) l
+    → IsLoaded key size a (after_more 1 l)
 loaded-next key size k a l done = record {
   left = done.left;
   at = done.at;
@@ -109,16 +115,19 @@ loaded-next key size k a l done = record {
 }
 
 -- an induction over the order of use: with no key left the area is empty, and then the segment fits
-loaded_by : (key size : ℕ) (ks : List ℕ) (a : Area) → a.order ≡ ks → IsSound a → IsAbsent key a → 0 < size → size ≤ a.size → IsLoaded key size a (load key size a)
+loaded_by : (key size : ℕ) (ks : List ℕ) (a : Area) → a.order ≡ ks → IsSound a → IsAbsent key a → 0 < size
+    → size ≤ a.size → IsLoaded key size a (load key size a)
 loaded_by key size [] a is sound absent some le = loaded-here key size 0 a sound absent some (hole-empty size a sound is le)
 loaded_by key size (k ∷ ks) a is sound absent some le =
     by (hole a size) refl (loaded_by key size ks (dropped k a) (order-dropped k ks a sound is) (sound-dropped k a sound) (absent-dropped key k a absent) some le) where
-      by : (o : Option ℕ) → hole a size ≡ o → IsLoaded key size (dropped k a) (load key size (dropped k a)) → IsLoaded key size a (load key size a)
+      by : (o : Option ℕ) → hole a size ≡ o → IsLoaded key size (dropped k a) (load key size (dropped k a))
+          → IsLoaded key size a (load key size a)
       by None none rest =
           let P : Load → Type 0 = λ l. IsLoaded key size a l in
           subst P (sym (load-next key size k ks a sound is none)) (loaded-next key size k a (load key size (dropped k a)) rest)
       by (Some at) found rest = loaded-here key size at a sound absent some found
 
 -- a segment that is no larger than the area is always loaded
-pub loaded : (a : Area) (key size : ℕ) → IsSound a → IsAbsent key a → 0 < size → size ≤ a.size → IsLoaded key size a (load key size a)
+pub loaded : (a : Area) (key size : ℕ) → IsSound a → IsAbsent key a → 0 < size → size ≤ a.size
+    → IsLoaded key size a (load key size a)
 loaded a key size sound absent some le = loaded_by key size a.order a refl sound absent some le

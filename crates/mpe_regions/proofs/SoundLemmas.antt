@@ -6,20 +6,22 @@ use Rattle.mpe_regions.specs.declared.region.Region.{Region}
 use Rattle.mpe_regions.specs.Area.{Area, times_placed, times_used, region_of, IsAbsent}
 use Rattle.mpe_regions.specs.Loads.{hole, put, put_if, without, forgotten, dropped, used, touched}
 use Rattle.mpe_regions.specs.Sound.{IsSound}
-use Rattle.mpe_regions.proofs.KeyLemmas.{others-absent, times-append, times-others_same, times-others_other, length-others, times-placed, length-placed, times-absent, times-live}
+use Rattle.mpe_regions.proofs.KeyLemmas.{loaded_at, others-absent, times-append, times-others_same, times-others_other, length-others, times-placed, length-placed, times-absent, times-live}
 use Rattle.mpe_regions.proofs.PlaceLemmas.{laid-placed, laid-without}
 
 -- one more at the end of an order of use
-times-push : (k key : ℕ) (order : List ℕ) → times_used k (order ++ key ∷ []) ≡ times_used k order + (if key == k then 1 else 0)
+times-push : (k key : ℕ) (order : List ℕ)
+    → times_used k (order ++ key ∷ []) ≡ times_used k order + (if key == k then 1 else 0)
 times-push k key order = times-append (λ x. x) k order (key ∷ [])
 
 -- a key is put
-pub sound-put : (key size at : ℕ) (a : Area) → IsSound a → IsAbsent key a → 0 < size → hole a size ≡ Some at → IsSound (put key size at a)
+pub sound-put : (key size at : ℕ) (a : Area) → IsSound a → IsAbsent key a → 0 < size → hole a size ≡ Some at
+    → IsSound (put key size at a)
 sound-put key size at a sound absent some found = record {
   laid_out = laid-placed key a.size size 0 at a.list some sound.laid_out found;
-  once = λ k. rw (times-placed k (record { key = key; place = at; size = size }) a.list) (once k (key == k) refl);
-  both = λ k. times-push k key a.order ∙ sym (times-placed k (record { key = key; place = at; size = size }) a.list ∙ both k (key == k));
-  long = omega (arith, length-append a.order (key ∷ []), length-placed (record { key = key; place = at; size = size }) a.list, sound.long);
+  once = λ k. rw (times-placed k (loaded_at key at size) a.list) (once k (key == k) refl);
+  both = λ k. times-push k key a.order ∙ sym (times-placed k (loaded_at key at size) a.list ∙ both k (key == k));
+  long = omega (arith, length-append a.order (key ∷ []), length-placed (loaded_at key at size) a.list, sound.long);
 } where
   once : (k : ℕ) (b : Bool) → (key == k) ≡ b → (if b then 1 + times_placed k a.list else times_placed k a.list) ≤ 1
   once k true e = let same = eqb-true key k e in let none = times-absent key a.list absent in rw (← same, none) (omega arith)
@@ -30,7 +32,8 @@ sound-put key size at a sound absent some found = record {
   both k false = omega (arith, sound.both k)
 
 -- a key is put where there is a hole
-pub sound-put_if : (key size : ℕ) (a : Area) (o : Option ℕ) → IsSound a → IsAbsent key a → 0 < size → hole a size ≡ o → IsSound (put_if key size o a)
+pub sound-put_if : (key size : ℕ) (a : Area) (o : Option ℕ) → IsSound a → IsAbsent key a → 0 < size → hole a size ≡ o
+    → IsSound (put_if key size o a)
 sound-put_if key size a None sound absent some found = sound
 sound-put_if key size a (Some at) sound absent some found = sound-put key size at a sound absent some found
 
@@ -47,8 +50,10 @@ sound-dropped key a sound = record {
   once k (inr ne) = rw (times-others_other (λ (r : Region). r.key) k key a.list ne) (sound.once k)
 
   both : (k : ℕ) → (k ≡ key) ⊎ (k ≢ key) → times_used k (forgotten key a.order) ≡ times_placed k (without key a.list)
-  both k (inl e) = rw e (times-others_same (λ x. x) key a.order ∙ sym (times-others_same (λ (r : Region). r.key) key a.list))
-  both k (inr ne) = times-others_other (λ x. x) k key a.order ne ∙ sound.both k ∙ sym (times-others_other (λ (r : Region). r.key) k key a.list ne)
+  both k (inl e) = rw e (times-others_same (λ x. x) key a.order
+      ∙ sym (times-others_same (λ (r : Region). r.key) key a.list))
+  both k (inr ne) = times-others_other (λ x. x) k key a.order ne ∙ sound.both k
+      ∙ sym (times-others_other (λ (r : Region). r.key) k key a.list ne)
 
 -- the drop of a key that is not live changes nothing
 pub dropped-absent : (key : ℕ) (a : Area) → IsSound a → IsAbsent key a → dropped key a ≡ a
@@ -59,7 +64,8 @@ dropped-absent key a sound absent =
     rw (list, order) refl
 
 -- a live key counts one
-pub times-one : (key : ℕ) (a : Area) (r : Region) → IsSound a → region_of key a.list ≡ Some r → times_placed key a.list ≡ 1
+pub times-one : (key : ℕ) (a : Area) (r : Region) → IsSound a → region_of key a.list ≡ Some r
+    → times_placed key a.list ≡ 1
 times-one key a r sound found = omega (arith, sound.once key, times-live key a.list r found)
 
 -- a live key is used
@@ -70,7 +76,8 @@ sound-used key a r sound found = record {
   both = λ k. times-push k key (forgotten key a.order) ∙ both k (cases_eq k key);
   long = omega (arith, length-append (forgotten key a.order) (key ∷ []), length-others (λ x. x) key a.order, sound.long, sound.both key, times-one key a r sound found);
 } where
-  both : (k : ℕ) → (k ≡ key) ⊎ (k ≢ key) → times_used k (forgotten key a.order) + (if key == k then 1 else 0) ≡ times_placed k a.list
+  both : (k : ℕ) → (k ≡ key) ⊎ (k ≢ key)
+      → times_used k (forgotten key a.order) + (if key == k then 1 else 0) ≡ times_placed k a.list
   both k (inl e) = rw (e, eq-eqb key key refl, times-others_same (λ x. x) key a.order) (sym (times-one key a r sound found))
   both k (inr ne) = let other : (key == k) ≡ false = ne_eqb key k (λ s. ne (sym s)) in
       rw (other, times-others_other (λ x. x) k key a.order ne) (omega (arith, sound.both k))
@@ -83,11 +90,13 @@ sound-touched key a sound = by (region_of key a.list) refl where
   by (Some r) e = sound-used key a r sound e
 
 -- a search that found something found the region of the key
-pub live-found : (key : ℕ) (list : List Region) (o : Option Region) → o ≡ region_of key list → is_some o ≡ true → (r : Region) × (region_of key list ≡ Some r)
+pub live-found : (key : ℕ) (list : List Region) (o : Option Region) → o ≡ region_of key list → is_some o ≡ true
+    → (r : Region) × (region_of key list ≡ Some r)
 live-found key list None is some = cc
 live-found key list (Some r) is some = (r, sym is)
 
 -- and one that found nothing shows the key absent
-pub not-found : (key : ℕ) (list : List Region) (o : Option Region) → o ≡ region_of key list → is_some o ≡ false → region_of key list ≡ None
+pub not-found : (key : ℕ) (list : List Region) (o : Option Region) → o ≡ region_of key list → is_some o ≡ false
+    → region_of key list ≡ None
 not-found key list None is none = sym is
 not-found key list (Some r) is none = cc

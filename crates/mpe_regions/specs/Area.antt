@@ -2,7 +2,8 @@
 use Rattle.std.specs.Prelude.{◌≡◌, ℕ, ◌+◌, Bool, ◌==◌, List, [], ◌∷◌, Option, None, Some, is_some, slice_get, if◌then◌else◌}
 use Rattle.mpe_regions.specs.declared.region.Region.{Region}
 
--- an area has its size in words, its regions in order of place, and their keys in order of use, the one used longest ago first
+-- an area has its size in words, its regions in order of place, and their keys in order of use, the one used longest
+-- ago first
 pub record Area : Type 0 where
   pub size : ℕ
   pub list : List Region

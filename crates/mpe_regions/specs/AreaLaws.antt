@@ -7,11 +7,13 @@ use Rattle.mpe_regions.specs.Sound.{IsSound, is_hole}
 
 -- each region lies in the area
 abbrev pub RegionsLieInside : Type 0
-RegionsLieInside = (a : Area) (key : ℕ) (r : Region) → IsSound a → region_of key a.list ≡ Some r → r.place + r.size ≤ a.size
+RegionsLieInside = (a : Area) (key : ℕ) (r : Region) → IsSound a → region_of key a.list ≡ Some r
+    → r.place + r.size ≤ a.size
 
 -- the regions of two keys have no word in common
 abbrev pub RegionsLieApart : Type 0
-RegionsLieApart = (a : Area) (j k : ℕ) (r s : Region) → IsSound a → j ≢ k → region_of j a.list ≡ Some r → region_of k a.list ≡ Some s
+RegionsLieApart = (a : Area) (j k : ℕ) (r s : Region) → IsSound a → j ≢ k → region_of j a.list ≡ Some r
+    → region_of k a.list ≡ Some s
     → (r.place + r.size ≤ s.place) ⊎ (s.place + s.size ≤ r.place)
 
 -- a hole that is found is one, and there is none below it
@@ -39,4 +41,5 @@ pub record IsLoaded (key size : ℕ) (a : Area) (l : Load) : Type 0 where
 
 -- a segment that is no larger than the area is always loaded
 abbrev pub SmallOnesAreLoaded : Type 0
-SmallOnesAreLoaded = (a : Area) (key size : ℕ) → IsSound a → IsAbsent key a → 0 < size → size ≤ a.size → IsLoaded key size a (load key size a)
+SmallOnesAreLoaded = (a : Area) (key size : ℕ) → IsSound a → IsAbsent key a → 0 < size → size ≤ a.size
+    → IsLoaded key size a (load key size a)

@@ -1,4 +1,5 @@
--- In reading order: the area and its keys, what changes it, where its regions lie, what the struct stands for, and the laws.
+-- In reading order: the area and its keys, what changes it, where its regions lie, what the struct stands for, and the
+-- laws.
 pub mod Area
 pub mod Loads
 pub mod Sound

@@ -66,7 +66,8 @@ abbrev pub load_by : ℕ → ℕ → List ℕ → Area → Load
 load_by key size [] a = fill key size a (hole a size) (record { area = a; place = None; given_up = 0 })
 load_by key size (k ∷ ks) a = fill key size a (hole a size) (after_more 1 (load_by key size ks (dropped k a)))
 
--- a load takes the lowest hole that is large enough; without one the first key of the order of use is dropped, and again
+-- a load takes the lowest hole that is large enough; without one the first key of the order of use is dropped, and
+-- again
 abbrev pub load : ℕ → ℕ → Area → Load
 load key size a = load_by key size a.order a
 

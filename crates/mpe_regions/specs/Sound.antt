@@ -8,7 +8,8 @@ abbrev pub IsLaidOut : ℕ → ℕ → List Region → Type 0
 IsLaidOut from end [] = from ≤ end
 IsLaidOut from end (r ∷ rs) = (from ≤ r.place) × (0 < r.size) × IsLaidOut (r.place + r.size) end rs
 
--- a sound area: its regions lie inside and apart, no key is there twice, and the order of use has the keys of the regions
+-- a sound area: its regions lie inside and apart, no key is there twice, and the order of use has the keys of the
+-- regions
 pub record IsSound (a : Area) : Type 0 where
   pub laid_out : IsLaidOut 0 a.size a.list
   pub once : (key : ℕ) → times_placed key a.list ≤ 1

@@ -15,13 +15,15 @@ returns-clause-value c =
     ∙ ap (λ (ws : List ℕ). Some ws) (sym c.segment_words.ensures)
 
 -- the words that are handed out are those of the program
-sized : (c : goal.After-segment_words) → (2 ≤ length c.segment_words.result.now) × (length c.segment_words.result.now ≤ 16383)
+sized : (c : goal.After-segment_words)
+    → (2 ≤ length c.segment_words.result.now) × (length c.segment_words.result.now ≤ 16383)
 sized c =
     let lt : c.args.seg < 256 = omega (arith, c.ranges.seg) in
     let within = program_there c.args.programs.now c.args.program c.args.seg lt c.requires in
     let at = segment_at-program (codes_of c.args.programs.now) c.args.program c.args.seg (segments_of c.index-programs-program.result) lt
     (program_at c.args.programs.now c.args.program c.index-programs-program.result within c.index-programs-program.is) in
-    segment_sized c.index-programs-program.result c.args.seg c.segment_words.result.now (sym at ∙ returns-clause-value c)
+    segment_sized c.index-programs-program.result c.args.seg c.segment_words.result.now (sym at
+    ∙ returns-clause-value c)
 
 pub returns-clause-some : goal.returns-clause-some
 returns-clause-some c = let long = sized c in omega (arith, long.0)

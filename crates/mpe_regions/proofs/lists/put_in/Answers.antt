@@ -8,5 +8,6 @@ use Rattle.mpe_regions.proofs.lists.put_in.Goals as goal
 pub returns-clause-placed : goal.returns-clause-placed
 returns-clause-placed c =
     let went : is_ok c.insert.result ≡ true = c.is_err.ensures.negation ∙ ap not c.if-is_err.false in
-    let at : c.rank_of-at.result ≡ rank c.args.region.place c.args.list.now.items = c.rank_of-at.ensures.value ∙ ap (rank c.args.region.place) c.deref.ensures.value in
+    let at : c.rank_of-at.result ≡ rank c.args.region.place c.args.list.now.items = c.rank_of-at.ensures.value
+    ∙ ap (rank c.args.region.place) c.deref.ensures.value in
     rw (placed-insert c.args.region c.args.list.now.items, ← at) (rw went at c.insert.ensures.items)

@@ -11,13 +11,15 @@ use Rattle.mpe_overlay.proofs.overlay.Overlay.need.Goals as goal
 use Rattle.mpe_overlay.proofs.overlay.Overlay.need.Goals.{After-segment_of-words}
 
 -- what is known once the words are at hand
-known : (c : After-segment_of-words) → CanBring c.args.self.now.base c.key-key.result c.args.self.now.area.items c.segment_of-words.result.now c.touch.new.self (codes_of c.args.self.now.programs.items)
+known : (c : After-segment_of-words)
+    → CanBring c.args.self.now.base c.key-key.result c.args.self.now.area.items c.segment_of-words.result.now c.touch.new.self (codes_of c.args.self.now.programs.items)
 known c =
     let self = c.args.self.now in
     let codes = codes_of self.programs.items in
     let none = c.if-touch.ensures {u = tt} in
     let value : segment_at codes (key_of c.args.program c.args.seg) ≡ Some c.segment_of-words.result.now =
-    ap (λ (ps : List Program). segment_at (codes_of ps) (key_of c.args.program c.args.seg)) (sym c.deref.ensures.value) ∙ c.segment_of-words.ensures.value in
+    ap (λ (ps : List Program). segment_at (codes_of ps) (key_of c.args.program c.args.seg)) (sym c.deref.ensures.value)
+    ∙ c.segment_of-words.ensures.value in
     let Size : ℕ → Type 0 = λ k. IsSomeAnd (segment_at codes k) (λ words. length words ≤ self.regions.area.size) in
     can_bring self.base c.key-key.result self.area.items c.segment_of-words.result.now self.regions c.touch.new.self codes self.holds none.kept c.touch.ensures.sound none.live
     (ap (segment_at codes) c.key-key.ensures ∙ value) c.segment_of-words.ensures.some (subst Size (sym c.key-key.ensures) c.requires)
@@ -46,7 +48,8 @@ invariant_of-self-2 c =
     let k = known (goal.at.invariant_of-self-2 c).After-segment_of-words in
     let Copied : List ℕ → List ℕ = λ xs. take place xs ++ (words ++ drop (place + length words) xs) in
     let whole = with_items_is self.area c.copy_words.new.area (c.copy_words.auto.area ∙ c.deref_mut.ensures.len) in
-    let copied : c.copy_words.new.area ≡ Copied self.area.items = c.copy_words.ensures ∙ ap Copied c.deref_mut.ensures.value in
+    let copied : c.copy_words.new.area ≡ Copied self.area.items = c.copy_words.ensures
+    ∙ ap Copied c.deref_mut.ensures.value in
     let Holds : List ℕ → Type 0 = λ ws. HoldsCode self.base ws regions codes in
     record {
       holds = subst Holds (sym (whole ∙ copied))

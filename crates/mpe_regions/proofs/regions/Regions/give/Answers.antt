@@ -26,7 +26,8 @@ returns-clause-sound c = (invariant_of-self c).sound
 pub returns-then-is_none-clause-dropped : goal.returns-then-is_none-clause-dropped
 returns-then-is_none-clause-dropped c =
     let found = c.find.ensures ∙ ap (region_of c.args.key) c.deref.ensures.value in
-    let absent = not-found c.args.key c.self.inside.list.items c.find.result found (c.is_none.ensures ∙ ap not c.if-is_none.true) in
+    let absent = not-found c.args.key c.self.inside.list.items c.find.result found (c.is_none.ensures
+    ∙ ap not c.if-is_none.true) in
     let same = dropped-absent c.args.key (area_of c.self.inside) c.self.invariant.sound absent in
     let P : Area → Type 0 = λ a. a ≡ dropped c.args.key a in
     subst P (ap (λ (k : Kept). k.area) c.self.view_is) (sym same)

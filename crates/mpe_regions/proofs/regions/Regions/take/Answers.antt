@@ -13,7 +13,8 @@ pub invariant_of-self : goal.invariant_of-self
 invariant_of-self c =
     let kept = c.self.invariant in
     let found : hole (area_of c.self.inside) c.args.size ≡ Some c.in-Some.place =
-    ap (hole_from c.self.inside.size c.args.size 0) (sym c.deref.ensures.value) ∙ sym c.first_hole.ensures ∙ c.in-Some.is in
+    ap (hole_from c.self.inside.size c.args.size 0) (sym c.deref.ensures.value) ∙ sym c.first_hole.ensures
+    ∙ c.in-Some.is in
     let absent : IsAbsent c.args.key (area_of c.self.inside) = ap (λ (k : Kept). region_of c.args.key k.area.list) c.self.view_is ∙ c.requires.fresh in
     let free : length c.self.inside.list.items < c.self.inside.room =
     let P : Kept → Type 0 = λ k. length k.area.list < k.room in subst P (sym c.self.view_is) c.requires.free in
