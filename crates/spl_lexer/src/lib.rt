@@ -1,0 +1,5 @@
+//! The tokens of a unit's text, cut in one pass.
+#![tactic(auto)]
+
+mod bytes;
+mod commands;
