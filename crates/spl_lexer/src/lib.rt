@@ -3,3 +3,6 @@
 
 mod bytes;
 mod commands;
+mod numbers;
+mod pieces;
+mod turns;
