@@ -3,3 +3,4 @@ pub mod CommandLemmas
 pub mod NumberLemmas
 pub mod SizeLemmas
 pub mod TurnLemmas
+pub mod DefineLemmas

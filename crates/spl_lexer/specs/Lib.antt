@@ -1,1 +1,3 @@
+pub mod SignViews
 pub mod PieceViews
+pub mod DefineViews

@@ -1,14 +1,12 @@
 -- What the values of the code stand for in the cutting of texts.
 use Rattle.std.specs.Prelude.{ℕ, ◌≡◌, ◌==◌, ◌&&◌, Bool, false, List, [], ◌∷◌, map, Result, Ok, Err}
-use Rattle.spl_tree.specs.declared.tokens.What.{What}
-use Rattle.spl_tree.specs.declared.tokens.What.TheVariants as w
 use Rattle.spl_cuts.specs.declared.faults.LexKind.{LexKind}
 use Rattle.spl_cuts.specs.declared.faults.LexKind.TheVariants as k
-use Rattle.spl_cuts.specs.Signs as sg
 use Rattle.spl_cuts.specs.Bytes as by
 use Rattle.spl_cuts.specs.Commands as ct
 use Rattle.spl_cuts.specs.Pieces as pt
 use Rattle.spl_cuts.specs.Reading as rt
+use Rattle.spl_lexer.specs.SignViews.{sign_of}
 use Rattle.spl_lexer.specs.declared.commands.Setting.{Setting}
 use Rattle.spl_lexer.specs.declared.commands.Setting.TheVariants as s
 use Rattle.spl_lexer.specs.declared.numbers.Base.{Base}
@@ -33,15 +31,6 @@ base_of b.Octal = by.Base.octal
 abbrev pub closes : List ℕ → Bool
 closes (b ∷ c ∷ bs) = (b == 62) && (c == 62)
 closes _ = false
-
--- what stands at a token
-abbrev pub sign_of : What → sg.Sign
-sign_of (w.Word name) = sg.Sign.word name.text.items
-sign_of (w.Number n) = sg.Sign.number n
-sign_of (w.Wide n) = sg.Sign.wide n
-sign_of (w.Text chars) = sg.Sign.chars chars.bytes.items
-sign_of (w.Mark m) = sg.Sign.mark m
-sign_of w.End = sg.Sign.stop
 
 -- what a piece gives
 abbrev pub item_of : Item → pt.Item

@@ -3,6 +3,7 @@
 
 mod bytes;
 mod commands;
+mod defines;
 mod numbers;
 mod pieces;
 mod turns;
