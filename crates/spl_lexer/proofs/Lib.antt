@@ -4,3 +4,4 @@ pub mod NumberLemmas
 pub mod SizeLemmas
 pub mod TurnLemmas
 pub mod DefineLemmas
+pub mod SegmentLemmas

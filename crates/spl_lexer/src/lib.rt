@@ -6,4 +6,5 @@ mod commands;
 mod defines;
 mod numbers;
 mod pieces;
+mod segments;
 mod turns;
