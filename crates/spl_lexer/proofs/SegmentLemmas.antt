@@ -8,10 +8,10 @@ use lib.Pointwise.{pointwise}
 use Rattle.arrayvec.specs.ArrayVec.{ArrayVec}
 use Rattle.indexmap.specs.IndexSet.{insert_key}
 use Rattle.spl_tree.specs.declared.tokens.Token.{Token}
-use Rattle.spl_cuts.specs.Signs.{Found, Placed}
+use Rattle.spl_cuts.specs.Signs.{Found, Placed, Listed}
 use Rattle.spl_cuts.specs.Cutting.{has_name, with_name, with_names, number_of, placed}
 use Rattle.spl_cuts.proofs.FewSegments.{same_self, longer_with, with_behind}
-use Rattle.spl_lexer.specs.SignViews.{sign_of, placed_of, found_of, AllNumbered, IsNumbered}
+use Rattle.spl_lexer.specs.SignViews.{sign_of, placed_of, found_of, list_of, AllNumbered, IsNumbered}
 
 -- names are equal by their letters
 abbrev pub same : ArrayVec ℕ → ArrayVec ℕ → Bool
@@ -172,3 +172,10 @@ push_numbered ns n ts t v e l = record {
 pub placed_all : (ns : List (List ℕ)) (ts : List Token) → AllNumbered ts ns → map (placed ns) (map (found_of ns) ts) ≡ map placed_of ts
 placed_all ns [] a = refl
 placed_all ns (t ∷ ts) a = rw (a.1, placed_all ns ts a.2) refl
+
+-- the list of a unit with these tokens
+pub list_numbered : (ns : List (List ℕ)) (ts : List Token) (subprogram : Bool) → IsNumbered ts ns
+    → list_of (map (found_of ns) ts) subprogram ≡ record { tokens = map placed_of ts; segments = ns; subprogram = subprogram }
+list_numbered ns ts subprogram v =
+    ap (λ (ms : List (List ℕ)). record { tokens = map (placed ms) (map (found_of ns) ts); segments = ms; subprogram = subprogram }) v.order
+    ∙ ap (λ (ps : List Placed). record { tokens = ps; segments = ns; subprogram = subprogram }) (placed_all ns ts v.all)

@@ -1,5 +1,5 @@
 -- What the tokens of the source stand for in the cutting of texts.
-use Rattle.std.specs.Prelude.{ℕ, ◌≡◌, ◌<◌, List, [], ◌∷◌, map, length, get_or}
+use Rattle.std.specs.Prelude.{ℕ, Bool, ◌≡◌, ◌<◌, List, [], ◌∷◌, map, length, get_or}
 use Rattle.spl_tree.specs.declared.tokens.What.{What}
 use Rattle.spl_tree.specs.declared.tokens.What.TheVariants as w
 use Rattle.spl_tree.specs.declared.tokens.Token.{Token}
@@ -39,3 +39,8 @@ AllNumbered (t ∷ ts) names = (t.segment < length names) × (placed names (foun
 pub record IsNumbered (ts : List Token) (names : List (List ℕ)) : Type 0 where
   pub order : with_names [] (map (found_of names) ts) ≡ names
   pub all : AllNumbered ts names
+
+-- the list of a unit with these tokens, its end among them
+abbrev pub list_of : List Found → Bool → Listed
+list_of ts subprogram =
+    let names = with_names [] ts in record { tokens = map (placed names) ts; segments = names; subprogram = subprogram }

@@ -4,6 +4,7 @@
 mod bytes;
 mod commands;
 mod defines;
+mod listing;
 mod numbers;
 mod pieces;
 mod segments;
