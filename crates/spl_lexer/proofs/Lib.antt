@@ -5,3 +5,4 @@ pub mod SizeLemmas
 pub mod TurnLemmas
 pub mod DefineLemmas
 pub mod SegmentLemmas
+pub mod UseLemmas

@@ -1,3 +1,4 @@
 pub mod SignViews
 pub mod PieceViews
 pub mod DefineViews
+pub mod StateViews

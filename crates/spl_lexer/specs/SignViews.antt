@@ -1,5 +1,7 @@
 -- What the tokens of the source stand for in the cutting of texts.
 use Rattle.std.specs.Prelude.{ℕ, Bool, ◌≡◌, ◌<◌, List, [], ◌∷◌, map, length, get_or}
+use Rattle.spl_tree.specs.declared.names_and_places.At.{At}
+use Rattle.spl_tree.specs.declared.names_and_places.Name.{Name}
 use Rattle.spl_tree.specs.declared.tokens.What.{What}
 use Rattle.spl_tree.specs.declared.tokens.What.TheVariants as w
 use Rattle.spl_tree.specs.declared.tokens.Token.{Token}
@@ -44,3 +46,7 @@ pub record IsNumbered (ts : List Token) (names : List (List ℕ)) : Type 0 where
 abbrev pub list_of : List Found → Bool → Listed
 list_of ts subprogram =
     let names = with_names [] ts in record { tokens = map (placed names) ts; segments = names; subprogram = subprogram }
+
+-- the place and segment of a use
+abbrev pub use_at : At → Name → Found
+use_at at segment = record { what = sg.Sign.stop; at = at; segment = segment.text.items }

@@ -42,6 +42,16 @@ impl Defines {
         self.table.get(&name.text)
     }
 
+    /// What a token stands for, if it is a word that is defined.
+    pub fn use_of(&self, what: &What) -> Option<&Vec<What>>
+        ensures { option_map (λ v. map sign_of v.now.items) result ≡ df.use_of self.now (sign_of what.now) }
+    {
+        match what {
+            What::Word(name) => self.get(name),
+            _ => None,
+        }
+    }
+
     /// Defines a name that is not defined. Where memory is wanting, the DEFINEs stay.
     pub fn add(&mut self, name: Name, signs: Vec<What>) -> Result<(), AllocError>
         requires { df.defined name.text.items self.old ≡ None }

@@ -7,5 +7,8 @@ mod defines;
 mod listing;
 mod numbers;
 mod pieces;
+mod reserved;
 mod segments;
+mod signs;
+mod state;
 mod turns;
