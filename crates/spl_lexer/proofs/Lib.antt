@@ -6,3 +6,4 @@ pub mod TurnLemmas
 pub mod DefineLemmas
 pub mod SegmentLemmas
 pub mod UseLemmas
+pub mod PhaseLemmas

@@ -1,11 +1,11 @@
 -- What was found before a place in a text, as the cutting of texts sees it.
-use Rattle.std.specs.Prelude.{ℕ, ◌≡◌, ◌≤◌, List, None, map, Result, Ok, Err}
+use Rattle.std.specs.Prelude.{ℕ, ◌≡◌, ◌≤◌, List, [], None, map, Result, Ok, Err}
 use Rattle.spl_tree.specs.declared.names_and_places.At.{At}
 use Rattle.spl_tree.specs.declared.names_and_places.Name.{Name}
 use Rattle.spl_tree.specs.declared.tokens.What.{What}
 use Rattle.spl_cuts.specs.declared.faults.LexKind.{LexKind}
 use Rattle.spl_cuts.specs.declared.faults.LexKind.TheVariants as k
-use Rattle.spl_cuts.specs.Signs.{Found}
+use Rattle.spl_cuts.specs.Signs.{Sign, Found}
 use Rattle.spl_cuts.specs.Defines as df
 use Rattle.spl_lexer.specs.SignViews.{sign_of}
 use Rattle.spl_lexer.specs.declared.state.Phase.{Phase}
@@ -27,6 +27,10 @@ state_of s = record { defines = s.defines; phase = phase_of s.phase; found = s.l
 -- a token that stands at this place, in this segment
 abbrev pub found_at : What → At → Name → Found
 found_at what at segment = record { what = sign_of what; at = at; segment = segment.text.items }
+
+-- a token of which the place does not matter
+abbrev pub anywhere : Sign → Found
+anywhere x = record { what = x; at = record { unit = 1; line = 1; column = 1 }; segment = [] }
 
 -- the name of the DEFINE that is open is not defined
 abbrev pub OpenIsNew : df.Phase → List df.Define → Type 0

@@ -56,12 +56,12 @@ fn list_all(
 }
 
 impl State {
-    ghost use Rattle.std.specs.Prelude.{◌≡◌, ◌≤◌, [], length, map, Some, if◌then◌else◌};
+    ghost use Rattle.std.specs.Prelude.{◌≡◌, ◌≤◌, [], length, map, Some, None, OnOk, if◌then◌else◌};
     ghost use Rattle.spl_cuts.specs.Defines as df;
     ghost use Rattle.spl_cuts.specs.Cutting as cu;
     ghost use Rattle.spl_cuts.specs.Reading as rd;
     ghost use Rattle.spl_lexer.specs.SignViews.{sign_of};
-    ghost use Rattle.spl_lexer.specs.StateViews.{Comes, IsKept, state_of, found_at};
+    ghost use Rattle.spl_lexer.specs.StateViews.{Comes, IsKept, state_of, found_at, anywhere};
 
     /// Nothing is found before the beginning of a text.
     pub fn new(alloc: Global) -> Self
@@ -80,7 +80,8 @@ impl State {
     fn list(&mut self, alloc: Global, what: What, at: At, segment: &Name) -> Result<(), LexKind>
         requires kept { IsKept (state_of self.old) }
         requires segments { length (cu.with_name (cu.with_names [] self.old.listing) segment.now.text.items) ≤ 65536 }
-        ensures { Comes (rd.limited 262144 (Some (rd.listed_as (state_of self.old) (found_at what at segment.now) (df.use_of self.old.defines (sign_of what))))) result (state_of self.new) }
+        ensures comes { Comes (rd.limited 262144 (Some (rd.listed_as (state_of self.old) (found_at what at segment.now) (df.use_of self.old.defines (sign_of what))))) result (state_of self.new) }
+        ensures kept { OnOk result (IsKept (state_of self.new)) }
     {
         match self.defines.use_of(&what) {
             None => {
@@ -99,5 +100,142 @@ impl State {
             }
         }
         Ok(())
+    }
+
+    /// Keeps a token for the DEFINE of this name, or the tokens that it stands for, behind those that are kept.
+    #[tactic(auto, unfolding(spl_cuts::specs::Reading::kept_as, spl_cuts::specs::Reading::limited))]
+    fn keep(
+        &mut self,
+        alloc: Global,
+        name: Name,
+        signs: Vec<What>,
+        what: What,
+    ) -> Result<(), LexKind>
+        requires kept { IsKept (state_of self.old) }
+        requires new { df.defined name.text.items self.old.defines ≡ None }
+        ensures comes { Comes (rd.limited 262144 (Some (rd.kept_as (state_of self.old) (sign_of what) name.text.items (map sign_of signs.items) (df.use_of self.old.defines (sign_of what))))) result (state_of self.new) }
+        ensures kept { OnOk result (IsKept (state_of self.new)) }
+    {
+        let mut signs = signs;
+        match self.defines.use_of(&what) {
+            None => {
+                if self.count >= MOST_TOKENS {
+                    return Err(LexKind::TooManyTokens);
+                }
+                signs.push(what)?;
+                self.count += 1;
+            }
+            Some(used) => {
+                if used.len() > MOST_TOKENS - self.count {
+                    return Err(LexKind::TooManyTokens);
+                }
+                self.count += used.len();
+                append(alloc, &mut signs, used)?;
+            }
+        }
+        self.phase = Phase::Inside(name, signs);
+        Ok(())
+    }
+
+    /// Takes a token between the `=` and the `#` of a DEFINE.
+    #[tactic(auto, unfolding(spl_cuts::specs::Reading::fed_at, spl_cuts::specs::Reading::limited))]
+    fn inside(
+        &mut self,
+        alloc: Global,
+        name: Name,
+        signs: Vec<What>,
+        what: What,
+    ) -> Result<(), LexKind>
+        requires kept { IsKept (state_of self.old) }
+        requires new { df.defined name.text.items self.old.defines ≡ None }
+        ensures comes { Comes (rd.limited 262144 (rd.fed_at (df.Phase.inside name.text.items (map sign_of signs.items)) (state_of self.old) (anywhere (sign_of what)))) result (state_of self.new) }
+        ensures kept { OnOk result (IsKept (state_of self.new)) }
+    {
+        if is_mark(&what, mark::HASH) {
+            self.defines.add(name, signs)?;
+            self.phase = Phase::BehindHash;
+            Ok(())
+        } else if is_define(&what) {
+            Err(LexKind::BadDefine)
+        } else {
+            self.keep(alloc, name, signs, what)
+        }
+    }
+
+    /// Takes the name of a DEFINE: no reserved word, and none that was defined before.
+    #[tactic(auto, unfolding(spl_cuts::specs::Reading::name_found, spl_cuts::specs::Reading::named, spl_cuts::specs::Reading::limited))]
+    fn named(&mut self, what: What) -> Result<(), LexKind>
+        requires kept { IsKept (state_of self.old) }
+        ensures comes { Comes (rd.limited 262144 (rd.name_found (state_of self.old) (sign_of what))) result (state_of self.new) }
+        ensures kept { OnOk result (IsKept (state_of self.new)) }
+    {
+        match what {
+            What::Word(name) => {
+                if is_reserved(&name) || self.defines.get(&name).is_some() {
+                    return Err(LexKind::BadDefine);
+                }
+                self.phase = Phase::BeforeEquals(name);
+                Ok(())
+            }
+            _other => Err(LexKind::BadDefine),
+        }
+    }
+
+    /// Takes the token behind the `#` of a DEFINE.
+    #[tactic(auto, unfolding(spl_cuts::specs::Reading::fed_at, spl_cuts::specs::Reading::limited))]
+    fn behind_hash(&mut self, what: &What) -> Result<(), LexKind>
+        requires kept { IsKept (state_of self.old) }
+        ensures comes { Comes (rd.limited 262144 (rd.fed_at df.Phase.behind_hash (state_of self.old) (anywhere (sign_of what.now)))) result (state_of self.new) }
+        ensures kept { OnOk result (IsKept (state_of self.new)) }
+    {
+        if is_mark(what, mark::COMMA) {
+            self.phase = Phase::BeforeName;
+            Ok(())
+        } else if is_mark(what, mark::SEMICOLON) {
+            self.phase = Phase::Outside;
+            Ok(())
+        } else {
+            Err(LexKind::BadDefine)
+        }
+    }
+
+    /// Takes a token where no DEFINE is open.
+    #[tactic(auto, unfolding(spl_cuts::specs::Reading::fed_at, spl_cuts::specs::Reading::limited))]
+    fn outside(&mut self, alloc: Global, what: What, at: At, segment: &Name) -> Result<(), LexKind>
+        requires kept { IsKept (state_of self.old) }
+        requires segments { length (cu.with_name (cu.with_names [] self.old.listing) segment.now.text.items) ≤ 65536 }
+        ensures comes { Comes (rd.limited 262144 (rd.fed_at df.Phase.outside (state_of self.old) (found_at what at segment.now))) result (state_of self.new) }
+        ensures kept { OnOk result (IsKept (state_of self.new)) }
+    {
+        if is_define(&what) {
+            self.phase = Phase::BeforeName;
+            Ok(())
+        } else {
+            self.list(alloc, what, at, segment)
+        }
+    }
+
+    /// Takes a token, which stands at a place in a segment. There are at most 65,536 segments with it.
+    #[tactic(auto, unfolding(spl_cuts::specs::Reading::fed, spl_cuts::specs::Reading::fed_at, spl_cuts::specs::Reading::limited))]
+    pub fn take(&mut self, alloc: Global, what: What, at: At, segment: &Name) -> Result<(), LexKind>
+        requires kept { IsKept (state_of self.old) }
+        requires segments { length (cu.with_name (cu.with_names [] self.old.listing) segment.now.text.items) ≤ 65536 }
+        ensures comes { Comes (rd.limited 262144 (rd.fed (state_of self.old) (found_at what at segment.now))) result (state_of self.new) }
+        ensures kept { OnOk result (IsKept (state_of self.new)) }
+    {
+        match replace(&mut self.phase, Phase::Outside) {
+            Phase::Outside => self.outside(alloc, what, at, segment),
+            Phase::BeforeName => self.named(what),
+            Phase::BeforeEquals(name) => {
+                if is_mark(&what, mark::EQUAL) {
+                    self.phase = Phase::Inside(name, Vec::new(alloc));
+                    Ok(())
+                } else {
+                    Err(LexKind::BadDefine)
+                }
+            }
+            Phase::Inside(name, signs) => self.inside(alloc, name, signs, what),
+            Phase::BehindHash => self.behind_hash(&what),
+        }
     }
 }
