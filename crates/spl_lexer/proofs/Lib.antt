@@ -7,3 +7,4 @@ pub mod DefineLemmas
 pub mod SegmentLemmas
 pub mod UseLemmas
 pub mod PhaseLemmas
+pub mod SettingLemmas

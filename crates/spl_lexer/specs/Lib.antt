@@ -2,3 +2,4 @@ pub mod SignViews
 pub mod PieceViews
 pub mod DefineViews
 pub mod StateViews
+pub mod ReaderViews

@@ -7,6 +7,7 @@ mod defines;
 mod listing;
 mod numbers;
 mod pieces;
+mod reader;
 mod reserved;
 mod segments;
 mod signs;
