@@ -8,3 +8,4 @@ pub mod SegmentLemmas
 pub mod UseLemmas
 pub mod PhaseLemmas
 pub mod SettingLemmas
+pub mod StepLemmas

@@ -4,6 +4,7 @@
 mod bytes;
 mod commands;
 mod defines;
+mod lexer;
 mod listing;
 mod numbers;
 mod pieces;
@@ -13,3 +14,5 @@ mod segments;
 mod signs;
 mod state;
 mod turns;
+
+pub use lexer::tokens;

@@ -1,14 +1,21 @@
 //! A place in a text, and what the pieces before it told.
-ghost use Rattle.std.specs.Prelude.{◌≡◌, ◌≤◌, ◌<◌, ◌+◌, [], length, map};
+ghost use Rattle.std.specs.Prelude.{◌≡◌, ◌≤◌, ◌++◌, ◌∷◌, [], length, IfOk};
+ghost use Rattle.spl_cuts.specs.Signs as sg;
+ghost use Rattle.spl_cuts.specs.Defines as df;
+ghost use Rattle.spl_cuts.specs.Cutting as cu;
+ghost use Rattle.spl_lexer.specs.SignViews.{listed_of, list_of};
+ghost use Rattle.spl_lexer.specs.StateViews.{phase_of};
+ghost use Rattle.spl_lexer.specs.ReaderViews.{here_of};
 
 use crate::bytes::past_all;
 use crate::commands::Setting;
+use crate::listing::Listing;
 use crate::pieces::Item;
 use crate::segments::name_of;
-use crate::state::State;
-use spl_cuts::LexKind;
-use spl_tree::{At, Name};
-use std::alloc::Global;
+use crate::state::{Phase, State};
+use spl_cuts::{LexFault, LexKind};
+use spl_tree::{At, Lexed, Name, What};
+use std::alloc::{AllocError, Global};
 
 /// A place in a text, with the segment in force there, and whether a command said SUBPROGRAM before.
 #[derive(Debug, Drop)]
@@ -74,6 +81,23 @@ impl Here {
     }
 }
 
+/// No DEFINE is open.
+fn is_outside(phase: &Phase) -> bool
+    ensures { result ≡ df.is_outside (phase_of phase.now) }
+{
+    matches!(phase, Phase::Outside)
+}
+
+/// The list of a unit with these tokens, and its end.
+fn ended(alloc: Global, listing: Listing, here: Here) -> Result<Lexed, AllocError>
+    requires { length (cu.with_name (cu.with_names [] listing) here.segment.text.items) ≤ 65536 }
+    ensures { IfOk result (λ x. listed_of x ≡ list_of (listing ++ cu.here (here_of here) sg.Sign.stop ∷ []) here.subprogram) }
+{
+    let mut listing = listing;
+    listing.push(What::End, here.at, &here.segment)?;
+    listing.finish(alloc, here.subprogram)
+}
+
 /// What is known before a piece: where it stands, and what was found before.
 #[derive(Debug, Drop)]
 pub struct Reader {
@@ -87,7 +111,7 @@ impl Reader {
     ghost use Rattle.spl_cuts.specs.Reading as rd;
     ghost use Rattle.spl_lexer.specs.PieceViews.{item_of};
     ghost use Rattle.spl_lexer.specs.StateViews.{IsKept, state_of};
-    ghost use Rattle.spl_lexer.specs.ReaderViews.{here_of, Adds};
+    ghost use Rattle.spl_lexer.specs.ReaderViews.{here_of, Adds, Answers};
 
     /// Adds what a piece of these bytes gives, and passes over them.
     #[tactic(auto, unfolding(spl_cuts::specs::Reading::added))]
@@ -115,6 +139,29 @@ impl Reader {
                 self.here.pass(front);
                 Ok(())
             }
+        }
+    }
+
+    /// The list of a unit whose text ends here.
+    #[tactic(auto, unfolding(spl_cuts::specs::Reading::finished))]
+    pub fn finish(self, alloc: Global) -> Result<Lexed, LexFault>
+        requires { length (cu.with_name (cu.with_names [] self.state.listing) self.here.segment.text.items) ≤ 65536 }
+        ensures { Answers (rd.finished (here_of self.here) (state_of self.state)) result }
+    {
+        let Reader { here, state } = self;
+        let at = here.at;
+        if !is_outside(&state.phase) {
+            return Err(LexFault {
+                kind: LexKind::BadDefine,
+                at,
+            });
+        }
+        match ended(alloc, state.listing, here) {
+            Ok(lexed) => Ok(lexed),
+            Err(_) => Err(LexFault {
+                kind: LexKind::NoMemory,
+                at,
+            }),
         }
     }
 }

@@ -1,5 +1,5 @@
 //! What a text begins with: a piece, or a fault.
-ghost use Rattle.std.specs.Prelude.{◌≡◌, map};
+ghost use Rattle.std.specs.Prelude.{◌≡◌, ◌<◌, ◌≤◌, length, map, MatchResult};
 ghost use Rattle.spl_cuts.specs.Bytes as by;
 ghost use Rattle.spl_cuts.specs.Reading as rd;
 ghost use Rattle.spl_lexer.specs.PieceViews.{Turns};
@@ -21,7 +21,8 @@ pub struct Fault {
 #[tactic(auto, unfolding(spl_cuts::specs::Reading::turn, spl_cuts::specs::Reading::checked))]
 pub fn turn(alloc: Global, begins_line: bool, text: &[u8], blanked: &[u8]) -> Result<Piece, Fault>
     requires { blanked.now ≡ map by.blanked text.now }
-    ensures { Turns (rd.turn begins_line text.now) result }
+    ensures turn { Turns (rd.turn begins_line text.now) result }
+    ensures within { MatchResult result (λ p. (0 < p.size) × (p.size ≤ length text.now)) (λ f. f.behind ≤ length text.now) }
 {
     match piece_at(alloc, begins_line, blanked) {
         Err(kind) => Err(Fault { kind, behind: 0 }),
