@@ -9,3 +9,4 @@ pub mod UseLemmas
 pub mod PhaseLemmas
 pub mod SettingLemmas
 pub mod StepLemmas
+pub mod AnswerLemmas

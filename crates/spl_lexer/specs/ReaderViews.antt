@@ -1,5 +1,5 @@
 -- A place in a text and what the pieces before it told, as the cutting of texts sees it.
-use Rattle.std.specs.Prelude.{ℕ, ◌≡◌, ◌≤◌, ◌+◌, ◌*◌, ◌||◌, List, [], map, length, Result, Ok, Err}
+use Rattle.std.specs.Prelude.{ℕ, ◌≡◌, ◌≢◌, ◌≤◌, ◌+◌, ◌*◌, ◌||◌, List, [], map, length, Result, Ok, Err}
 use Rattle.spl_cuts.specs.declared.faults.LexKind.{LexKind}
 use Rattle.spl_cuts.specs.declared.faults.LexKind.TheVariants as k
 use Rattle.spl_cuts.specs.declared.faults.LexFault.{LexFault}
@@ -52,3 +52,13 @@ pub record IsLeft (h : cu.Here) (s : df.State) (text blanks : List ℕ) : Type 0
   pub segments : 17 * length (cu.with_name (cu.with_names [] s.found) h.segment) + length text ≤ 1048593
   pub line : h.at.line + length text ≤ 1048577
   pub column : h.at.column + length text ≤ 1048577
+
+-- the answer is this list, unless memory was wanting
+abbrev pub Gives : Result Lexed LexFault → Listed → Type 0
+Gives (Ok x) y = listed_of x ≡ y
+Gives (Err f) y = f.kind ≡ k.NoMemory
+
+-- the answer is this fault, unless memory was wanting
+abbrev pub Refuses : Result Lexed LexFault → LexKind → At → Type 0
+Refuses (Ok x) kind at = ⊥
+Refuses (Err f) kind at = f.kind ≢ k.NoMemory → (f.kind ≡ kind) × (f.at ≡ at)

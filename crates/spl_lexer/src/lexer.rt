@@ -1,8 +1,13 @@
 //! The tokens of a unit, from its text.
-ghost use Rattle.std.specs.Prelude.{◌≡◌, ◌≤◌, map, length, IfOk};
+ghost use Rattle.std.specs.Prelude.{◌≡◌, ◌≤◌, ◌≢◌, map, length, IfOk, IfErr};
 ghost use Rattle.spl_cuts.specs.Bytes as by;
 ghost use Rattle.spl_cuts.specs.Reading as rd;
-ghost use Rattle.spl_lexer.specs.ReaderViews.{Answers};
+ghost use Rattle.spl_tree.specs.declared.names_and_places.At as places;
+ghost use Rattle.spl_cuts.specs.Signs.{Listed};
+ghost use Rattle.spl_cuts.specs.Cutting.{CutsWithin, FirstFault};
+ghost use Rattle.spl_cuts.specs.declared.faults.LexKind as kinds;
+ghost use Rattle.spl_lexer.specs.SignViews.{listed_of};
+ghost use Rattle.spl_lexer.specs.ReaderViews.{Answers, Gives, Refuses};
 
 use crate::bytes::{blanked, past_all};
 use crate::pieces::Piece;
@@ -64,9 +69,8 @@ impl<'a> Lexer<'a> {
     }
 }
 
-/// The tokens of a unit, which end with its only `End`, one past the text; or the first fault of its text. The unit's number
-/// counts from 1. The text has at most 1,048,576 bytes.
-pub fn tokens(alloc: Global, text: &[u8], unit: u8) -> Result<Lexed, LexFault>
+/// The tokens of a unit, or the first fault of its text, as they are read from its front.
+fn read_all(alloc: Global, text: &[u8], unit: u8) -> Result<Lexed, LexFault>
     requires { length text.now ≤ 1048576 }
     ensures { Answers (rd.read_text unit 262144 text.now) result }
 {
@@ -91,4 +95,18 @@ pub fn tokens(alloc: Global, text: &[u8], unit: u8) -> Result<Lexed, LexFault>
         }
     }
     lexer.reader.finish(alloc)
+}
+
+/// The tokens of a unit, which end with its only `End`, one past the text; or the first fault of its text, which comes where
+/// more than 262,144 tokens arise too. Units, lines and columns count from 1. Only memory may be wanting besides.
+pub fn tokens(alloc: Global, text: &[u8], unit: u8) -> Result<Lexed, LexFault>
+    requires { length text.now ≤ 1048576 }
+    ensures cut { IfOk result (λ x. CutsWithin unit 262144 text.now (listed_of x)) }
+    ensures fault { IfErr result (λ f. f.kind ≢ LexKind.NoMemory → FirstFault unit 262144 text.now f.kind f.at) }
+
+    // A text that is cut has its list as the answer, and one that has a fault that fault.
+    ensures cuts { (x : Listed) → CutsWithin unit 262144 text.now x → Gives result x }
+    ensures faults { (kind : kinds.LexKind) (at : places.At) → FirstFault unit 262144 text.now kind at → Refuses result kind at }
+{
+    read_all(alloc, text, unit)
 }

@@ -2,7 +2,7 @@ use Rattle.std.proofs.Common.{◌≡◌, length}
 use Rattle.spl_cuts.specs.Reading.{read_text}
 use Rattle.spl_lexer.specs.StateViews.{state_of}
 use Rattle.spl_lexer.specs.ReaderViews.{here_of, reading, IsLeft}
-use Rattle.spl_lexer.proofs.lexer.tokens.Given as goal
+use Rattle.spl_lexer.proofs.lexer.read_all.Given as goal
 
 -- what is left is read here as the whole text is
 abbrev pub invariant-loop-lexer : goal.invariant-loop-lexer
