@@ -11,7 +11,7 @@ use Rattle.spl_cuts.specs.Cutting.{CutsWithin, FirstFault}
 use Rattle.spl_cuts.specs.Reading.{read_text}
 use Rattle.spl_cuts.proofs.TextReads.{cuts_read, fault_is_read}
 use Rattle.spl_cuts.proofs.TextCuts.{texts_cut, faults_first}
-use Rattle.spl_lexer.specs.SignViews.{listed_of}
+use Rattle.spl_lexer.specs.TokenViews.{listed_of}
 use Rattle.spl_lexer.specs.ReaderViews.{Answers, Faults, Gives, Refuses}
 
 -- a fault of another kind than memory is the one that is read

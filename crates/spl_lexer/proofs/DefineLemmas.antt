@@ -11,7 +11,7 @@ use Rattle.spl_tree.specs.declared.tokens.What.{What}
 use Rattle.spl_cuts.specs.Signs.{Sign}
 use Rattle.spl_cuts.specs.Defines.{Define, defined}
 use Rattle.spl_cuts.proofs.Fronts.{mapped_none}
-use Rattle.spl_lexer.specs.SignViews.{sign_of}
+use Rattle.spl_pieces.specs.SignViews.{sign_of}
 use Rattle.spl_lexer.specs.DefineViews.{define_of}
 
 -- the tokens that a name stands for

@@ -11,7 +11,8 @@ use Rattle.spl_tree.specs.declared.tokens.Token.{Token}
 use Rattle.spl_cuts.specs.Signs.{Found, Placed, Listed}
 use Rattle.spl_cuts.specs.Cutting.{has_name, with_name, with_names, number_of, placed}
 use Rattle.spl_cuts.proofs.FewSegments.{same_self, longer_with, with_behind}
-use Rattle.spl_lexer.specs.SignViews.{sign_of, placed_of, found_of, list_of, AllNumbered, IsNumbered}
+use Rattle.spl_pieces.specs.SignViews.{sign_of}
+use Rattle.spl_lexer.specs.TokenViews.{placed_of, found_of, list_of, AllNumbered, IsNumbered}
 
 -- names are equal by their letters
 abbrev pub same : ArrayVec ℕ → ArrayVec ℕ → Bool

@@ -24,7 +24,7 @@ use Rattle.spl_cuts.proofs.DefineReads.{Fed, fed_told}
 use Rattle.spl_cuts.proofs.TextReads.{read_goes, read_stops, read_fails}
 use Rattle.spl_cuts.proofs.FewSegments.{piece_names}
 use Rattle.spl_lexer.specs.StateViews.{IsKept, FailsBy}
-use Rattle.spl_lexer.specs.PieceViews.{FailsAt}
+use Rattle.spl_pieces.specs.PieceViews.{FailsAt}
 use Rattle.spl_lexer.specs.ReaderViews.{IsLeft, Faults, reading}
 
 -- ---- the piece

@@ -6,7 +6,7 @@ use Rattle.spl_cuts.specs.Signs.{Sign, Found}
 use Rattle.spl_cuts.specs.Defines.{at_use}
 use Rattle.spl_cuts.specs.Cutting.{with_name, with_names}
 use Rattle.spl_cuts.proofs.FewSegments.{with_behind, with_again}
-use Rattle.spl_lexer.specs.SignViews.{sign_of}
+use Rattle.spl_pieces.specs.SignViews.{sign_of}
 
 at_use-append : (t : Found) (xs ys : List Sign) → at_use t (xs ++ ys) ≡ at_use t xs ++ at_use t ys
 at_use-append t [] ys = refl

@@ -4,7 +4,7 @@ use Rattle.std.specs.declared.alloc.Global.{Global}
 use Rattle.arrayvec.specs.ArrayVec.{ArrayVec}
 use Rattle.spl_tree.specs.declared.tokens.What.{What}
 use Rattle.spl_cuts.specs.Defines.{Define}
-use Rattle.spl_lexer.specs.SignViews.{sign_of}
+use Rattle.spl_pieces.specs.SignViews.{sign_of}
 
 -- a name with what it stands for
 abbrev pub define_of : ArrayVec ℕ × Vec What Global → Define

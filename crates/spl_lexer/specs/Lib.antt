@@ -1,5 +1,4 @@
-pub mod SignViews
-pub mod PieceViews
+pub mod TokenViews
 pub mod DefineViews
 pub mod StateViews
 pub mod ReaderViews

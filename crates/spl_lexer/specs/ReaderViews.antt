@@ -12,7 +12,7 @@ use Rattle.spl_cuts.specs.Pieces as pt
 use Rattle.spl_cuts.specs.Defines as df
 use Rattle.spl_cuts.specs.Cutting as cu
 use Rattle.spl_cuts.specs.Reading as rd
-use Rattle.spl_lexer.specs.SignViews.{listed_of}
+use Rattle.spl_lexer.specs.TokenViews.{listed_of}
 use Rattle.spl_lexer.specs.StateViews.{FailsBy, IsKept}
 use Rattle.spl_lexer.specs.declared.reader.Here.{Here}
 

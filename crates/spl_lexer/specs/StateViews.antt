@@ -7,7 +7,7 @@ use Rattle.spl_cuts.specs.declared.faults.LexKind.{LexKind}
 use Rattle.spl_cuts.specs.declared.faults.LexKind.TheVariants as k
 use Rattle.spl_cuts.specs.Signs.{Sign, Found}
 use Rattle.spl_cuts.specs.Defines as df
-use Rattle.spl_lexer.specs.SignViews.{sign_of}
+use Rattle.spl_pieces.specs.SignViews.{sign_of}
 use Rattle.spl_lexer.specs.declared.state.Phase.{Phase}
 use Rattle.spl_lexer.specs.declared.state.Phase.TheVariants as p
 use Rattle.spl_lexer.specs.declared.state.State.{State}

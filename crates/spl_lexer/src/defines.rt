@@ -1,7 +1,7 @@
 //! The table of DEFINEs.
 ghost use Rattle.std.specs.Prelude.{◌≡◌, ◌++◌, ◌∷◌, [], None, map, option_map, OnOk};
 ghost use Rattle.spl_cuts.specs.Defines as df;
-ghost use Rattle.spl_lexer.specs.SignViews.{sign_of};
+ghost use Rattle.spl_pieces.specs.SignViews.{sign_of};
 
 use arrayvec::ArrayVec;
 use indexmap::IndexMap;

@@ -6,15 +6,13 @@ ghost use Rattle.spl_tree.specs.declared.names_and_places.At as places;
 ghost use Rattle.spl_cuts.specs.Signs.{Listed};
 ghost use Rattle.spl_cuts.specs.Cutting.{CutsWithin, FirstFault};
 ghost use Rattle.spl_cuts.specs.declared.faults.LexKind as kinds;
-ghost use Rattle.spl_lexer.specs.SignViews.{listed_of};
+ghost use Rattle.spl_lexer.specs.TokenViews.{listed_of};
 ghost use Rattle.spl_lexer.specs.ReaderViews.{Answers, Gives, Refuses};
 
-use crate::bytes::{blanked, past_all};
-use crate::pieces::Piece;
 use crate::reader::{Here, Reader};
 use crate::state::State;
-use crate::turns::turn;
 use spl_cuts::{LexFault, LexKind};
+use spl_pieces::{Piece, blanked, past_all, turn};
 use spl_tree::Lexed;
 use std::alloc::{AllocError, Global};
 

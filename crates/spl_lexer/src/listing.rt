@@ -1,7 +1,8 @@
 //! The tokens of a unit so far.
 ghost use Rattle.std.specs.Prelude.{◌≡◌, ◌≤◌, ◌++◌, ◌∷◌, [], length, OnOk, IfOk};
 ghost use Rattle.spl_cuts.specs.Cutting as cu;
-ghost use Rattle.spl_lexer.specs.SignViews.{sign_of, listed_of, list_of};
+ghost use Rattle.spl_pieces.specs.SignViews.{sign_of};
+ghost use Rattle.spl_lexer.specs.TokenViews.{listed_of, list_of};
 
 use crate::segments::Segments;
 use spl_tree::{At, Lexed, Name, Token, What};
@@ -18,7 +19,7 @@ pub struct Listing {
 impl Model for Listing {
     ghost use Rattle.std.specs.Prelude.{List, map};
     ghost use Rattle.spl_cuts.specs.Signs.{Found};
-    ghost use Rattle.spl_lexer.specs.SignViews.{found_of, IsNumbered};
+    ghost use Rattle.spl_lexer.specs.TokenViews.{found_of, IsNumbered};
 
     ghost Value = { List Found };
 

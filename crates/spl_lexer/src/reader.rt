@@ -3,17 +3,15 @@ ghost use Rattle.std.specs.Prelude.{◌≡◌, ◌≤◌, ◌++◌, ◌∷◌, [
 ghost use Rattle.spl_cuts.specs.Signs as sg;
 ghost use Rattle.spl_cuts.specs.Defines as df;
 ghost use Rattle.spl_cuts.specs.Cutting as cu;
-ghost use Rattle.spl_lexer.specs.SignViews.{listed_of, list_of};
+ghost use Rattle.spl_lexer.specs.TokenViews.{listed_of, list_of};
 ghost use Rattle.spl_lexer.specs.StateViews.{phase_of};
 ghost use Rattle.spl_lexer.specs.ReaderViews.{here_of};
 
-use crate::bytes::past_all;
-use crate::commands::Setting;
 use crate::listing::Listing;
-use crate::pieces::Item;
 use crate::segments::name_of;
 use crate::state::{Phase, State};
 use spl_cuts::{LexFault, LexKind};
+use spl_pieces::{Item, Setting, past_all};
 use spl_tree::{At, Lexed, Name, What};
 use std::alloc::{AllocError, Global};
 
@@ -31,7 +29,7 @@ impl Here {
     ghost use Rattle.spl_cuts.specs.Bytes as by;
     ghost use Rattle.spl_cuts.specs.Commands as ct;
     ghost use Rattle.spl_lexer.specs.ReaderViews.{here_of, with_settings};
-    ghost use Rattle.spl_lexer.specs.PieceViews.{setting_of};
+    ghost use Rattle.spl_pieces.specs.PieceViews.{setting_of};
 
     /// The beginning of a unit's text: the segment `SEG'` is in force.
     pub fn new(unit: u8) -> Self
@@ -109,7 +107,7 @@ impl Reader {
     ghost use Rattle.std.specs.Prelude.{◌≡◌, ◌≤◌, ◌<◌, ◌+◌, [], length, OnOk};
     ghost use Rattle.spl_cuts.specs.Cutting as cu;
     ghost use Rattle.spl_cuts.specs.Reading as rd;
-    ghost use Rattle.spl_lexer.specs.PieceViews.{item_of};
+    ghost use Rattle.spl_pieces.specs.PieceViews.{item_of};
     ghost use Rattle.spl_lexer.specs.StateViews.{IsKept, state_of};
     ghost use Rattle.spl_lexer.specs.ReaderViews.{here_of, Adds, Answers};
 

@@ -1,7 +1,7 @@
 //! Tokens by themselves: tests and copies of them.
 ghost use Rattle.std.specs.Prelude.{◌≡◌, ◌++◌, map, IfOk, OnOk};
 ghost use Rattle.spl_cuts.specs.Defines as df;
-ghost use Rattle.spl_lexer.specs.SignViews.{sign_of};
+ghost use Rattle.spl_pieces.specs.SignViews.{sign_of};
 
 use crate::segments::copy_of;
 use spl_tree::{Chars, What};

@@ -2,7 +2,8 @@
 ghost use Rattle.std.specs.Prelude.{◌≡◌, ◌≤◌, ◌++◌, [], length, map, OnOk, Some};
 ghost use Rattle.spl_cuts.specs.Defines as df;
 ghost use Rattle.spl_cuts.specs.Cutting as cu;
-ghost use Rattle.spl_lexer.specs.SignViews.{sign_of, use_at};
+ghost use Rattle.spl_pieces.specs.SignViews.{sign_of};
+ghost use Rattle.spl_lexer.specs.TokenViews.{use_at};
 
 use crate::defines::Defines;
 use crate::listing::Listing;
@@ -60,7 +61,7 @@ impl State {
     ghost use Rattle.spl_cuts.specs.Defines as df;
     ghost use Rattle.spl_cuts.specs.Cutting as cu;
     ghost use Rattle.spl_cuts.specs.Reading as rd;
-    ghost use Rattle.spl_lexer.specs.SignViews.{sign_of};
+    ghost use Rattle.spl_pieces.specs.SignViews.{sign_of};
     ghost use Rattle.spl_lexer.specs.StateViews.{Comes, IsKept, state_of, found_at, anywhere};
 
     /// Nothing is found before the beginning of a text.

@@ -1,5 +1,5 @@
 use Rattle.std.proofs.Common.{◌≡◌, ◌++◌, map, take}
-use Rattle.spl_lexer.specs.SignViews.{sign_of}
+use Rattle.spl_pieces.specs.SignViews.{sign_of}
 use Rattle.spl_lexer.proofs.signs.append.Given as goal
 
 -- the tokens so far are put behind

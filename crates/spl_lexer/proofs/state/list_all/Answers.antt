@@ -2,7 +2,8 @@
 use Rattle.std.proofs.Common.{◌≡◌, ◌≤◌, ◌++◌, ◌∷◌, [], length, get_or, sym, ap, ◌∙◌, arith, List, ℕ}
 use Rattle.spl_cuts.specs.Signs.{Sign, Found}
 use Rattle.spl_cuts.specs.Cutting.{with_name, with_names}
-use Rattle.spl_lexer.specs.SignViews.{sign_of, use_at}
+use Rattle.spl_pieces.specs.SignViews.{sign_of}
+use Rattle.spl_lexer.specs.TokenViews.{use_at}
 use Rattle.spl_lexer.proofs.UseLemmas.{use_more, no_more_names}
 use Rattle.spl_lexer.proofs.state.list_all.Goals as goal
 

@@ -1,7 +1,8 @@
 use Rattle.std.proofs.Common.{◌≡◌, ◌≤◌, ◌++◌, [], length, map, take}
 use Rattle.spl_cuts.specs.Defines as df
 use Rattle.spl_cuts.specs.Cutting as cu
-use Rattle.spl_lexer.specs.SignViews.{sign_of, use_at}
+use Rattle.spl_pieces.specs.SignViews.{sign_of}
+use Rattle.spl_lexer.specs.TokenViews.{use_at}
 use Rattle.spl_lexer.proofs.state.list_all.Given as goal
 
 -- the tokens so far are listed, and there are no more segments

@@ -2,7 +2,7 @@
 use Rattle.std.proofs.Common.{◌≡◌, take, drop, sym, ap, ◌∙◌, arith, List, ℕ}
 use Rattle.std.proofs.lemmas.List.{take_rest}
 use Rattle.spl_cuts.specs.Cutting.{Here, after}
-use Rattle.spl_lexer.specs.PieceViews.{item_of}
+use Rattle.spl_pieces.specs.PieceViews.{item_of}
 use Rattle.spl_lexer.specs.StateViews.{state_of}
 use Rattle.spl_lexer.specs.ReaderViews.{here_of, reading}
 use Rattle.spl_lexer.proofs.StepLemmas.{turn_fails, add_fails, left_behind, left_same, reads_on}

@@ -3,7 +3,7 @@ use Rattle.std.proofs.Common.{◌≡◌, ◌<◌, ◌++◌, ◌∷◌, [], lengt
 use Rattle.spl_tree.specs.declared.tokens.Token.{Token}
 use Rattle.spl_cuts.specs.Signs.{Found}
 use Rattle.spl_cuts.specs.Cutting.{number_of, with_name}
-use Rattle.spl_lexer.specs.SignViews.{sign_of}
+use Rattle.spl_pieces.specs.SignViews.{sign_of}
 use Rattle.spl_lexer.proofs.SegmentLemmas.{push_view, push_numbered}
 use Rattle.spl_lexer.proofs.listing.Listing.push.Goals as goal
 

@@ -1,6 +1,6 @@
 use Rattle.std.proofs.Common.{◌≡◌, map}
 use Rattle.spl_lexer.specs.ReaderViews.{here_of, with_settings}
-use Rattle.spl_lexer.specs.PieceViews.{setting_of}
+use Rattle.spl_pieces.specs.PieceViews.{setting_of}
 use Rattle.spl_lexer.proofs.reader.Here.set.Given as goal
 
 -- the options left put in force here what all put in force at first

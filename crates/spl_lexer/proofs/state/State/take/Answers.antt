@@ -2,7 +2,7 @@
 use Rattle.std.proofs.Common.{◌≡◌, map, refl, sym, ap, subst, Option}
 use Rattle.spl_cuts.specs.Defines as df
 use Rattle.spl_cuts.specs.Reading as rd
-use Rattle.spl_lexer.specs.SignViews.{sign_of}
+use Rattle.spl_pieces.specs.SignViews.{sign_of}
 use Rattle.spl_lexer.specs.StateViews.{Comes, state_of, phase_of, found_at, anywhere}
 use Rattle.spl_lexer.proofs.PhaseLemmas.{before_name_fed, inside_fed}
 use Rattle.spl_lexer.proofs.state.State.take.Goals as goal
