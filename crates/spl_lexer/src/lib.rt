@@ -9,5 +9,7 @@ mod reserved;
 mod segments;
 mod signs;
 mod state;
+#[cfg(test)]
+mod tests;
 
 pub use lexer::tokens;
