@@ -1,5 +1,5 @@
 -- A look-up in the table of DEFINEs is one in its list.
-use Rattle.std.proofs.Common.{◌≡◌, ℕ, Bool, true, false, cond, nat_eq, List, [], ◌∷◌, ◌++◌, map, Option, Some, None, Vec, refl, sym, ap, ◌∙◌}
+use Rattle.std.proofs.Common.{◌≡◌, ℕ, Bool, true, false, cond, nat_eq, List, [], ◌∷◌, map, Option, Some, None, Vec, refl, ◌∙◌}
 use Rattle.std.specs.Prelude.{option_map}
 use Rattle.std.specs.Option.{option_copied}
 use Rattle.std.specs.Borrow.{Bor}
@@ -9,7 +9,7 @@ use lib.Pointwise.{pointwise}
 use Rattle.arrayvec.specs.ArrayVec.{ArrayVec}
 use Rattle.spl_tree.specs.declared.tokens.What.{What}
 use Rattle.spl_cuts.specs.Signs.{Sign}
-use Rattle.spl_cuts.specs.Defines.{Define, defined}
+use Rattle.spl_cuts.specs.Defines.{defined}
 use Rattle.spl_cuts.proofs.Fronts.{mapped_none}
 use Rattle.spl_pieces.specs.SignViews.{sign_of}
 use Rattle.spl_lexer.specs.DefineViews.{define_of}

@@ -1,5 +1,5 @@
 -- What a token makes of a state in which the phase is told apart.
-use Rattle.std.proofs.Common.{◌≡◌, ℕ, Bool, true, false, List, [], ◌∷◌, ◌++◌, map, Option, Some, None, refl, ap, ◌∙◌}
+use Rattle.std.proofs.Common.{◌≡◌, ℕ, Bool, true, false, List, [], ◌∷◌, ◌++◌, Option, Some, None, refl, ap, ◌∙◌}
 use Rattle.std.specs.Prelude.{if◌then◌else◌}
 use Rattle.spl_cuts.specs.Signs.{Sign, word, number, wide, chars, mark, stop, Found}
 use Rattle.spl_cuts.specs.Defines.{State, Phase, inside, is_reserved, defined, use_of, is_mark, is_define, hash}

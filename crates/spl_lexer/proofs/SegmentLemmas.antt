@@ -1,14 +1,14 @@
 -- A name in the set of names, and its number, are those of the list of names.
-use Rattle.std.proofs.Common.{◌≡◌, ℕ, zero, suc, ◌+◌, ◌<◌, ◌≤◌, Bool, true, false, cond, nat_eq, List, [], ◌∷◌, ◌++◌, map, length, get_or, refl, sym, ap, ◌∙◌, arith, length-append}
+use Rattle.std.proofs.Common.{◌≡◌, ℕ, suc, ◌+◌, ◌<◌, ◌≤◌, Bool, true, false, cond, nat_eq, List, [], ◌∷◌, ◌++◌, map, length, get_or, refl, sym, ap, ◌∙◌, arith}
 use Rattle.std.specs.Prelude.{◌||◌, not, if◌then◌else◌}
-use Rattle.std.specs.List.{list_any, prefix_len, position_or_len}
+use Rattle.std.specs.List.{list_any, position_or_len}
 use Rattle.std.specs.Cmp.Lexicographic.{same_text}
-use Rattle.std.proofs.lemmas.List.{map_push, get_or_append_left, get_or_push}
+use Rattle.std.proofs.lemmas.List.{map_push, get_or_append_left}
 use lib.Pointwise.{pointwise}
 use Rattle.arrayvec.specs.ArrayVec.{ArrayVec}
 use Rattle.indexmap.specs.IndexSet.{insert_key}
 use Rattle.spl_tree.specs.declared.tokens.Token.{Token}
-use Rattle.spl_cuts.specs.Signs.{Found, Placed, Listed}
+use Rattle.spl_cuts.specs.Signs.{Found, Placed}
 use Rattle.spl_cuts.specs.Cutting.{has_name, with_name, with_names, number_of, placed}
 use Rattle.spl_cuts.proofs.FewSegments.{same_self, longer_with, with_behind}
 use Rattle.spl_pieces.specs.SignViews.{sign_of}

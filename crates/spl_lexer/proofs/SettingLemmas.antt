@@ -1,5 +1,5 @@
 -- Options put in force one after the other.
-use Rattle.std.proofs.Common.{◌≡◌, ℕ, Bool, true, false, List, [], ◌∷◌, refl, ap, ◌∙◌}
+use Rattle.std.proofs.Common.{◌≡◌, Bool, true, false, List, [], ◌∷◌, refl, ap}
 use Rattle.std.specs.Prelude.{◌||◌}
 use Rattle.spl_cuts.specs.Commands.{Setting, segment, subprogram, other, segment_after, has_subprogram}
 use Rattle.spl_cuts.specs.Cutting.{Here}

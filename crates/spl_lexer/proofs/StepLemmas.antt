@@ -3,13 +3,13 @@
 -- 2. what it gives is added as a state takes it            (adds_of)
 -- 3. so room for segments and places is left behind        (left_behind)
 -- 4. and what is left is read as the whole, faults with it (reads_on, turn_fails, add_fails)
-use Rattle.std.proofs.Common.{◌≡◌, ℕ, zero, suc, ◌+◌, ◌-◌, ◌*◌, ◌<◌, ◌≤◌, Bool, true, false, List, [], ◌∷◌, ◌++◌, length, map, take, drop, Option, Some, None, refl, sym, ap, subst, ◌∙◌, arith, length-append, length-drop, length-take-le}
+use Rattle.std.proofs.Common.{◌≡◌, ℕ, ◌+◌, ◌<◌, ◌≤◌, Bool, true, false, List, [], ◌∷◌, ◌++◌, length, map, take, drop, Option, refl, sym, ap, subst, ◌∙◌, arith, length-append, length-drop, length-take-le}
 use Rattle.std.specs.Prelude.{nat_lt, Result, Ok, Err, if◌then◌else◌, ◌==◌}
-use Rattle.std.proofs.lemmas.List.{drop-map, length-map}
+use Rattle.std.proofs.lemmas.List.{drop-map}
 use Rattle.spl_tree.specs.declared.names_and_places.At.{At}
 use Rattle.spl_cuts.specs.declared.faults.LexKind.{LexKind}
 use Rattle.spl_cuts.specs.declared.faults.LexKind.TheVariants as k
-use Rattle.spl_cuts.specs.Signs.{Sign, Found, Listed}
+use Rattle.spl_cuts.specs.Signs.{Found}
 use Rattle.spl_cuts.specs.Bytes.{blanked, past, past_all}
 use Rattle.spl_cuts.specs.Pieces.{Item, nothing, token, settings, Stands}
 use Rattle.spl_cuts.specs.Defines.{State, Takes}

@@ -1,5 +1,5 @@
 -- What was found before a place in a text, as the cutting of texts sees it.
-use Rattle.std.specs.Prelude.{ℕ, ◌≡◌, ◌≤◌, List, [], None, map, Result, Ok, Err}
+use Rattle.std.specs.Prelude.{◌≡◌, ◌≤◌, List, [], None, map, Result, Ok, Err}
 use Rattle.spl_tree.specs.declared.names_and_places.At.{At}
 use Rattle.spl_tree.specs.declared.names_and_places.Name.{Name}
 use Rattle.spl_tree.specs.declared.tokens.What.{What}

@@ -1,5 +1,5 @@
 -- One token more, at the same place and in the same segment.
-use Rattle.std.proofs.Common.{◌≡◌, ◌≤◌, ◌++◌, ◌∷◌, [], length, get_or, sym, ap, ◌∙◌, arith, List, ℕ}
+use Rattle.std.proofs.Common.{◌≡◌, ◌++◌, ◌∷◌, [], length, get_or, ap, ◌∙◌, arith, List, ℕ}
 use Rattle.spl_cuts.specs.Signs.{Sign, Found}
 use Rattle.spl_cuts.specs.Cutting.{with_name, with_names}
 use Rattle.spl_pieces.specs.SignViews.{sign_of}

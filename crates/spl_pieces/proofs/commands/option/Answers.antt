@@ -1,9 +1,8 @@
 -- The option with these sides, by what they hold.
-use Rattle.std.proofs.Common.{◌≡◌, ℕ, map, ap, ◌∙◌, List, Option}
+use Rattle.std.proofs.Common.{◌≡◌, ℕ, map, ap, ◌∙◌, List}
 use Rattle.std.specs.Prelude.{option_map}
 use Rattle.std.proofs.lemmas.Result.{IfOk-weaker}
 use Rattle.spl_cuts.specs.Commands.{option, setting, only, words}
-use Rattle.spl_pieces.specs.declared.commands.Setting.{Setting}
 use Rattle.spl_pieces.specs.PieceViews.{setting_of}
 use Rattle.spl_pieces.proofs.CommandLemmas.{sides_seen}
 use Rattle.spl_pieces.proofs.commands.option.Goals as goal

@@ -1,5 +1,5 @@
 -- The options so far, and one text more.
-use Rattle.std.proofs.Common.{◌≡◌, ◌+◌, map, sym, ap, ◌∙◌, arith, List, Option}
+use Rattle.std.proofs.Common.{◌+◌, map, sym, ap, ◌∙◌, arith, List, Option}
 use Rattle.std.specs.Prelude.{option_map}
 use Rattle.std.proofs.lemmas.List.{map_push}
 use Rattle.spl_cuts.specs.Commands as ct

@@ -1,5 +1,5 @@
 -- One byte more of a string: the second of two quotes, a quote that may end it, or another character.
-use Rattle.std.proofs.Common.{◌≡◌, true, false, ◌+◌, ◌++◌, ◌∷◌, [], get_or, drop, sym, refl, ap, ◌∙◌, arith, List, ℕ, Bool}
+use Rattle.std.proofs.Common.{true, false, ◌+◌, ◌++◌, ◌∷◌, [], get_or, drop, sym, refl, ◌∙◌, arith}
 use Rattle.std.proofs.lemmas.Bool.Decides.{nat_tests}
 use Rattle.spl_pieces.proofs.SizeLemmas.{same_front, string_quote, string_twice, string_char}
 use Rattle.spl_pieces.proofs.pieces.string_from.Goals.{then-quoted+else-b-ne34+in_ok-push, else-quoted+then-b-eq34, else-quoted+else-b-eq34+then-in_line+in_ok-push-2}

@@ -1,5 +1,5 @@
 -- The piece lies within the text.
-use Rattle.std.proofs.Common.{◌≡◌, sym, arith}
+use Rattle.std.proofs.Common.{sym}
 use Rattle.std.proofs.lemmas.List.{length-take-le}
 use Rattle.spl_pieces.specs.PieceViews.{item_of}
 use Rattle.spl_pieces.proofs.TurnLemmas.{piece_within}

@@ -1,5 +1,5 @@
 -- A name that is not in the table goes last.
-use Rattle.std.proofs.Common.{◌≡◌, ◌∷◌, ◌++◌, [], map, nat_eq, sym, ap, ◌∙◌, List, ℕ, Vec}
+use Rattle.std.proofs.Common.{◌∷◌, ◌++◌, [], map, nat_eq, ap, ◌∙◌, List, ℕ, Vec}
 use Rattle.std.specs.declared.alloc.Global.{Global}
 use Rattle.std.proofs.lemmas.List.{map_push}
 use lib.Pointwise.{pointwise}

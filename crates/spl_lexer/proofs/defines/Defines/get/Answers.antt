@@ -1,5 +1,5 @@
 -- A look-up in the table is one in its list.
-use Rattle.std.proofs.Common.{◌≡◌, sym, ap, ◌∙◌, List}
+use Rattle.std.proofs.Common.{ap, ◌∙◌, List}
 use Rattle.spl_cuts.specs.Defines.{Define, defined}
 use Rattle.spl_lexer.proofs.DefineLemmas.{copied_signs, lookup_defined, signs_of}
 use Rattle.std.specs.Prelude.{option_map}

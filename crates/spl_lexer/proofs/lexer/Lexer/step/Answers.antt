@@ -1,5 +1,5 @@
 -- A fault is the piece's, or that of what it gives; else what is left is read as before.
-use Rattle.std.proofs.Common.{◌≡◌, take, drop, sym, ap, ◌∙◌, arith, List, ℕ}
+use Rattle.std.proofs.Common.{take, ap, ◌∙◌, List, ℕ}
 use Rattle.std.proofs.lemmas.List.{take_rest}
 use Rattle.spl_cuts.specs.Cutting.{Here, after}
 use Rattle.spl_pieces.specs.PieceViews.{item_of}

@@ -1,5 +1,5 @@
 -- The tokens and names are those of the list.
-use Rattle.std.proofs.Common.{◌≡◌, sym, ap, ◌∙◌, map, List, ℕ}
+use Rattle.std.proofs.Common.{sym, ap, ◌∙◌, map, List, ℕ}
 use Rattle.spl_cuts.specs.Signs.{Found, Listed}
 use Rattle.spl_lexer.specs.TokenViews.{placed_of, list_of}
 use Rattle.spl_lexer.proofs.SegmentLemmas.{list_numbered}

@@ -1,5 +1,5 @@
 -- A token more, with the number of its segment.
-use Rattle.std.proofs.Common.{◌≡◌, ◌<◌, ◌++◌, ◌∷◌, [], length, sym, ap, ◌∙◌, arith, List, ℕ}
+use Rattle.std.proofs.Common.{◌≡◌, ◌<◌, ◌++◌, ◌∷◌, [], length, ap, ◌∙◌, arith, List, ℕ}
 use Rattle.spl_tree.specs.declared.tokens.Token.{Token}
 use Rattle.spl_cuts.specs.Signs.{Found}
 use Rattle.spl_cuts.specs.Cutting.{number_of, with_name}

@@ -1,6 +1,5 @@
 -- The set of names is the list of their letters.
-use Rattle.std.proofs.Common.{◌≡◌, sym, ap, ◌∙◌, List, ℕ}
-use Rattle.arrayvec.specs.ArrayVec.{ArrayVec}
+use Rattle.std.proofs.Common.{sym, ap, ◌∙◌, List, ℕ}
 use Rattle.spl_cuts.specs.Cutting as cu
 use Rattle.spl_lexer.proofs.SegmentLemmas.{texts, insert_with, insert_number}
 use Rattle.spl_lexer.proofs.segments.Segments.number.Goals as goal

@@ -1,5 +1,5 @@
 -- The phase that is taken out of the state does not matter.
-use Rattle.std.proofs.Common.{◌≡◌, map, refl, sym, ap, subst, Option}
+use Rattle.std.proofs.Common.{map, refl, sym, ap, subst, Option}
 use Rattle.spl_cuts.specs.Defines as df
 use Rattle.spl_cuts.specs.Reading as rd
 use Rattle.spl_pieces.specs.SignViews.{sign_of}
