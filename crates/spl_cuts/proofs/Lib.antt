@@ -8,3 +8,4 @@ pub mod Turns
 pub mod TextReads
 pub mod TextCuts
 pub mod FewSegments
+pub mod Fixed

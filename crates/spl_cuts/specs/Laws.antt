@@ -1,9 +1,11 @@
 -- The laws of cutting: what is read of a text is what it is cut into, or its first fault.
-use Rattle.std.specs.Prelude.{ℕ, ◌≡◌, ◌+◌, ◌*◌, ◌≤◌, List, length, Ok, Err}
+use Rattle.std.specs.Prelude.{ℕ, ◌≡◌, ◌+◌, ◌*◌, ◌<◌, ◌≤◌, List, length, take, Ok, Err}
 use Rattle.spl_tree.specs.declared.names_and_places.At.{At}
 use Rattle.spl_cuts.specs.declared.faults.LexKind.{LexKind}
+use Rattle.spl_cuts.specs.declared.faults.LexKind.TheVariants as k
 use Rattle.spl_cuts.specs.Signs.{Listed}
 use Rattle.spl_cuts.specs.Cutting.{Cuts, CutsWithin, Bad, FirstFault}
+use Rattle.spl_cuts.specs.FaultEnds.{EndsBehind}
 use Rattle.spl_cuts.specs.Reading.{read_text}
 
 -- a text is read as the list that it is cut into
@@ -45,3 +47,17 @@ FaultsAreUnique =
 -- each segment but the first takes a command line of at least 17 bytes
 abbrev pub SegmentsAreFew : Type 0
 SegmentsAreFew = (unit count : ℕ) (text : List ℕ) (x : Listed) → Cuts unit count text x → 17 * length x.segments ≤ 17 + length text
+
+-- the piece of a first fault ends somewhere
+abbrev pub FaultsEnd : Type 0
+FaultsEnd =
+    (unit limit : ℕ) (text : List ℕ) (kind : LexKind) (at : At) → FirstFault unit limit text kind at
+    → (size : ℕ) × EndsBehind unit limit text kind at size
+
+-- A text with the same bytes up to the end of that piece, and the same byte behind it, is not cut, unless the fault is that too
+-- many tokens arise, and then too many do in that text. Where the piece ends the text, the other text is the same.
+abbrev pub FaultsStand : Type 0
+FaultsStand =
+    (unit limit : ℕ) (text : List ℕ) (kind : LexKind) (at : At) (size : ℕ) → EndsBehind unit limit text kind at size
+    → (other : List ℕ) → take (size + 1) other ≡ take (size + 1) text → (count : ℕ) (x : Listed) → Cuts unit count other x
+    → (kind ≡ k.TooManyTokens) × (limit < count)

@@ -4,5 +4,6 @@ pub mod Commands
 pub mod Pieces
 pub mod Defines
 pub mod Cutting
+pub mod FaultEnds
 pub mod Reading
 pub mod Laws

@@ -1,5 +1,5 @@
 //! Laws of cutting, each as the contract of a function that does nothing.
-ghost use Rattle.spl_cuts.specs.Laws.{CutsAreRead, TextsAreCut, FaultsAreRead, FaultsAreFirst, CutsAreUnique, CutsAreSound, BadPiecesAreUnique, FaultsAreUnique, SegmentsAreFew};
+ghost use Rattle.spl_cuts.specs.Laws.{CutsAreRead, TextsAreCut, FaultsAreRead, FaultsAreFirst, CutsAreUnique, CutsAreSound, BadPiecesAreUnique, FaultsAreUnique, SegmentsAreFew, FaultsEnd, FaultsStand};
 
 /// A text is read as the list that it is cut into.
 pub fn cuts_are_read()
@@ -44,4 +44,15 @@ pub fn faults_are_unique()
 /// Each segment but the first takes a command line of at least 17 bytes.
 pub fn segments_are_few()
     ensures { SegmentsAreFew }
+{}
+
+/// The piece of a first fault ends somewhere in the text.
+pub fn faults_end()
+    ensures { FaultsEnd }
+{}
+
+/// A text that begins as one with a fault, up to the end of the fault's piece and one byte more, is not cut; or too many tokens
+/// arise in both.
+pub fn faults_stand()
+    ensures { FaultsStand }
 {}
