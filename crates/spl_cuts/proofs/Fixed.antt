@@ -259,8 +259,7 @@ faults_stand unit limit text _ _ _ (e.EndsBehind.byte {there} {s} good more rest
     let a = alike size (good ++ b ∷ []) (more ++ rest) (subst (λ (xs : List ℕ). Cut (start unit) fresh text there s xs) split cut) (omega (arith, m, long)) other same in
     absurd (has_byte good a.after other b a.cut na (cut_allowed w.cut refl))
 faults_stand unit limit text _ _ _ (e.EndsBehind.many {there} {s} {next} front rest y size cut few v al t m long) other same n x w =
-    let a = alike size front rest cut long other same in
-    (
+    let a = alike size front rest cut long other same in (
       refl,
       too_many (record {
         there = there;
