@@ -1,0 +1,126 @@
+-- From the texts of units to their run: what is said of some programs, each by its text.
+use Rattle.std.specs.Prelude.{ℕ, suc, ◌≡◌, List, [], ◌∷◌, ◌++◌, map, get_or, codes, Option, Some, None, Result, Ok, Err}
+use Prim.Native.String.{String}
+use Rattle.spl_tree.specs.declared.names_and_places.At.{At}
+use Rattle.spl_tree.specs.declared.symbols.Symbol.{Symbol}
+use Rattle.spl_tree.specs.declared.symbols.Symbol.TheVariants as symbol
+use Rattle.spl_tree.specs.declared.symbols.Reserved.TheVariants as reserved
+use Rattle.spl_tree.specs.Symbols.{Lexeme, symbol_among, reserved_words, mark_symbols}
+use Rattle.spl_tree.specs.DeclarationTrees.{UnitTree}
+use Rattle.spl_cuts.specs.Signs.{Sign, word, number, wide, chars, mark, stop, Placed, Listed}
+use Rattle.spl_cuts.specs.Reading.{read_text}
+use Rattle.spl_cuts.specs.declared.faults.LexKind.{LexKind}
+use Rattle.spl_grammar.specs.Readers.{Outcome, Got}
+use Rattle.spl_grammar.specs.ReadDeclarations as read
+use Rattle.spl_meaning.specs.Tables.{Source}
+use Rattle.spl_meaning.specs.States.{Begun}
+use Rattle.spl_meaning.specs.Runs.{Seat, Standing, Point, alone, begins}
+
+-- ---- a text as a unit
+
+-- a token as the grammar sees it
+abbrev pub sign_symbol : Sign → Symbol
+sign_symbol (word letters) = symbol_among reserved_words letters
+sign_symbol (number v) = symbol.Number v
+sign_symbol (wide v) = symbol.Wide v
+sign_symbol (chars bytes) = symbol.Text
+sign_symbol (mark m) = get_or mark_symbols m (symbol.Word reserved.Unused)
+sign_symbol stop = symbol.Stop
+
+abbrev pub sign_letters : Sign → List ℕ
+sign_letters (word letters) = letters
+sign_letters (chars bytes) = bytes
+sign_letters _ = []
+
+abbrev pub lexeme : Placed → Lexeme
+lexeme t = record { symbol = sign_symbol t.what; letters = sign_letters t.what; at = t.at; segment = t.segment }
+
+abbrev pub source_with : Listed → Outcome UnitTree → Option Source
+source_with x (Got u rest) = Some (record { subprogram = x.subprogram; segments = x.segments; tree = u })
+source_with x _ = None
+
+abbrev pub source_listed : Result Listed (LexKind × At) → Option Source
+source_listed (Ok x) = source_with x (read.unit 64 (map lexeme x.tokens))
+source_listed (Err fault) = None
+
+-- the unit that a text spells, the number of the unit first
+abbrev pub source_of : ℕ → List ℕ → Option Source
+source_of unit text = source_listed (read_text unit 262144 text)
+
+abbrev pub source_before : Option Source → Option (List Source) → Option (List Source)
+source_before (Some u) (Some us) = Some (u ∷ us)
+source_before _ _ = None
+
+-- the units that texts spell, with something before the first
+abbrev pub sources_from : ℕ → List ℕ → List String → Option (List Source)
+sources_from unit front [] = Some []
+sources_from unit front (t ∷ ts) = source_before (source_of unit (front ++ codes t)) (sources_from (suc unit) [] ts)
+
+-- ---- what is said of a run
+
+-- A program by the texts of its units, what its session is given, a number of steps, and the point at which its run then is.
+pub record Known : Type 0 where
+  -- what stands before the first text
+  pub front : String
+  pub texts : List String
+  pub stack : ℕ
+  pub extra : ℕ
+  pub room : ℕ
+  pub lines : List String
+  pub steps : ℕ
+  pub printed : List ℕ
+  pub standing : Standing
+
+-- a program of one unit in the usual seat, which prints nothing and is there after some thousand steps
+abbrev pub usual : String → Standing → Known
+usual text standing =
+    record { front = ""; texts = text ∷ []; stack = 1024; extra = 0; room = 65536; lines = []; steps = 9999; printed = []; standing = standing }
+
+-- the same behind some general declarations
+abbrev pub general : String → Standing → Known
+general text standing = record (usual text standing) {
+  front = "BEGIN LOGICAL ARRAY W(0:39); BYTE ARRAY B(*)=W; INTEGER I,J,K,N; LOGICAL L; INTRINSIC PRINT,READ,ASCII,DASCII,BINARY,DBINARY,TERMINATE,QUIT; ";
+}
+
+abbrev pub seat_of : Known → Seat
+seat_of k = record { stack = k.stack; extra = k.extra; room = k.room; lines = map codes k.lines }
+
+abbrev pub point_with : Option (List Source) → Seat → ℕ → Option Point
+point_with None seat n = None
+point_with (Some us) seat n = Some (alone us seat n)
+
+-- the point of the texts' run
+abbrev pub known_point : Known → Option Point
+known_point k = point_with (sources_from 1 (codes k.front) k.texts) (seat_of k) k.steps
+
+abbrev pub IsSo : Known → Type 0
+IsSo k = known_point k ≡ Some (record { printed = k.printed; standing = k.standing })
+
+-- each of these runs is as is said of it
+abbrev pub AllRunSo : List Known → Type 0
+AllRunSo [] = Unit {0}
+AllRunSo (k ∷ ks) = IsSo k × AllRunSo ks
+
+-- ---- what is said of the statements that a run begins
+
+-- A program, a number of steps, some addresses, and for each statement begun its line, its column and the words at these addresses.
+pub record KnownBegun : Type 0 where
+  pub text : String
+  pub steps : ℕ
+  pub addresses : List ℕ
+  pub begun : List (ℕ × ℕ × List (Option ℕ))
+
+abbrev pub seen_at : List ℕ → Begun → ℕ × ℕ × List (Option ℕ)
+seen_at addresses b = (b.at.line, b.at.column, map b.data'.mem addresses)
+
+abbrev pub begun_with : Option (List Source) → ℕ → List ℕ → Option (List (ℕ × ℕ × List (Option ℕ)))
+begun_with None n addresses = None
+begun_with (Some us) n addresses =
+    Some (map (seen_at addresses) (begins us (record { stack = 1024; extra = 0; room = 65536; lines = [] }) n))
+
+abbrev pub BeginsSo : KnownBegun → Type 0
+BeginsSo k = begun_with (sources_from 1 [] (k.text ∷ [])) k.steps k.addresses ≡ Some k.begun
+
+abbrev pub AllBegunSo : List KnownBegun → Type 0
+AllBegunSo [] = Unit {0}
+AllBegunSo (k ∷ ks) = BeginsSo k × AllBegunSo ks
