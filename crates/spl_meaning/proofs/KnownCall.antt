@@ -60,10 +60,6 @@ subroutine_of_a_procedure_uses_its_frame : IsSo known.subroutine_of_a_procedure_
 unfolding all
 subroutine_of_a_procedure_uses_its_frame = refl
 
-subroutine_parameter_just_in_reach : IsSo known.subroutine_parameter_just_in_reach
-unfolding all
-subroutine_parameter_just_in_reach = refl
-
 subroutine_with_a_parameter : IsSo known.subroutine_with_a_parameter
 unfolding all
 subroutine_with_a_parameter = refl
@@ -193,4 +189,4 @@ unfolding all
 double_result_by_a_subroutine = refl
 
 pub all_run : AllRunSo known.call_runs
-all_run = (byte_parameter_and_result, (double_parameter_and_result, (endless_recursion, (external_procedure_of_a_second_unit, (factorial_of_eight_overflows, (factorial_of_seven, (jump_out_of_two_loops_in_a_subroutine, (local_name_hides_global, (procedures_that_call_each_other, (recursion_that_just_fits, (recursion_until_stack_overflow, (result_is_zero_at_first, (stack_that_leaves_no_room, (subroutine_of_a_procedure_uses_its_frame, (subroutine_parameter_just_in_reach, (subroutine_with_a_parameter, (three_units_in_three_segments, (two_segments_take_turns, (operands_from_left_to_right, (extra_segment_holds_squares, (extra_segment_read_past_its_end, (locals_of_a_split_procedure_stay_on_the_stack, (no_extra_segment, (overflow_inside_a_split_procedure, (split_procedure_goes_round_and_out, (split_procedure_returns_early, (call_takes_a_step, (call_is_done, (local_words_take_steps, (local_words_are_done, (words_of_an_ended_call, (write_into_its_own_marker, (locals_are_zero_again, (jump_within_a_subroutine, (return_from_a_subroutine, (subroutine_calls_another, (subroutine_calls_itself, (result_of_the_procedure_in_a_subroutine, (value_dropped, (calls_print_from_left_to_right, (just_room_for_the_main_body, (no_room_for_the_main_body, (just_room_for_a_call, (no_room_for_a_call, (just_room_for_a_subroutine, (no_room_for_a_subroutine, (double_result_by_a_subroutine, tt)))))))))))))))))))))))))))))))))))))))))))))))
+all_run = (byte_parameter_and_result, (double_parameter_and_result, (endless_recursion, (external_procedure_of_a_second_unit, (factorial_of_eight_overflows, (factorial_of_seven, (jump_out_of_two_loops_in_a_subroutine, (local_name_hides_global, (procedures_that_call_each_other, (recursion_that_just_fits, (recursion_until_stack_overflow, (result_is_zero_at_first, (stack_that_leaves_no_room, (subroutine_of_a_procedure_uses_its_frame, (subroutine_with_a_parameter, (three_units_in_three_segments, (two_segments_take_turns, (operands_from_left_to_right, (extra_segment_holds_squares, (extra_segment_read_past_its_end, (locals_of_a_split_procedure_stay_on_the_stack, (no_extra_segment, (overflow_inside_a_split_procedure, (split_procedure_goes_round_and_out, (split_procedure_returns_early, (call_takes_a_step, (call_is_done, (local_words_take_steps, (local_words_are_done, (words_of_an_ended_call, (write_into_its_own_marker, (locals_are_zero_again, (jump_within_a_subroutine, (return_from_a_subroutine, (subroutine_calls_another, (subroutine_calls_itself, (result_of_the_procedure_in_a_subroutine, (value_dropped, (calls_print_from_left_to_right, (just_room_for_the_main_body, (no_room_for_the_main_body, (just_room_for_a_call, (no_room_for_a_call, (just_room_for_a_subroutine, (no_room_for_a_subroutine, (double_result_by_a_subroutine, tt))))))))))))))))))))))))))))))))))))))))))))))

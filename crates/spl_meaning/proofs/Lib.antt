@@ -5,3 +5,6 @@ pub mod KnownStatement
 pub mod KnownCall
 pub mod KnownEffect
 pub mod KnownBegun
+pub mod KnownFaults
+pub mod KnownRight
+pub mod KnownLimits

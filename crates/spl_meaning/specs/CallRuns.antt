@@ -61,10 +61,6 @@ abbrev pub subroutine_of_a_procedure_uses_its_frame : Known
 subroutine_of_a_procedure_uses_its_frame =
     general "INTEGER PROCEDURE F(A); VALUE A; INTEGER A; BEGIN INTEGER T; SUBROUTINE S(V); INTEGER V; BEGIN T:=T+A; V:=V+1; END; S(A); S(A); F:=T; END; QUIT(F(5)) END." (stands (Quit (pos 11)))
 
-abbrev pub subroutine_parameter_just_in_reach : Known
-subroutine_parameter_just_in_reach =
-    usual "BEGIN INTEGER K; INTRINSIC QUIT; INTEGER PROCEDURE F(A0,A1,A2,A3,A4,A5,A6,A7,A8,A9,A10,A11,A12,A13,A14,A15,A16,A17,A18,A19,A20,A21,A22,A23,A24,A25,A26,A27,A28,A29,A30,A31,A32,A33,A34,A35,A36,A37,A38,A39,A40,A41,A42,A43,A44,A45,A46,A47,A48,A49,A50,A51,A52); VALUE A0,A1,A2,A3,A4,A5,A6,A7,A8,A9,A10,A11,A12,A13,A14,A15,A16,A17,A18,A19,A20,A21,A22,A23,A24,A25,A26,A27,A28,A29,A30,A31,A32,A33,A34,A35,A36,A37,A38,A39,A40,A41,A42,A43,A44,A45,A46,A47,A48,A49,A50,A51,A52; INTEGER A0,A1,A2,A3,A4,A5,A6,A7,A8,A9,A10,A11,A12,A13,A14,A15,A16,A17,A18,A19,A20,A21,A22,A23,A24,A25,A26,A27,A28,A29,A30,A31,A32,A33,A34,A35,A36,A37,A38,A39,A40,A41,A42,A43,A44,A45,A46,A47,A48,A49,A50,A51,A52; F:=A52;\nINTEGER SUBROUTINE S(X0,X1,X2,X3,X4,X5,X6,X7,X8,X9); VALUE X0,X1,X2,X3,X4,X5,X6,X7,X8,X9; INTEGER X0,X1,X2,X3,X4,X5,X6,X7,X8,X9; S:=F(1,1,1,1,1,1,1,1,1,1,1,1,1,1,1,1,1,1,1,1,1,1,1,1,1,1,1,1,1,1,1,1,1,1,1,1,1,1,1,1,1,1,1,1,1,1,1,1,1,1,1,1,\nX0); QUIT(S(7,1,1,1,1,1,1,1,1,1)) END." (stands (Quit (pos 7)))
-
 abbrev pub subroutine_with_a_parameter : Known
 subroutine_with_a_parameter =
     general "INTEGER SUBROUTINE SQ(V); VALUE V; INTEGER V; SQ:=V*V; QUIT(SQ(5)+SQ(SQ(2))) END." (stands (Quit (pos 41)))
@@ -227,7 +223,6 @@ call_runs =
     ∷ result_is_zero_at_first
     ∷ stack_that_leaves_no_room
     ∷ subroutine_of_a_procedure_uses_its_frame
-    ∷ subroutine_parameter_just_in_reach
     ∷ subroutine_with_a_parameter
     ∷ three_units_in_three_segments
     ∷ two_segments_take_turns

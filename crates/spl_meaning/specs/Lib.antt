@@ -12,6 +12,12 @@ pub mod Values
 pub mod Statements
 pub mod Bodies
 pub mod Runs
+pub mod Faults
+pub mod ExpressionRules
+pub mod StatementRules
+pub mod DeclarationRules
+pub mod Sound
+pub mod Limits
 pub mod Programs
 pub mod ArithmeticRuns
 pub mod ReferenceRuns
@@ -19,3 +25,5 @@ pub mod StatementRuns
 pub mod CallRuns
 pub mod EffectRuns
 pub mod BegunRuns
+pub mod FaultRuns
+pub mod LimitRuns

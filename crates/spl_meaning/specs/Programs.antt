@@ -13,6 +13,9 @@ use Rattle.spl_cuts.specs.declared.faults.LexKind.{LexKind}
 use Rattle.spl_grammar.specs.Readers.{Outcome, Got}
 use Rattle.spl_grammar.specs.ReadDeclarations as read
 use Rattle.spl_meaning.specs.Tables.{Source}
+use Rattle.spl_meaning.specs.Faults.{Fault}
+use Rattle.spl_meaning.specs.Sound.{first_broken}
+use Rattle.spl_meaning.specs.Limits.{Full, first_full}
 use Rattle.spl_meaning.specs.States.{Begun}
 use Rattle.spl_meaning.specs.Runs.{Seat, Standing, Point, alone, begins}
 
@@ -76,7 +79,11 @@ abbrev pub usual : String → Standing → Known
 usual text standing =
     record { front = ""; texts = text ∷ []; stack = 1024; extra = 0; room = 65536; lines = []; steps = 9999; printed = []; standing = standing }
 
--- the same behind some general declarations
+-- some declarations for many programs
+abbrev pub general_declarations : String
+general_declarations = "BEGIN LOGICAL ARRAY W(0:39); BYTE ARRAY B(*)=W; INTEGER I,J,K,N; LOGICAL L; INTRINSIC PRINT,READ,ASCII,DASCII,BINARY,DBINARY,TERMINATE,QUIT; "
+
+-- the same behind these
 abbrev pub general : String → Standing → Known
 general text standing = record (usual text standing) {
   front = "BEGIN LOGICAL ARRAY W(0:39); BYTE ARRAY B(*)=W; INTEGER I,J,K,N; LOGICAL L; INTRINSIC PRINT,READ,ASCII,DASCII,BINARY,DBINARY,TERMINATE,QUIT; ";
@@ -124,3 +131,51 @@ BeginsSo k = begun_with (sources_from 1 [] (k.text ∷ [])) k.steps k.addresses 
 abbrev pub AllBegunSo : List KnownBegun → Type 0
 AllBegunSo [] = Unit {0}
 AllBegunSo (k ∷ ks) = BeginsSo k × AllBegunSo ks
+
+-- ---- what is said of rules and limits
+
+-- The texts of units, with the first rule that they break, or the first limit that they pass: its number, unit, line and column.
+pub record KnownFault : Type 0 where
+  pub front : String
+  pub texts : List String
+  pub rule : Option (ℕ × ℕ × ℕ × ℕ)
+  pub limit : Option (ℕ × ℕ × ℕ × ℕ)
+
+-- one unit that first breaks a rule, or passes a limit, at a place
+abbrev pub breaking : ℕ → ℕ → ℕ → ℕ → String → KnownFault
+breaking rule unit line column text =
+    record { front = ""; texts = text ∷ []; rule = Some (rule, unit, line, column); limit = None }
+
+abbrev pub passing : ℕ → ℕ → ℕ → ℕ → String → KnownFault
+passing limit unit line column text =
+    record { front = ""; texts = text ∷ []; rule = None; limit = Some (limit, unit, line, column) }
+
+abbrev pub told : ℕ → At → ℕ × ℕ × ℕ × ℕ
+told n at = (n, at.unit, at.line, at.column)
+
+abbrev pub fault_told : Option Fault → Option (ℕ × ℕ × ℕ × ℕ)
+fault_told None = None
+fault_told (Some f) = Some (told f.rule f.at)
+
+abbrev pub full_told : Option Full → Option (ℕ × ℕ × ℕ × ℕ)
+full_told None = None
+full_told (Some f) = Some (told f.limit f.at)
+
+abbrev pub findings : Option (List Source) → Option (Option (ℕ × ℕ × ℕ × ℕ) × Option (ℕ × ℕ × ℕ × ℕ))
+findings None = None
+findings (Some us) = Some (fault_told (first_broken us), full_told (first_full us))
+
+abbrev pub FaultIsSo : KnownFault → Type 0
+FaultIsSo k = findings (sources_from 1 (codes k.front) k.texts) ≡ Some (k.rule, k.limit)
+
+abbrev pub AllFaultsSo : List KnownFault → Type 0
+AllFaultsSo [] = Unit {0}
+AllFaultsSo (k ∷ ks) = FaultIsSo k × AllFaultsSo ks
+
+-- a known program breaks no rule and passes no limit
+abbrev pub IsRight : Known → Type 0
+IsRight k = findings (sources_from 1 (codes k.front) k.texts) ≡ Some (None, None)
+
+abbrev pub AllRight : List Known → Type 0
+AllRight [] = Unit {0}
+AllRight (k ∷ ks) = IsRight k × AllRight ks
