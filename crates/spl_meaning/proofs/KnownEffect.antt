@@ -176,6 +176,10 @@ print_of_no_data : IsSo known.print_of_no_data
 unfolding all
 print_of_no_data = refl
 
+code_behind_a_label : IsSo known.code_behind_a_label
+unfolding all
+code_behind_a_label = refl
+
 condition_code_of_a_read : IsSo known.condition_code_of_a_read
 unfolding all
 condition_code_of_a_read = refl
@@ -193,4 +197,4 @@ unfolding all
 extra_segment_is_not_the_stack = refl
 
 pub all_run : AllRunSo known.effect_runs
-all_run = (answer_of_a_move_downwards, (ascii_in_another_base, (ascii_in_both_bases, (byte_comparison_is_unsigned, (byte_comparisons, (dascii_in_both_bases, (length_below_the_stack, (logical_addition_passes_the_sign, (move_downwards, (move_spreads_a_byte, (move_while_with_capitals, (moves_while_letters_and_digits, (no_line_is_left, (number_of_a_second_unit, (number_texts_of_doubles, (number_texts_of_words, (number_texts_that_are_refused, (output_ends_with_the_room, (output_limit_exact, (output_limit_passed, (print_out_of_bounds, (prints_hello, (prints_words_bytes_and_an_empty_line, (quotes_inside_a_string, (reads_a_line_and_no_more, (reads_words_and_rounds_up, (scan_while_and_until, (single_byte_against_a_string_of_one, (string_comparison_and_bit_field, (string_moved_to_words, (terminal_lines_of_all_sorts, (before_the_print, (print_before_its_step, (print_and_its_step, (begin_of_the_quit, (quit_behind_the_print, (moved_elements_take_steps, (moved_elements_are_done, (compared_elements_take_steps, (move_of_nothing, (move_past_the_data, (move_to_bounds, (print_of_no_data, (condition_code_of_a_read, (condition_code_of_a_line, (reads_two_lines, (extra_segment_is_not_the_stack, tt)))))))))))))))))))))))))))))))))))))))))))))))
+all_run = (answer_of_a_move_downwards, (ascii_in_another_base, (ascii_in_both_bases, (byte_comparison_is_unsigned, (byte_comparisons, (dascii_in_both_bases, (length_below_the_stack, (logical_addition_passes_the_sign, (move_downwards, (move_spreads_a_byte, (move_while_with_capitals, (moves_while_letters_and_digits, (no_line_is_left, (number_of_a_second_unit, (number_texts_of_doubles, (number_texts_of_words, (number_texts_that_are_refused, (output_ends_with_the_room, (output_limit_exact, (output_limit_passed, (print_out_of_bounds, (prints_hello, (prints_words_bytes_and_an_empty_line, (quotes_inside_a_string, (reads_a_line_and_no_more, (reads_words_and_rounds_up, (scan_while_and_until, (single_byte_against_a_string_of_one, (string_comparison_and_bit_field, (string_moved_to_words, (terminal_lines_of_all_sorts, (before_the_print, (print_before_its_step, (print_and_its_step, (begin_of_the_quit, (quit_behind_the_print, (moved_elements_take_steps, (moved_elements_are_done, (compared_elements_take_steps, (move_of_nothing, (move_past_the_data, (move_to_bounds, (print_of_no_data, (code_behind_a_label, (condition_code_of_a_read, (condition_code_of_a_line, (reads_two_lines, (extra_segment_is_not_the_stack, tt))))))))))))))))))))))))))))))))))))))))))))))))

@@ -8,3 +8,4 @@ pub mod KnownBegun
 pub mod KnownFaults
 pub mod KnownRight
 pub mod KnownLimits
+pub mod KnownBounds

@@ -189,6 +189,11 @@ abbrev pub print_of_no_data : Known
 print_of_no_data =
     usual "BEGIN LOGICAL ARRAY W(0:1); INTRINSIC PRINT; PRINT(W,3,0) END." stray
 
+-- a test of the condition code may stand behind a labelled call
+abbrev pub code_behind_a_label : Known
+code_behind_a_label =
+    general "A: PRINT(W,0,%320); IF = THEN QUIT(3) END." (stands (Quit (pos 3)))
+
 -- no line is left: CCG
 abbrev pub condition_code_of_a_read : Known
 condition_code_of_a_read =
@@ -255,6 +260,7 @@ effect_runs =
     ∷ move_past_the_data
     ∷ move_to_bounds
     ∷ print_of_no_data
+    ∷ code_behind_a_label
     ∷ condition_code_of_a_read
     ∷ condition_code_of_a_line
     ∷ reads_two_lines

@@ -18,6 +18,7 @@ pub mod StatementRules
 pub mod DeclarationRules
 pub mod Sound
 pub mod Limits
+pub mod Bound
 pub mod Programs
 pub mod ArithmeticRuns
 pub mod ReferenceRuns
@@ -27,3 +28,4 @@ pub mod EffectRuns
 pub mod BegunRuns
 pub mod FaultRuns
 pub mod LimitRuns
+pub mod BoundRuns

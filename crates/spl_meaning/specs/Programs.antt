@@ -16,6 +16,7 @@ use Rattle.spl_meaning.specs.Tables.{Source}
 use Rattle.spl_meaning.specs.Faults.{Fault}
 use Rattle.spl_meaning.specs.Sound.{first_broken}
 use Rattle.spl_meaning.specs.Limits.{Full, first_full}
+use Rattle.spl_meaning.specs.Bound.{bound}
 use Rattle.spl_meaning.specs.States.{Begun}
 use Rattle.spl_meaning.specs.Runs.{Seat, Standing, Point, alone, begins}
 
@@ -77,7 +78,7 @@ pub record Known : Type 0 where
 -- a program of one unit in the usual seat, which prints nothing and is there after some thousand steps
 abbrev pub usual : String → Standing → Known
 usual text standing =
-    record { front = ""; texts = text ∷ []; stack = 1024; extra = 0; room = 65536; lines = []; steps = 9999; printed = []; standing = standing }
+    record { front = ""; texts = text ∷ []; stack = 1024; extra = 0; room = 16384; lines = []; steps = 9999; printed = []; standing = standing }
 
 -- some declarations for many programs
 abbrev pub general_declarations : String
@@ -123,7 +124,7 @@ seen_at addresses b = (b.at.line, b.at.column, map b.data'.mem addresses)
 abbrev pub begun_with : Option (List Source) → ℕ → List ℕ → Option (List (ℕ × ℕ × List (Option ℕ)))
 begun_with None n addresses = None
 begun_with (Some us) n addresses =
-    Some (map (seen_at addresses) (begins us (record { stack = 1024; extra = 0; room = 65536; lines = [] }) n))
+    Some (map (seen_at addresses) (begins us (record { stack = 1024; extra = 0; room = 16384; lines = [] }) n))
 
 abbrev pub BeginsSo : KnownBegun → Type 0
 BeginsSo k = begun_with (sources_from 1 [] (k.text ∷ [])) k.steps k.addresses ≡ Some k.begun
@@ -179,3 +180,22 @@ IsRight k = findings (sources_from 1 (codes k.front) k.texts) ≡ Some (None, No
 abbrev pub AllRight : List Known → Type 0
 AllRight [] = Unit {0}
 AllRight (k ∷ ks) = IsRight k × AllRight ks
+
+-- ---- what is said of bounds
+
+-- a unit's text, the name of a segment, and how many words it may have
+pub record KnownBound : Type 0 where
+  pub text : String
+  pub segment : String
+  pub words : ℕ
+
+abbrev pub bound_told : Option (List Source) → List ℕ → Option ℕ
+bound_told None x = None
+bound_told (Some us) x = Some (bound us x)
+
+abbrev pub BoundIsSo : KnownBound → Type 0
+BoundIsSo k = bound_told (sources_from 1 [] (k.text ∷ [])) (codes k.segment) ≡ Some k.words
+
+abbrev pub AllBoundsSo : List KnownBound → Type 0
+AllBoundsSo [] = Unit {0}
+AllBoundsSo (k ∷ ks) = BoundIsSo k × AllBoundsSo ks

@@ -1,6 +1,7 @@
 //! Rules and limits of known programs, each set as the contract of a function that does nothing. The values are of other programs or
 //! worked by hand.
-ghost use Rattle.spl_meaning.specs.Programs.{AllFaultsSo, AllRight};
+ghost use Rattle.spl_meaning.specs.Programs.{AllFaultsSo, AllRight, AllBoundsSo};
+ghost use Rattle.spl_meaning.specs.BoundRuns.{bound_runs};
 ghost use Rattle.spl_meaning.specs.ArithmeticRuns.{arithmetic_runs};
 ghost use Rattle.spl_meaning.specs.ReferenceRuns.{reference_runs};
 ghost use Rattle.spl_meaning.specs.StatementRuns.{statement_runs};
@@ -28,4 +29,9 @@ pub fn limits_are_counted()
     ensures units { AllLimitsSo limit_runs }
     ensures counts { AllCountsSo count_runs }
     ensures reach { AllReachSo reach_runs }
+{}
+
+/// How many words the segments of known programs may have.
+pub fn bounds_are_counted()
+    ensures { AllBoundsSo bound_runs }
 {}
