@@ -9,3 +9,9 @@ pub mod KnownFaults
 pub mod KnownRight
 pub mod KnownLimits
 pub mod KnownBounds
+pub mod Tame
+pub mod TameReferences
+pub mod TameElements
+pub mod TameValues
+pub mod TameStatements
+pub mod RunLaws

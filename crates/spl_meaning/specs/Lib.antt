@@ -29,3 +29,4 @@ pub mod BegunRuns
 pub mod FaultRuns
 pub mod LimitRuns
 pub mod BoundRuns
+pub mod Laws

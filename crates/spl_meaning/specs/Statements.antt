@@ -1,5 +1,5 @@
 -- What statements do. Each spends a step as it begins; so does each test of a loop. `d` is as large as the steps that are left and
--- bounds the turns of loops and the jumps within a list.
+-- bounds the jumps within a list; the turns of loops are bounded by one more.
 use Rattle.std.specs.Prelude.{ℕ, zero, suc, ◌+◌, ◌&&◌, Bool, true, false, if◌then◌else◌, int_lt, int_le, pos, List, [], ◌∷◌, Option, Some, None}
 use Rattle.hp_word.specs.Words.{signed, added}
 use Rattle.hp_word.specs.declared.arithmetic.Code.{Code}
@@ -120,10 +120,10 @@ effect_done h call d used (stat.Effect.move to (stat.Source.text bytes)) k s =
     then_go (located h call to k s) (λ p s1. moved_far p (moved_text bytes p s1))
 effect_done h call d used (stat.Effect.move to (stat.Source.class_of from c)) k s =
     then_go (located h call to k s) (λ p s1. then_go (located h call from (k + 1 + answer_words used) s1) (λ q s2.
-    moved_far p (moved_while d c p q s2)))
+    moved_far p (moved_while (suc d) c p q s2)))
 effect_done h call d used (stat.Effect.scan from until test) k s =
     then_go (located h call from k s) (λ p s1. then_go (value h call test (k + 1 + answer_words used) s1) (λ vs s2.
-    with_one vs s2 (λ w s3. moved_far p (scanned d until w p s3))))
+    with_one vs s2 (λ w s3. moved_far p (scanned (suc d) until w p s3))))
 
 -- ---- loops
 
@@ -170,7 +170,7 @@ abbrev pub for_loop : Here → Callee → ℕ → List ℕ → Tree → Trees �
 for_loop h call d x first step last body k s =
     then_go (value h call first k s) (λ vs s1. then_go (spot h x None s1) (λ p s2. then_go (store p vs s2) (λ _ s3.
     then_go (loop_step h call step (k + 1) s3) (λ us s4. then_go (value h call last (k + 2) s4) (λ ws s5.
-    with_one us s5 (λ u s6. with_one ws s6 (λ w s7. counting d p u w body s7)))))))
+    with_one us s5 (λ u s6. with_one ws s6 (λ w s7. counting (suc d) p u w body s7)))))))
 
 -- ---- labels
 
@@ -212,9 +212,9 @@ abbrev mutual
   run h call d (stat.Statement.if_test q then_part else_part at) k s =
       deciding h call q at k s (λ b s1. code_dropped (if b then run h call d then_part k s1 else run_all h call d else_part k s1))
   run h call d (stat.Statement.while_true e st at) k s =
-      beginning None s (λ s1. looping d (λ s2. condition h call e k s2) (λ s2. code_dropped (run h call d st k s2)) s1)
+      beginning None s (λ s1. looping (suc d) (λ s2. condition h call e k s2) (λ s2. code_dropped (run h call d st k s2)) s1)
   run h call d (stat.Statement.until_true st e at) k s =
-      beginning None s (λ s1. repeating d (λ s2. condition h call e k s2) (λ s2. code_dropped (run h call d st k s2)) s1)
+      beginning None s (λ s1. repeating (suc d) (λ s2. condition h call e k s2) (λ s2. code_dropped (run h call d st k s2)) s1)
   run h call d (stat.Statement.for_values x first step last st at) k s =
       beginning (Some at) s (λ s1. for_loop h call d x first step last (λ s2. code_dropped (run h call d st (k + 3) s2)) k s1)
   run h call d (stat.Statement.case_of e ss at) k s =
