@@ -22,6 +22,7 @@ with_segments u xs =
     let more = with_routines u xs (routines_of u) in
     if u.subprogram then more else with_name more (segment_name u u.tree.segment)
 
+-- the segments of units behind others
 abbrev pub segments_from : List (List ℕ) → List Source → List (List ℕ)
 segments_from xs [] = xs
 segments_from xs (u ∷ us) = segments_from (with_segments u xs) us

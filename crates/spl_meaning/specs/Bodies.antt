@@ -70,16 +70,20 @@ subroutine_body b s =
 abbrev pub own_table : Source → Table Sort
 own_table u = if u.subprogram then [] else unit_table u
 
+-- the procedures of all units, in order
 abbrev pub all_routines : List Source → List Routine
 all_routines [] = []
 all_routines (u ∷ us) = routines_of u ++ all_routines us
 
+-- the words of all globals
 abbrev pub global_words : List Source → ℕ
 global_words us = sum (λ u. list_words false (own_table u)) us
 
+-- the words of all OWN items
 abbrev pub own_words : List Source → ℕ
 own_words us = sum (λ r. list_words true (routine_table r)) (all_routines us)
 
+-- both make the primary area
 abbrev pub primary_words : List Source → ℕ
 primary_words us = global_words us + own_words us
 
@@ -87,6 +91,7 @@ primary_words us = global_words us + own_words us
 abbrev pub global_array_words : List Source → ℕ
 global_array_words us = sum (λ u. list_array_words false (own_table u)) us
 
+-- the words of OWN arrays' data
 abbrev pub own_array_words : List Source → ℕ
 own_array_words us = sum (λ r. list_array_words true (routine_table r)) (all_routines us)
 
@@ -149,6 +154,7 @@ pub record Named : Type 0 where
   pub name : List ℕ
   pub body : Body
 
+-- a program: its procedures, its main body where it has one, and its data
 pub record Program : Type 0 where
   pub procedures : List Named
   pub main : Option Body
@@ -171,6 +177,7 @@ own_cells own own_arrays (r ∷ rs) =
     (laid_routine true own own_arrays r).cells
     ++ own_cells (own + list_words true (routine_table r)) (own_arrays + list_array_words true (routine_table r)) rs
 
+-- the initial values of OWN items
 abbrev pub own_initials : ℕ → ℕ → List Routine → List Initial
 own_initials own own_arrays [] = []
 own_initials own own_arrays (r ∷ rs) =
@@ -200,6 +207,7 @@ pub record Reached : Type 0 where
   pub own : ℕ
   pub own_arrays : ℕ
 
+-- behind a unit
 abbrev pub reached_behind : Source → Reached → Reached
 reached_behind u at = record {
   primary = at.primary + list_words false (own_table u);
@@ -221,6 +229,7 @@ with_unit at u p =
       initials = (if u.subprogram then [] else l.initials) ++ own_initials at.own at.own_arrays rs ++ p.initials;
     }
 
+-- the units from one on, where the areas have come so far
 abbrev pub program_from : ℕ → Reached → List Source → Program
 program_from words at [] = record { procedures = []; main = None; words = words; cells = []; initials = [] }
 program_from words at (u ∷ us) = with_unit at u (program_from words (reached_behind u at) us)

@@ -14,6 +14,7 @@ use Rattle.spl_meaning.specs.Places.{sum}
 
 -- ---- weights: 24 for a node, and the words of its strings
 
+-- the weight of a node
 abbrev pub node : ℕ
 node = 24
 
@@ -21,6 +22,7 @@ node = 24
 abbrev pub string_words : List ℕ → ℕ
 string_words bytes = (length bytes + 1) / 2
 
+-- a constant
 abbrev pub constant_weight : Constant → ℕ
 constant_weight (tree.Constant.text bytes) = node + string_words bytes
 constant_weight _ = node
@@ -41,29 +43,35 @@ abbrev mutual
   weight (tree.Tree.transfer to e at) = node + weight e
   weight (tree.Tree.bytes op a b count at) = node + weight a + weight b + weight count
 
+  -- arguments, or an index
   pub trees_weight : Trees → ℕ
   trees_weight tree.Trees.none = 0
   trees_weight (tree.Trees.and e es) = weight e + trees_weight es
 
+-- a target is a node beside its reference
 abbrev pub target_weight : Target → ℕ
 target_weight (stat.Target.plain r) = node + weight r
 target_weight (stat.Target.field r start size) = node + weight r + constant_weight start + constant_weight size
 target_weight (stat.Target.address x at) = node
 
+-- what a MOVE moves
 abbrev pub source_weight : Moved → ℕ
 source_weight (stat.Source.counted r e) = node + weight r + weight e
 source_weight (stat.Source.text bytes) = node + string_words bytes
 source_weight (stat.Source.class_of r c) = node + weight r
 
+-- a MOVE or a SCAN
 abbrev pub effect_weight : Effect → ℕ
 effect_weight (stat.Effect.move r from) = node + weight r + source_weight from
 effect_weight (stat.Effect.scan r until e) = node + weight r + weight e
 
+-- what an IF tests
 abbrev pub test_weight : Test → ℕ
 test_weight (stat.Test.condition e) = node + weight e
 test_weight (stat.Test.code op) = node
 
 abbrev mutual
+  -- a statement
   pub statement_weight : Statement → ℕ
   statement_weight stat.Statement.empty = node
   statement_weight (stat.Statement.labelled x at s) = node + statement_weight s
@@ -82,20 +90,25 @@ abbrev mutual
   statement_weight (stat.Statement.do_effect e at) = node + effect_weight e
   statement_weight (stat.Statement.call x es at) = node + trees_weight es
 
+  -- statements in order
   pub statements_weight : Statements → ℕ
   statements_weight stat.Statements.none = 0
   statements_weight (stat.Statements.and s ss) = statement_weight s + statements_weight ss
 
+-- names in a list
 abbrev pub listed_weight : List Placed → ℕ
 listed_weight names = node * length names
 
+-- a heading with its lists
 abbrev pub heading_weight : Heading → ℕ
 heading_weight h = node + listed_weight h.names + listed_weight h.values + sum (λ (l : Spec). node + listed_weight l.names) h.specs
 
+-- the bounds of an array
 abbrev pub shape_weight : Shape → ℕ
 shape_weight (decl.Shape.array low high) = constant_weight low + constant_weight high
 shape_weight _ = 0
 
+-- an item with its bounds and initial values
 abbrev pub item_weight : Item → ℕ
 item_weight i = node + shape_weight i.shape + sum constant_weight i.first
 
@@ -103,6 +116,7 @@ item_weight i = node + shape_weight i.shape + sum constant_weight i.first
 abbrev pub equate_weight : Equal → ℕ
 equate_weight e = node + sum (λ (t : Term). constant_weight t.value) e.terms
 
+-- a subroutine is a declaration with a heading
 abbrev pub subroutine_weight : Heading → Statement → ℕ
 subroutine_weight h s = node + heading_weight h + statement_weight s
 
@@ -115,6 +129,7 @@ declaration_weight (decl.Declaration.label xs) = node + listed_weight xs
 declaration_weight (decl.Declaration.subroutine h s) = subroutine_weight h s
 declaration_weight _ = 0
 
+-- declarations in order
 abbrev pub declarations_weight : Declarations → ℕ
 declarations_weight decl.none = 0
 declarations_weight (decl.and d ds) = declaration_weight d + declarations_weight ds
@@ -123,6 +138,7 @@ declarations_weight (decl.and d ds) = declaration_weight d + declarations_weight
 abbrev pub routine_weight : Routine → ℕ
 routine_weight r = heading_weight r.heading + node + declarations_weight r.items + statements_weight (statements r.statements)
 
+-- subroutines in order
 abbrev pub subroutines_weight : List Subroutine → ℕ
 subroutines_weight ss = sum (λ s. subroutine_weight s.heading s.statement) ss
 
@@ -134,6 +150,7 @@ main_weight u =
 -- ---- the names that code calls
 
 abbrev mutual
+  -- all names in an expression, those of arguments before that of their call
   pub names_in : Tree → List (List ℕ)
   names_in (tree.Tree.number v) = []
   names_in (tree.Tree.wide v) = []
@@ -148,6 +165,7 @@ abbrev mutual
   names_in (tree.Tree.transfer to e at) = names_in e
   names_in (tree.Tree.bytes op a b count at) = names_in a ++ names_in b ++ names_in count
 
+  -- all names in arguments, or in an index
   pub names_among : Trees → List (List ℕ)
   names_among tree.Trees.none = []
   names_among (tree.Trees.and e es) = names_in e ++ names_among es
@@ -157,25 +175,30 @@ abbrev pub index_names : Tree → List (List ℕ)
 index_names (tree.Tree.named x es at) = names_among es
 index_names _ = []
 
+-- the names in a target
 abbrev pub target_names : Target → List (List ℕ)
 target_names (stat.Target.plain r) = index_names r
 target_names (stat.Target.field r start size) = index_names r
 target_names (stat.Target.address x at) = []
 
+-- the names in what a MOVE moves
 abbrev pub source_names : Moved → List (List ℕ)
 source_names (stat.Source.counted r e) = names_in r ++ names_in e
 source_names (stat.Source.text bytes) = []
 source_names (stat.Source.class_of r c) = names_in r
 
+-- the names in a MOVE or a SCAN
 abbrev pub effect_names : Effect → List (List ℕ)
 effect_names (stat.Effect.move r from) = names_in r ++ source_names from
 effect_names (stat.Effect.scan r until e) = names_in r ++ names_in e
 
+-- the names in a test
 abbrev pub test_names : Test → List (List ℕ)
 test_names (stat.Test.condition e) = names_in e
 test_names (stat.Test.code op) = []
 
 abbrev mutual
+  -- the names in a statement
   pub statement_names : Statement → List (List ℕ)
   statement_names stat.Statement.empty = []
   statement_names (stat.Statement.labelled x at s) = statement_names s
@@ -194,6 +217,7 @@ abbrev mutual
   statement_names (stat.Statement.do_effect e at) = effect_names e
   statement_names (stat.Statement.call x es at) = names_among es ++ x ∷ []
 
+  -- the names in statements in order
   pub statements_names : Statements → List (List ℕ)
   statements_names stat.Statements.none = []
   statements_names (stat.Statements.and s ss) = statement_names s ++ statements_names ss
@@ -205,10 +229,12 @@ pub record Want : Type 0 where
   pub gate : Bool
   pub name : List ℕ
 
+-- two flags are alike
 abbrev pub same_flag : Bool → Bool → Bool
 same_flag true b = b
 same_flag false b = not b
 
+-- whether a want is among some
 abbrev pub is_wanted : List Want → Want → Bool
 is_wanted [] w = false
 is_wanted (v ∷ vs) w = if same_flag v.gate w.gate && same_name v.name w.name then true else is_wanted vs w
@@ -222,6 +248,7 @@ abbrev pub stands_in : List (List ℕ) → List ℕ → Bool
 stands_in [] x = false
 stands_in (y ∷ ys) x = if same_name x y then true else stands_in ys x
 
+-- the wants behind a call of a name
 abbrev pub with_call : List (List ℕ) → List Want → Option Sort → List ℕ → List Want
 with_call here ws (Some (n.intrinsic i)) x = with_want ws (record { gate = true; name = x })
 with_call here ws (Some (n.procedure p)) x = if stands_in here x then ws else with_want ws (record { gate = false; name = x })
@@ -232,6 +259,7 @@ abbrev pub with_calls : List (List ℕ) → Names → List Want → List (List �
 with_calls here names ws [] = ws
 with_calls here names ws (x ∷ xs) = with_calls here names (with_call here ws (names x) x) xs
 
+-- the wants behind subroutines
 abbrev pub with_subroutines : List (List ℕ) → Names → List Want → List Subroutine → List Want
 with_subroutines here around ws [] = ws
 with_subroutines here around ws (s ∷ ss) =
@@ -248,12 +276,15 @@ abbrev pub among_segment : Source → List ℕ → List Routine → List Routine
 among_segment u x [] = []
 among_segment u x (r ∷ rs) = if same_name (segment_name u r.heading.segment) x then r ∷ among_segment u x rs else among_segment u x rs
 
+-- the procedures of a unit in a segment
 abbrev pub routines_in : Source → List ℕ → List Routine
 routines_in u x = among_segment u x (routines_of u)
 
+-- whether the main body of a unit stands in a segment
 abbrev pub has_main : Source → List ℕ → Bool
 has_main u x = not u.subprogram && same_name (segment_name u u.tree.segment) x
 
+-- the names of procedures
 abbrev pub names_of_routines : List Routine → List (List ℕ)
 names_of_routines [] = []
 names_of_routines (r ∷ rs) = r.heading.name ∷ names_of_routines rs
@@ -272,6 +303,7 @@ with_routines here ws (r ∷ rs) =
     (statements_names (statements r.statements)))
     rs
 
+-- the wants behind a main body
 abbrev pub with_main : List (List ℕ) → List Want → Source → List Want
 with_main here ws u =
     with_want
@@ -279,9 +311,11 @@ with_main here ws u =
     (statements_names (statements u.tree.statements)))
     (record { gate = true; name = codes "TERMINATE" })
 
+-- the wants behind a unit
 abbrev pub with_unit : List ℕ → List (List ℕ) → List Want → Source → List Want
 with_unit x here ws u = if has_main u x then with_main here (with_routines here ws (routines_in u x)) u else with_routines here ws (routines_in u x)
 
+-- the wants behind units
 abbrev pub wants_from : List ℕ → List (List ℕ) → List Want → List Source → List Want
 wants_from x here ws [] = ws
 wants_from x here ws (u ∷ us) = wants_from x here (with_unit x here ws u) us
@@ -296,6 +330,7 @@ own_entries x u =
 abbrev pub entries : List Source → List ℕ → ℕ
 entries us x = sum (own_entries x) us + length (wants_from x (names_in_segment us x) [] us)
 
+-- the weight of what a unit has in a segment
 abbrev pub unit_weight : List ℕ → Source → ℕ
 unit_weight x u = sum routine_weight (routines_in u x) + (if has_main u x then main_weight u else 0)
 

@@ -41,6 +41,7 @@ abbrev pub is_base : Bool → Option Sort → Bool
 is_base own (Some (n.array k base_own low high)) = not (is_byte_kind k) && (not own || base_own)
 is_base own _ = false
 
+-- whether a kind is DOUBLE
 abbrev pub is_double_kind : Kind → Bool
 is_double_kind kind.Double = true
 is_double_kind _ = false
@@ -68,10 +69,12 @@ abbrev pub is_wide : Constant → Bool
 is_wide (tree.Constant.wide minus v) = true
 is_wide _ = false
 
+-- an initial value of a kind
 abbrev pub initial_faults : Names → Kind → At → Constant → List Fault
 initial_faults names kind.Double at c = constant_faults names at c ++ unless (is_wide c) 15 at
 initial_faults names _ at c = constant_faults names at c ++ unless (not (is_wide c)) 14 at
 
+-- initial values in order
 abbrev pub initials_faults : Names → Kind → At → List Constant → List Fault
 initials_faults names k at [] = []
 initials_faults names k at (c ∷ cs) = initial_faults names k at c ++ initials_faults names k at cs
@@ -87,6 +90,7 @@ may_begin a own (decl.Shape.array low high) given = given == 0 || own || not a.i
 may_begin a own (decl.Shape.view base) given = given == 0
 may_begin a own _ given = true
 
+-- an item of a declaration, behind those in the table
 abbrev pub item_faults : Around → Table Sort → Bool → Kind → Item → List Fault
 item_faults a table own k i =
     twice table i.name i.at ++ shape_faults a table own k i.shape i.at
@@ -95,6 +99,7 @@ item_faults a table own k i =
     ++ unless (may_begin a own i.shape (length i.first)) 17 i.at
     ++ unless (not own || a.in_procedure) 17 i.at ++ unless (not own || not a.split) 27 i.at ++ unless (not a.subprogram) 28 i.at
 
+-- the items of a declaration
 abbrev pub items_faults : Around → Table Sort → Bool → Kind → List Item → List Fault
 items_faults a table own k [] = []
 items_faults a table own k (i ∷ is) =
@@ -102,6 +107,7 @@ items_faults a table own k (i ∷ is) =
 
 -- ---- EQUATE, INTRINSIC and LABEL
 
+-- the constants in a sum
 abbrev pub terms_faults : Names → At → List Term → List Fault
 terms_faults names at [] = []
 terms_faults names at (t ∷ ts) = constant_faults names at t.value ++ terms_faults names at ts
@@ -112,6 +118,7 @@ equate_faults names table e =
     twice table e.name e.at ++ terms_faults names e.at e.terms
     ++ unless (in_range (neg_ℤ (pos 32768)) (pos 65535) (sum_value names e.terms)) 14 e.at
 
+-- the items of an EQUATE
 abbrev pub equates_faults : Around → Table Sort → List Equal → List Fault
 equates_faults a table [] = []
 equates_faults a table (e ∷ es) =
@@ -123,6 +130,7 @@ intrinsics_faults table [] = []
 intrinsics_faults table (x ∷ xs) =
     twice table x.letters x.at ++ unless (is_some (intrinsic_named x.letters)) 26 x.at ++ intrinsics_faults (with_intrinsics table (x ∷ [])) xs
 
+-- the names of a LABEL
 abbrev pub labels_faults : Table Sort → List Placed → List Fault
 labels_faults table [] = []
 labels_faults table (x ∷ xs) = twice table x.letters x.at ++ labels_faults (with_labels table (x ∷ [])) xs
@@ -162,6 +170,7 @@ heading_faults split h =
 
 -- ---- headings that differ
 
+-- kinds by numbers, 0 for none
 abbrev pub kind_number : Option Kind → ℕ
 kind_number None = 0
 kind_number (Some kind.Integer) = 1
@@ -169,10 +178,12 @@ kind_number (Some kind.Logical) = 2
 kind_number (Some kind.Byte) = 3
 kind_number (Some kind.Double) = 4
 
+-- two flags are alike
 abbrev pub same_flag : Bool → Bool → Bool
 same_flag true b = b
 same_flag false b = not b
 
+-- parameters alike, one by one
 abbrev pub same_formals : List Formal → List Formal → Bool
 same_formals [] [] = true
 same_formals (f ∷ fs) (g ∷ gs) =
@@ -187,6 +198,7 @@ same_profile p q = kind_number p.result == kind_number q.result && same_flag p.s
 abbrev pub Waiting : Type 0
 Waiting = Table Profile
 
+-- a name taken off those that wait
 abbrev pub without : Waiting → List ℕ → Waiting
 without [] x = []
 without (w ∷ ws) x = if same_name x w.0 then ws else w ∷ without ws x
@@ -220,6 +232,7 @@ subroutine_scope sc h = record {
   is_main = false;
 }
 
+-- a subroutine in a scope
 abbrev pub subroutine_faults : Scope → Heading → Statement → List Fault
 subroutine_faults sc h s =
     heading_faults sc.split h ++ statement_faults (subroutine_scope sc h) [] false s ++ repeated 20 [] (all_labels s)
@@ -254,6 +267,7 @@ procedure_scope globals h items =
       is_main = false;
     }
 
+-- a procedure's own faults
 abbrev pub procedure_faults : Table Sort → Heading → Declarations → List Statement → List Fault
 procedure_faults globals h items ss =
     heading_faults h.split h
@@ -285,6 +299,7 @@ waiting_behind waiting (decl.Declaration.forward h) = (h.name, profile_of h) ∷
 waiting_behind waiting (decl.Declaration.procedure h items ss) = without waiting h.name
 waiting_behind waiting d = waiting
 
+-- the declarations of a unit
 abbrev pub globals_faults : Around → Scope → List Routine → Waiting → Table Sort → Declarations → List Fault
 globals_faults a sc others waiting table decl.none = []
 globals_faults a sc others waiting table (decl.and d ds) =
@@ -307,14 +322,17 @@ statement_place unit (stat.Statement.do_effect e at) = at
 statement_place unit (stat.Statement.call x es at) = at
 statement_place unit _ = unit
 
+-- whether a statement is empty
 abbrev pub is_empty_statement : Statement → Bool
 is_empty_statement stat.Statement.empty = true
 is_empty_statement _ = false
 
+-- the statements of a subprogram
 abbrev pub silent_faults : At → List Statement → List Fault
 silent_faults unit [] = []
 silent_faults unit (s ∷ ss) = unless (is_empty_statement s) 28 (statement_place unit s) ++ silent_faults unit ss
 
+-- the scope of a main body
 abbrev pub main_scope : Source → Scope
 main_scope u = record { names = find (unit_table u); is_local = λ x. true; results = []; split = false; is_main = true }
 

@@ -17,6 +17,7 @@ use Rattle.spl_meaning.specs.States.{State, Outcome, done, spent, strays, then_g
 abbrev pub next_spot : Spot → Spot
 next_spot p = record p { address = (p.address + 1) % 65536 }
 
+-- and the one before it
 abbrev pub previous_spot : Spot → Spot
 previous_spot p = record p { address = (p.address + 65535) % 65536 }
 
@@ -30,6 +31,7 @@ abbrev pub count_size : ℤ → ℕ
 count_size (pos n) = n
 count_size (negsuc n) = suc n
 
+-- whether a count is not negative
 abbrev pub is_upward : ℤ → Bool
 is_upward (pos n) = true
 is_upward (negsuc n) = false
@@ -66,16 +68,20 @@ as_words [] = []
 as_words (a ∷ []) = (256 * a + 32) ∷ []
 as_words (a ∷ b ∷ bs) = (256 * a + b) ∷ as_words bs
 
+-- a string as the elements of a kind
 abbrev pub text_elements : Kind → List ℕ → List ℕ
 text_elements kind.Byte bytes = bytes
 text_elements _ bytes = as_words bytes
 
+-- a string
 abbrev pub moved_text : List ℕ → Spot → State → Outcome Spot
 moved_text bytes to s = moved_list (text_elements to.kind bytes) to s
 
+-- a letter, capital or small
 abbrev pub is_letter : ℕ → Bool
 is_letter b = (nat_le 65 b && nat_le b 90) || (nat_le 97 b && nat_le b 122)
 
+-- a decimal digit
 abbrev pub is_digit : ℕ → Bool
 is_digit b = nat_le 48 b && nat_le b 57
 
@@ -105,6 +111,7 @@ abbrev pub is_passed : Bool → ℕ → ℕ → Bool
 is_passed true test b = not (b == test % 256) && not (b == test / 256)
 is_passed false test b = b == test % 256
 
+-- bytes while they are passed by, upwards
 abbrev pub scanned : ℕ → Bool → ℕ → Spot → State → Outcome Spot
 scanned zero until test from s = spent s
 scanned (suc d) until test from s =
@@ -124,6 +131,7 @@ compared up (suc n) p q s =
     stepping s (λ s1. then_go (read p s1) (λ bs s2. then_go (read q s2) (λ as' s3.
     with_one bs s3 (λ b s4. with_one as' s4 (λ a s5. told_apart b a s5 (λ s6. compared up n (neighbour up p) (neighbour up q) s6))))))
 
+-- as many as a word with its sign says
 abbrev pub compared_by : ℕ → Spot → Spot → State → Outcome Code
 compared_by count p q s = compared (is_upward (signed count)) (count_size (signed count)) p q s
 

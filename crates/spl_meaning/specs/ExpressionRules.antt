@@ -37,6 +37,7 @@ place_in around (tree.Tree.field e start size at) = at
 place_in around (tree.Tree.transfer k e at) = at
 place_in around (tree.Tree.bytes op a b count at) = at
 
+-- the place of a constant, or that of the part around it
 abbrev pub constant_place : At → Constant → At
 constant_place around (tree.Constant.name x at) = at
 constant_place around _ = around
@@ -52,10 +53,12 @@ fits _ e = not (is_double e)
 abbrev pub is_bits : Operand → Bool
 is_bits e = is_logical e || is_constant e || is_unknown e
 
+-- kinds that have no operation
 abbrev pub is_mixed : Class → Bool
 is_mixed mixed = true
 is_mixed _ = false
 
+-- two operands have an operation, or one of them is not known
 abbrev pub mixes : Operand → Operand → Bool
 mixes a b = is_unknown a || is_unknown b || not (is_mixed (class_of a b))
 
@@ -73,6 +76,7 @@ same_sort _ kind.Byte = false
 same_sort _ kind.Double = false
 same_sort _ _ = true
 
+-- a reference that may be none fits a parameter whose kind may be none
 abbrev pub passes : Option Kind → Option Kind → Bool
 passes None k = true
 passes (Some p) None = false
@@ -119,18 +123,22 @@ has_elements (Some (n.pointer k own)) = true
 has_elements (Some (n.array_parameter k)) = true
 has_elements _ = false
 
+-- whether a name is a pointer
 abbrev pub is_pointer : Option Sort → Bool
 is_pointer (Some (n.pointer k own)) = true
 is_pointer _ = false
 
+-- whether a name is a label
 abbrev pub is_label : Option Sort → Bool
 is_label (Some n.label) = true
 is_label _ = false
 
+-- whether a name is a subroutine
 abbrev pub is_subroutine : Option Sort → Bool
 is_subroutine (Some (n.subroutine p)) = true
 is_subroutine _ = false
 
+-- how many arguments or indices there are
 abbrev pub count : Trees → ℕ
 count tree.Trees.none = 0
 count (tree.Trees.and e es) = 1 + count es
@@ -151,6 +159,7 @@ variable_by sc x None None indices at = fault 1 at ∷ []
 variable_by sc x None (Some n.unknown) indices at = []
 variable_by sc x None (Some s) indices at = fault 3 at ∷ []
 
+-- a name where a variable has to be
 abbrev pub variable_faults : Scope → List ℕ → ℕ → At → List Fault
 variable_faults sc x indices at = variable_by sc x (variable_kind (sc.names x)) (sc.names x) indices at
 
@@ -172,10 +181,12 @@ abbrev pub name_by : Scope → List ℕ → Option Profile → ℕ → At → Li
 name_by sc x (Some p) given at = call_faults sc (sc.names x) p given true at
 name_by sc x None given at = uncalled_by sc x (sc.names x) given at
 
+-- the parameters of what is called
 abbrev pub formals_by : Option Profile → List Formal
 formals_by (Some p) = p.formals
 formals_by None = []
 
+-- whether a name can be called
 abbrev pub is_callable : Option Profile → Bool
 is_callable (Some p) = true
 is_callable None = false
@@ -197,18 +208,22 @@ is_open_sort None = true
 is_open_sort (Some n.unknown) = true
 is_open_sort _ = false
 
+-- whether an expression is a name that is not declared, or wrongly
 abbrev pub is_open : Names → Tree → Bool
 is_open names (tree.Tree.named x es at) = is_open_sort (names x)
 is_open names _ = false
 
+-- a value fits a parameter whose kind may be none
 abbrev pub value_fits : Option Kind → Operand → Bool
 value_fits None e = true
 value_fits (Some k) e = fits k e
 
+-- a parameter by reference
 abbrev pub is_reference_formal : Option Formal → Bool
 is_reference_formal None = false
 is_reference_formal (Some f) = not (by_value f)
 
+-- an expression that is a label
 abbrev pub is_label_name : Names → Tree → Bool
 is_label_name names (tree.Tree.named x es at) = is_label (names x)
 is_label_name names _ = false
@@ -243,6 +258,7 @@ binary_faults names op a b at =
 -- ---- expressions
 
 abbrev mutual
+  -- an expression, in a scope and in a part with this place
   pub faults : Scope → At → Tree → List Fault
   faults sc around (tree.Tree.number v) = []
   faults sc around (tree.Tree.wide v) = []
@@ -278,10 +294,12 @@ abbrev mutual
   located_faults sc (tree.Tree.named x es at) = variable_faults sc x (count es) at ++ indices_faults sc es at
   located_faults sc _ = []
 
+  -- indices in order
   pub indices_faults : Scope → Trees → At → List Fault
   indices_faults sc tree.Trees.none at = []
   indices_faults sc (tree.Trees.and e es) at = faults sc at e ++ single_faults sc.names at e ++ indices_faults sc es at
 
+  -- arguments in order, each with its parameter
   pub arguments_faults : Scope → List Formal → Trees → At → List Fault
   arguments_faults sc fs tree.Trees.none at = []
   arguments_faults sc fs (tree.Trees.and e es) at =

@@ -424,6 +424,11 @@ abbrev pub return_in_the_main_body : KnownFault
 return_in_the_main_body =
     breaking 25 1 1 30 "BEGIN INTEGER I; IF I=1 THEN RETURN END."
 
+-- the earlier place counts, not the lower rule
+abbrev pub earlier_column_before_lower_rule : KnownFault
+earlier_column_before_lower_rule =
+    breaking 25 1 1 18 "BEGIN INTEGER I; RETURN; J:=1 END."
+
 -- ---- rule 26
 
 abbrev pub unknown_intrinsic : KnownFault
@@ -574,6 +579,7 @@ fault_runs =
     ∷ scan_of_words
     ∷ comparison_of_words
     ∷ return_in_the_main_body
+    ∷ earlier_column_before_lower_rule
     ∷ unknown_intrinsic
     ∷ array_in_a_split_procedure
     ∷ global_in_a_split_procedure

@@ -7,6 +7,7 @@ pub record Fault : Type 0 where
   pub rule : ℕ
   pub at : At
 
+-- a rule and a place
 abbrev pub fault : ℕ → At → Fault
 fault rule at = record { rule = rule; at = at }
 
@@ -19,10 +20,12 @@ unless false rule at = fault rule at ∷ []
 abbrev pub is_lower : ℕ → ℕ → Bool → Bool
 is_lower a b if_same = nat_lt a b || (a == b && if_same)
 
+-- whether one fault comes before another
 abbrev pub is_before : Fault → Fault → Bool
 is_before f g =
     is_lower f.at.unit g.at.unit (is_lower f.at.line g.at.line (is_lower f.at.column g.at.column (nat_lt f.rule g.rule)))
 
+-- the earlier of two faults
 abbrev pub sooner : Option Fault → Fault → Option Fault
 sooner None f = Some f
 sooner (Some g) f = if is_before f g then Some f else Some g

@@ -13,6 +13,7 @@ pub data Operand : Type 0 where
   const : Operand
   unknown : Operand
 
+-- what a call gives
 abbrev pub result_of : Option Kind → Operand
 result_of (Some k) = of k
 result_of None = unknown
@@ -44,14 +45,17 @@ is_logical (of kind.Logical) = true
 is_logical (of kind.Byte) = true
 is_logical _ = false
 
+-- a constant of one word
 abbrev pub is_constant : Operand → Bool
 is_constant const = true
 is_constant _ = false
 
+-- DOUBLE
 abbrev pub is_double : Operand → Bool
 is_double (of kind.Double) = true
 is_double _ = false
 
+-- nothing is known of it
 abbrev pub is_unknown : Operand → Bool
 is_unknown unknown = true
 is_unknown _ = false
@@ -73,6 +77,7 @@ class_of a b =
     else if is_double a && is_double b then doubles
     else mixed
 
+-- the kind of the result of an operation
 abbrev pub class_operand : Class → Operand
 class_operand integers = of kind.Integer
 class_operand logicals = of kind.Logical
@@ -125,14 +130,17 @@ kind_of names (tree.Tree.bytes op a b count at) = of kind.Logical
 
 -- ---- widths, in words
 
+-- the words of a value of a kind
 abbrev pub width : Kind → ℕ
 width kind.Double = 2
 width _ = 1
 
+-- the words of an operand
 abbrev pub operand_width : Operand → ℕ
 operand_width (of k) = width k
 operand_width _ = 1
 
+-- the words of a result that may be none
 abbrev pub result_width : Option Kind → ℕ
 result_width None = 0
 result_width (Some k) = width k
@@ -150,10 +158,12 @@ variable_kind (Some (n.by_reference k)) = Some k
 variable_kind (Some (n.array_parameter k)) = Some k
 variable_kind _ = None
 
+-- the kind of what an expression names by itself
 abbrev pub reference_kind : Names → Tree → Option Kind
 reference_kind names (tree.Tree.named x es at) = variable_kind (names x)
 reference_kind names _ = None
 
+-- a kind that is BYTE
 abbrev pub is_byte : Option Kind → Bool
 is_byte (Some kind.Byte) = true
 is_byte _ = false

@@ -10,13 +10,16 @@ use Rattle.spl_tree.specs.DeclarationTrees.{Placed, Heading, Item, Declaration, 
 use Rattle.spl_meaning.specs.Tables.{Source}
 use Rattle.spl_meaning.specs.Limits.{Full, Sized, Use, passing, use_limits, first_among, first_full}
 
+-- the place with a number
 abbrev at : ℕ → At
 at n = record { unit = 1; line = 1; column = n }
 
+-- so many names from a number on
 abbrev names : ℕ → ℕ → List Placed
 names n zero = []
 names n (suc k) = record { letters = n ∷ []; at = at n } ∷ names (suc n) k
 
+-- an array of a kind, from 1 to a bound
 abbrev array : ℕ → Kind → ℕ → Declaration
 array n k high = decl.Declaration.data_items false k
     (record {
@@ -26,6 +29,7 @@ array n k high = decl.Declaration.data_items false k
       first = [];
     } ∷ [])
 
+-- a unit of declarations
 abbrev source : List Declaration → Source
 source ds = record {
   subprogram = false;
@@ -46,11 +50,13 @@ heading name first result count = record {
   segment = 0;
 }
 
+-- a procedure with an empty body
 abbrev procedure : Heading → List Declaration → Declaration
 procedure h ds = decl.Declaration.procedure h (declarations ds) []
 
 -- ---- what is said of them
 
+-- a unit, with the first limit that it passes
 pub record KnownLimit : Type 0 where
   pub unit : Source
   pub full : Option (ℕ × ℕ × ℕ)
@@ -60,13 +66,16 @@ abbrev pub full_seen : Option Full → Option (ℕ × ℕ × ℕ)
 full_seen None = None
 full_seen (Some f) = Some (f.limit, f.at.column, f.count)
 
+-- it is so
 abbrev pub LimitIsSo : KnownLimit → Type 0
 LimitIsSo k = full_seen (first_full (k.unit ∷ [])) ≡ k.full
 
+-- all of these are so
 abbrev pub AllLimitsSo : List KnownLimit → Type 0
 AllLimitsSo [] = Unit {0}
 AllLimitsSo (k ∷ ks) = LimitIsSo k × AllLimitsSo ks
 
+-- a unit of declarations, with what is said of it
 abbrev known : List Declaration → Option (ℕ × ℕ × ℕ) → KnownLimit
 known ds full = record { unit = source ds; full = full }
 
@@ -97,6 +106,7 @@ abbrev sizes : ℕ → ℕ → ℕ → List Sized
 sizes n zero words = []
 sizes n (suc k) words = record { at = at n; words = words } ∷ sizes (suc n) k words
 
+-- things with words, with where they first pass a number
 pub record KnownCount : Type 0 where
   pub limit : ℕ
   pub most : ℕ
@@ -104,16 +114,20 @@ pub record KnownCount : Type 0 where
   pub sized : List Sized
   pub full : Option (ℕ × ℕ × ℕ)
 
+-- it is so
 abbrev pub CountIsSo : KnownCount → Type 0
 CountIsSo k = full_seen (first_among None (passing k.limit k.most k.before k.sized)) ≡ k.full
 
+-- all of these are so
 abbrev pub AllCountsSo : List KnownCount → Type 0
 AllCountsSo [] = Unit {0}
 AllCountsSo (k ∷ ks) = CountIsSo k × AllCountsSo ks
 
+-- the same by its parts
 abbrev counted : ℕ → ℕ → ℕ → List Sized → Option (ℕ × ℕ × ℕ) → KnownCount
 counted limit most before sized full = record { limit = limit; most = most; before = before; sized = sized; full = full }
 
+-- counts at the edges of their limits
 abbrev pub count_runs : List KnownCount
 count_runs =
     -- 128 doubles are 256 words; a cell more passes
@@ -132,6 +146,7 @@ count_runs =
 
 -- ---- reach alone: a subroutine's parameters 1 to 10, of one word each, and its result 1001
 
+-- the heading of that subroutine
 abbrev ten : Heading
 ten = record {
   result = Some kind.Integer;
@@ -144,13 +159,16 @@ ten = record {
   segment = 0;
 }
 
+-- a use of a name, with whether it is out of reach
 pub record KnownReach : Type 0 where
   pub use' : Use
   pub full : Option (ℕ × ℕ × ℕ)
 
+-- it is so
 abbrev pub ReachIsSo : KnownReach → Type 0
 ReachIsSo k = full_seen (first_among None (use_limits ten k.use')) ≡ k.full
 
+-- all of these are so
 abbrev pub AllReachSo : List KnownReach → Type 0
 AllReachSo [] = Unit {0}
 AllReachSo (k ∷ ks) = ReachIsSo k × AllReachSo ks
@@ -160,6 +178,7 @@ abbrev reached : ℕ → ℕ → Bool → Option (ℕ × ℕ × ℕ) → KnownRe
 reached name waiting is_target full =
     record { use' = record { name = name ∷ []; at = at 88; waiting = waiting; is_target = is_target }; full = full }
 
+-- uses at the edge of reach
 abbrev pub reach_runs : List KnownReach
 reach_runs =
     -- the first of ten parameters stands 10 words below the return word's place

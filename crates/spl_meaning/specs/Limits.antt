@@ -45,10 +45,12 @@ sorted_items outer own k table [] = []
 sorted_items outer own k table (i ∷ is) =
     let s = shaped (within table outer) own k i.shape in (i.at, s) ∷ sorted_items outer own k (declared table i.name s) is
 
+-- the items of a declaration
 abbrev pub data_of : Names → Table Sort → Declaration → List (At × Sort)
 data_of outer table (decl.Declaration.data_items own k items) = sorted_items outer own k table items
 data_of outer table d = []
 
+-- the items of declarations in order
 abbrev pub all_data : Names → Table Sort → Declarations → List (At × Sort)
 all_data outer table decl.none = []
 all_data outer table (decl.and d ds) = data_of outer table d ++ all_data outer (with_declaration outer table d) ds
@@ -58,12 +60,15 @@ abbrev pub sized : Bool → (Sort → ℕ) → List (At × Sort) → List Sized
 sized own words [] = []
 sized own words (x ∷ xs) = record { at = x.0; words = where_own own words x.1 } ∷ sized own words xs
 
+-- a unit's items
 abbrev pub unit_data : Source → List (At × Sort)
 unit_data u = if u.subprogram then [] else all_data nothing_declared [] (declarations u.tree.items)
 
+-- a procedure's items
 abbrev pub routine_data : Routine → List (At × Sort)
 routine_data r = all_data (outer_names r) (parameters (formals_of r.heading)) r.items
 
+-- lists one behind the other
 abbrev pub joined : {A B : Type 0} → (A → List B) → List A → List B
 joined f [] = []
 joined f (a ∷ as') = f a ++ joined f as'
@@ -84,6 +89,7 @@ local_limits r =
 
 -- ---- parameters
 
+-- parameters with their words
 abbrev pub parameter_sizes : List Formal → List Sized
 parameter_sizes [] = []
 parameter_sizes (f ∷ fs) = record { at = f.at; words = formal_words f } ∷ parameter_sizes fs
@@ -94,6 +100,7 @@ heading_limits h = passing 3 59 (result_words (profile_of h)) (parameter_sizes (
 
 -- ---- uses of names, with the words that wait there
 
+-- a use of a name
 pub record Use : Type 0 where
   pub name : List ℕ
   pub at : At
@@ -101,10 +108,12 @@ pub record Use : Type 0 where
   -- whether it is assigned
   pub is_target : Bool
 
+-- the same by its parts
 abbrev pub use_of : List ℕ → At → ℕ → Bool → Use
 use_of x at k is_target = record { name = x; at = at; waiting = k; is_target = is_target }
 
 abbrev mutual
+  -- the uses in an expression, where so many words wait
   pub uses : Names → Tree → ℕ → List Use
   uses names (tree.Tree.number v) k = []
   uses names (tree.Tree.wide v) k = []
@@ -121,6 +130,7 @@ abbrev mutual
   uses names (tree.Tree.transfer to e at) k = uses names e k
   uses names (tree.Tree.bytes op a b count at) k = uses names a k ++ uses names b (k + 1) ++ uses names count (k + 2)
 
+  -- the uses in arguments, each of which waits for those behind it
   pub uses_among : Names → List Formal → Trees → ℕ → List Use
   uses_among names fs tree.Trees.none k = []
   uses_among names fs (tree.Trees.and e es) k = uses names e k ++ uses_among names (other_formals fs) es (k + argument_words (first_formal fs))
@@ -130,11 +140,13 @@ abbrev pub as_target : List Use → List Use
 as_target [] = []
 as_target (u ∷ us) = record u { is_target = true } ∷ us
 
+-- the uses in a target
 abbrev pub target_uses : Names → Target → ℕ → List Use
 target_uses names (stat.Target.plain r) k = as_target (uses names r k)
 target_uses names (stat.Target.field r start size) k = as_target (uses names r k)
 target_uses names (stat.Target.address x at) k = use_of x at k true ∷ []
 
+-- the uses in a MOVE or a SCAN
 abbrev pub effect_uses : Names → Bool → Effect → ℕ → List Use
 effect_uses names used (stat.Effect.move to (stat.Source.counted from size)) k =
     uses names to k ++ uses names from (k + 1 + answer_words used) ++ uses names size (k + 2 + answer_words used)
@@ -142,15 +154,18 @@ effect_uses names used (stat.Effect.move to (stat.Source.text bytes)) k = uses n
 effect_uses names used (stat.Effect.move to (stat.Source.class_of from c)) k = uses names to k ++ uses names from (k + 1 + answer_words used)
 effect_uses names used (stat.Effect.scan from until e) k = uses names from k ++ uses names e (k + 1 + answer_words used)
 
+-- the uses in a test
 abbrev pub test_uses : Names → Test → ℕ → List Use
 test_uses names (stat.Test.condition e) k = uses names e k
 test_uses names (stat.Test.code op) k = []
 
+-- the uses in the step of a loop
 abbrev pub step_uses : Names → Trees → ℕ → List Use
 step_uses names tree.Trees.none k = []
 step_uses names (tree.Trees.and e es) k = uses names e k
 
 abbrev mutual
+  -- the uses in a statement
   pub statement_uses : Names → Statement → ℕ → List Use
   statement_uses names stat.Statement.empty k = []
   statement_uses names (stat.Statement.labelled x at s) k = statement_uses names s k
@@ -169,6 +184,7 @@ abbrev mutual
   statement_uses names (stat.Statement.do_effect e at) k = effect_uses names false e k
   statement_uses names (stat.Statement.call x es at) k = uses names (tree.Tree.named x es at) k
 
+  -- the uses in statements in order
   pub statements_uses : Names → Statements → ℕ → List Use
   statements_uses names stat.Statements.none k = []
   statements_uses names (stat.Statements.and s ss) k = statement_uses names s k ++ statements_uses names ss k
@@ -190,19 +206,23 @@ abbrev pub reach_by : Use → Option ℕ → List Full
 reach_by u None = []
 reach_by u (Some n) = if nat_lt 63 (u.waiting + n) then record { limit = 5; at = u.at; count = u.waiting + n } ∷ [] else []
 
+-- a use of a subroutine's parameter or result
 abbrev pub use_limits : Heading → Use → List Full
 use_limits h u = reach_by u (words_below (place_used h u (find (parameter_places below_return 0 (formals_of h)) u.name)))
 
+-- the limits that a subroutine passes
 abbrev pub subroutine_limits : Names → Subroutine → List Full
 subroutine_limits around s =
     heading_limits s.heading ++ joined (use_limits s.heading) (statement_uses (subroutine_names around s) s.statement 0)
 
 -- ---- all limits
 
+-- the limits that a procedure passes
 abbrev pub routine_limits : Routine → List Full
 routine_limits r =
     heading_limits r.heading ++ local_limits r ++ joined (subroutine_limits (routine_names r)) (subroutines_among r.items)
 
+-- the limits that the bodies of a unit pass
 abbrev pub unit_limits : Source → List Full
 unit_limits u = joined routine_limits (routines_of u) ++ joined (subroutine_limits (find (unit_table u))) (subroutines_among (declarations u.tree.items))
 
@@ -215,9 +235,11 @@ abbrev pub sooner_full : Option Full → Full → Option Full
 sooner_full None f = Some f
 sooner_full (Some g) f = if is_before (fault f.limit f.at) (fault g.limit g.at) then Some f else Some g
 
+-- the first of some, with one that is known before
 abbrev pub first_among : Option Full → List Full → Option Full
 first_among known [] = known
 first_among known (f ∷ fs) = first_among (sooner_full known f) fs
 
+-- the first limit that some units pass
 abbrev pub first_full : List Source → Option Full
 first_full us = first_among None (all_limits us)

@@ -67,6 +67,7 @@ Names = List ℕ → Option Sort
 abbrev pub within : Table Sort → Names → Names
 within table outer x = or_else (find table x) (outer x)
 
+-- no name is declared
 abbrev pub nothing_declared : Names
 nothing_declared x = None
 
@@ -82,10 +83,12 @@ abbrev pub spec_of : List Spec → List ℕ → Option Spec
 spec_of [] x = None
 spec_of (l ∷ ls) x = if lists l.names x then Some l else spec_of ls x
 
+-- the kind of a list of kinds
 abbrev pub kind_in : Option Spec → Option Kind
 kind_in None = None
 kind_in (Some l) = Some l.kind
 
+-- whether it is one of arrays
 abbrev pub is_array_in : Option Spec → Bool
 is_array_in None = false
 is_array_in (Some l) = l.array
@@ -101,9 +104,11 @@ formals_among h (n ∷ ns) = record {
   value = lists h.values n.letters;
 } ∷ formals_among h ns
 
+-- the parameters of a heading
 abbrev pub formals_of : Heading → List Formal
 formals_of h = formals_among h h.names
 
+-- what a heading takes and gives
 abbrev pub profile_of : Heading → Profile
 profile_of h = record { result = h.result; formals = formals_of h; split = h.split }
 
@@ -114,6 +119,7 @@ sort_by (Some k) true by_value = array_parameter k
 sort_by (Some k) false true = value k
 sort_by (Some k) false false = by_reference k
 
+-- the parameters as the first declarations of a body
 abbrev pub parameters : List Formal → Table Sort
 parameters [] = []
 parameters (f ∷ fs) = (f.name, sort_by f.kind f.array f.value) ∷ parameters fs
@@ -124,6 +130,7 @@ parameters (f ∷ fs) = (f.name, sort_by f.kind f.array f.value) ∷ parameters 
 abbrev pub given : Kind → Bool → Bool → Formal
 given k is_array by_value = record { name = []; at = record { unit = 0; line = 0; column = 0 }; kind = Some k; array = is_array; value = by_value }
 
+-- what takes parameters and may give a result
 abbrev pub takes : Option Kind → List Formal → Profile
 takes result formals = record { result = result; formals = formals; split = false }
 
@@ -144,10 +151,12 @@ abbrev pub intrinsics : List (String × Intrinsic)
 intrinsics = ("PRINT", gate.Print) ∷ ("READ", gate.Read) ∷ ("ASCII", gate.Ascii) ∷ ("DASCII", gate.Dascii) ∷ ("BINARY", gate.Binary)
     ∷ ("DBINARY", gate.Dbinary) ∷ ("TERMINATE", gate.Terminate) ∷ ("QUIT", gate.Quit) ∷ []
 
+-- an intrinsic of a list by its name
 abbrev pub intrinsic_among : List (String × Intrinsic) → List ℕ → Option Intrinsic
 intrinsic_among [] x = None
 intrinsic_among (g ∷ gs) x = if same_name x (codes g.0) then Some g.1 else intrinsic_among gs x
 
+-- the intrinsic of a name
 abbrev pub intrinsic_named : List ℕ → Option Intrinsic
 intrinsic_named x = intrinsic_among intrinsics x
 
@@ -169,10 +178,12 @@ abbrev pub truth_word : Bool → ℕ
 truth_word true = 65535
 truth_word false = 0
 
+-- a word as a whole number
 abbrev pub whole_number : Option ℕ → Option ℤ
 whole_number None = None
 whole_number (Some v) = Some (pos v)
 
+-- the value of an EQUATE name
 abbrev pub equate_value : Option Sort → Option ℤ
 equate_value (Some (equate v)) = Some v
 equate_value _ = None
@@ -185,10 +196,12 @@ constant_value names (text bytes) = whole_number (text_value bytes)
 constant_value names (truth b) = Some (pos (truth_word b))
 constant_value names (name x at) = equate_value (names x)
 
+-- a part of a sum with its sign
 abbrev pub signed_term : Bool → ℤ → ℤ
 signed_term true v = neg_ℤ v
 signed_term false v = v
 
+-- a sum and one part more
 abbrev pub sum_with : Option ℤ → Bool → Option ℤ → Option ℤ
 sum_with (Some sum) minus (Some v) = Some (sum +ℤ signed_term minus v)
 sum_with _ minus _ = None
@@ -198,6 +211,7 @@ abbrev pub sum_from : Names → Option ℤ → List Term → Option ℤ
 sum_from names sum [] = sum
 sum_from names sum (t ∷ ts) = sum_from names (sum_with sum t.minus (constant_value names t.value)) ts
 
+-- the value of a sum of constants
 abbrev pub sum_value : Names → List Term → Option ℤ
 sum_value names terms = sum_from names (Some (pos 0)) terms
 

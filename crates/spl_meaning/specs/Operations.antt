@@ -31,6 +31,7 @@ is_odd w = w % 2 == 1
 abbrev pub word_done : Arith → State → Outcome (List ℕ)
 word_done r s = if r.overflow then ends (trapped IntegerOverflow) s else done (r.value ∷ []) s
 
+-- the same of doubles
 abbrev pub double_done : Wide → State → Outcome (List ℕ)
 double_done r s = if r.overflow then ends (trapped IntegerOverflow) s else done (double_words r.value) s
 
@@ -45,24 +46,29 @@ abbrev pub is_greater : Code → Bool
 is_greater Greater = true
 is_greater _ = false
 
+-- the lower operand is the less
 abbrev pub is_less : Code → Bool
 is_less Less = true
 is_less _ = false
 
+-- the operands are equal
 abbrev pub is_equal : Code → Bool
 is_equal Equal = true
 is_equal _ = false
 
+-- a relation by its number holds
 abbrev pub related : ℕ → Code → Bool
 related op c =
     if op == 0 then is_equal c else if op == 1 then not (is_equal c) else if op == 2 then is_less c
     else if op == 3 then is_greater c else if op == 4 then not (is_greater c) else not (is_less c)
 
+-- the answer of a relation: all ones, or zero
 abbrev pub relation_done : ℕ → Code → State → Outcome (List ℕ)
 relation_done op c s = done (truth_word (related op c) ∷ []) s
 
 -- ---- + - * / MOD and the relations, by their numbers, on words and on doubles
 
+-- two INTEGERs
 abbrev pub on_integers : ℕ → ℕ → ℕ → State → Outcome (List ℕ)
 on_integers op b a s =
     if is_relation op then relation_done (op - 5) (words_compared b a) s
@@ -71,6 +77,7 @@ on_integers op b a s =
     else if op == 13 then word_done (multiplied b a) s
     else quotient_done (op == 15) (divided b a) s
 
+-- two LOGICALs
 abbrev pub on_logicals : ℕ → ℕ → ℕ → State → Outcome (List ℕ)
 on_logicals op b a s =
     if is_relation op then relation_done (op - 5) (logically_compared b a) s
@@ -79,12 +86,14 @@ on_logicals op b a s =
     else if op == 13 then done ((logically_multiplied b a).value % 65536 ∷ []) s
     else quotient_done (op == 15) (logically_divided b a) s
 
+-- two DOUBLEs
 abbrev pub on_doubles : ℕ → ℕ → ℕ → State → Outcome (List ℕ)
 on_doubles op b a s =
     if is_relation op then relation_done (op - 5) (doubles_compared b a) s
     else if op == 11 then double_done (double_added b a) s
     else double_done (double_subtracted b a) s
 
+-- two operands of a class
 abbrev pub by_class : Class → ℕ → List ℕ → List ℕ → State → Outcome (List ℕ)
 by_class integers op (b ∷ []) (a ∷ []) s = on_integers op b a s
 by_class logicals op (b ∷ []) (a ∷ []) s = on_logicals op b a s
@@ -100,9 +109,11 @@ bit_of op b a =
     else if op == 3 then (b + a) % 2
     else b * a
 
+-- all bits of two words
 abbrev pub on_bits : ℕ → ℕ → ℕ → ℕ
 on_bits op b a = number_of 16 (λ i. bit_of op (bit i b) (bit i a))
 
+-- two single words
 abbrev pub bits_done : ℕ → List ℕ → List ℕ → State → Outcome (List ℕ)
 bits_done op (b ∷ []) (a ∷ []) s = done (on_bits op b a ∷ []) s
 bits_done op bs as' s = strays s
@@ -122,6 +133,7 @@ minus_done (of kind.Byte) (a ∷ []) s = done ((logically_subtracted 0 a).value 
 minus_done (of kind.Double) (h ∷ l ∷ []) s = double_done (double_negated (double h l)) s
 minus_done _ vs s = strays s
 
+-- NOT: each bit turned
 abbrev pub not_done : List ℕ → State → Outcome (List ℕ)
 not_done (a ∷ []) s = done ((65535 - a) ∷ []) s
 not_done vs s = strays s
@@ -136,10 +148,12 @@ shift_numbered op =
     if op == 0 then shift.Asl else if op == 1 then shift.Asr else if op == 2 then shift.Lsl else if op == 3 then shift.Lsr
     else if op == 4 then shift.Csl else shift.Csr
 
+-- a shift of a single word
 abbrev pub shift_done : ℕ → ℕ → List ℕ → State → Outcome (List ℕ)
 shift_done op count (w ∷ []) s = done (shifted (shift_numbered op) w count ∷ []) s
 shift_done op count vs s = strays s
 
+-- a bit field of a single word
 abbrev pub field_done : ℕ → ℕ → List ℕ → State → Outcome (List ℕ)
 field_done start size (w ∷ []) s = done (field w start size ∷ []) s
 field_done start size vs s = strays s
@@ -151,6 +165,7 @@ abbrev pub single_word : List ℕ → List ℕ
 single_word (h ∷ l ∷ []) = l ∷ []
 single_word vs = vs
 
+-- the right eight bits
 abbrev pub right_byte : List ℕ → List ℕ
 right_byte (w ∷ []) = w % 256 ∷ []
 right_byte vs = vs
@@ -180,6 +195,7 @@ abbrev pub left_byte : List ℕ → List ℕ
 left_byte (w ∷ []) = 256 * (w % 256) ∷ []
 left_byte vs = vs
 
+-- a value as a parameter of a kind holds it
 abbrev pub passed : Kind → List ℕ → List ℕ
 passed kind.Byte vs = left_byte vs
 passed _ vs = vs
@@ -189,6 +205,7 @@ abbrev pub left_half : List ℕ → List ℕ
 left_half (w ∷ []) = w / 256 ∷ []
 left_half vs = vs
 
+-- a result of a kind as its value
 abbrev pub result_value : Kind → List ℕ → List ℕ
 result_value kind.Byte vs = left_half vs
 result_value _ vs = vs

@@ -11,10 +11,12 @@ use Rattle.spl_meaning.specs.Kinds.{width, result_width, operand_width, kind_of,
 
 -- ---- words of parameters
 
+-- the words of a parameter by value, or by reference
 abbrev pub value_words : Bool → Option Kind → ℕ
 value_words true (Some k) = width k
 value_words _ k = 1
 
+-- a parameter that is given its value: VALUE lists it, and it is no array
 abbrev pub by_value : Formal → Bool
 by_value f = if f.array then false else f.value
 
@@ -22,10 +24,12 @@ by_value f = if f.array then false else f.value
 abbrev pub formal_words : Formal → ℕ
 formal_words f = value_words (by_value f) f.kind
 
+-- the words of parameters
 abbrev pub formals_words : List Formal → ℕ
 formals_words [] = 0
 formals_words (f ∷ fs) = formal_words f + formals_words fs
 
+-- the words of a result
 abbrev pub result_words : Profile → ℕ
 result_words p = result_width p.result
 
@@ -33,6 +37,7 @@ result_words p = result_width p.result
 abbrev pub marker_words : ℕ
 marker_words = 4
 
+-- the words of a return word
 abbrev pub return_words : ℕ
 return_words = 1
 
@@ -44,6 +49,7 @@ link_words (Some (n.procedure p)) = marker_words
 link_words (Some (n.subroutine p)) = return_words
 link_words _ = 0
 
+-- what a name takes and gives where it is called
 abbrev pub callee_profile : Option Sort → Option Profile
 callee_profile (Some (n.intrinsic i)) = Some (intrinsic_profile i)
 callee_profile (Some (n.procedure p)) = Some p
@@ -55,18 +61,22 @@ abbrev pub first_formal : List Formal → Option Formal
 first_formal [] = None
 first_formal (f ∷ fs) = Some f
 
+-- the parameters behind the first
 abbrev pub other_formals : List Formal → List Formal
 other_formals [] = []
 other_formals (f ∷ fs) = fs
 
+-- the words of an argument
 abbrev pub argument_words : Option Formal → ℕ
 argument_words None = 0
 argument_words (Some f) = formal_words f
 
+-- the parameters of what is called
 abbrev pub profile_formals : Option Profile → List Formal
 profile_formals None = []
 profile_formals (Some p) = p.formals
 
+-- the words of its result
 abbrev pub profile_result_words : Option Profile → ℕ
 profile_result_words None = 0
 profile_result_words (Some p) = result_words p
@@ -81,6 +91,7 @@ abbrev pub left_words : ℕ → ℕ → ℕ
 left_words op w = if is_connective op then 0 else w
 
 abbrev mutual
+  -- an expression
   pub most : Names → Tree → ℕ
   most names (tree.Tree.number v) = 0
   most names (tree.Tree.wide v) = 0
@@ -109,11 +120,13 @@ abbrev pub index_words : Tree → ℕ
 index_words (tree.Tree.named x (tree.Trees.and e es) at) = 1
 index_words _ = 0
 
+-- the word of an index that waits for the value
 abbrev pub target_words : Target → ℕ
 target_words (stat.Target.plain r) = index_words r
 target_words (stat.Target.field r start size) = index_words r
 target_words (stat.Target.address x at) = 0
 
+-- a target
 abbrev pub target_most : Names → Target → ℕ
 target_most names (stat.Target.plain r) = most names r
 target_most names (stat.Target.field r start size) = most names r
@@ -124,24 +137,29 @@ abbrev pub answer_words : Bool → ℕ
 answer_words true = 1
 answer_words false = 0
 
+-- what a MOVE moves
 abbrev pub source_most : Names → ℕ → Source → ℕ
 source_most names used (stat.Source.counted r count) = max (1 + used + most names r) (2 + used + most names count)
 source_most names used (stat.Source.text bytes) = 0
 source_most names used (stat.Source.class_of r c) = 1 + used + most names r
 
+-- a MOVE or a SCAN, whose answer is used or not
 abbrev pub effect_most : Names → Bool → Effect → ℕ
 effect_most names used (stat.Effect.move r from) = max (most names r) (source_most names (answer_words used) from)
 effect_most names used (stat.Effect.scan r until e) = max (most names r) (1 + answer_words used + most names e)
 
+-- what an IF tests
 abbrev pub test_most : Names → Test → ℕ
 test_most names (stat.Test.condition e) = most names e
 test_most names (stat.Test.code op) = 0
 
+-- an expression that may be none
 abbrev pub trees_most : Names → Trees → ℕ
 trees_most names tree.Trees.none = 0
 trees_most names (tree.Trees.and e es) = most names e
 
 abbrev mutual
+  -- a statement
   pub statement_most : Names → Statement → ℕ
   statement_most names stat.Statement.empty = 0
   statement_most names (stat.Statement.labelled x at s) = statement_most names s
@@ -160,6 +178,7 @@ abbrev mutual
   statement_most names (stat.Statement.do_effect e at) = effect_most names false e
   statement_most names (stat.Statement.call x es at) = most names (tree.Tree.named x es at)
 
+  -- the statements of a list
   pub statements_most : Names → Statements → ℕ
   statements_most names stat.Statements.none = 0
   statements_most names (stat.Statements.and s ss) = max (statement_most names s) (statements_most names ss)

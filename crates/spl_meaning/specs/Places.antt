@@ -20,6 +20,7 @@ pub data Place : Type 0 where
 
 -- ---- words of items
 
+-- an item that is OWN
 abbrev pub is_own : Sort → Bool
 is_own (n.simple k own) = own
 is_own (n.array k own low high) = own
@@ -55,6 +56,7 @@ abbrev pub where_own : Bool → (Sort → ℕ) → Sort → ℕ
 where_own true words s = if is_own s then words s else 0
 where_own false words s = if is_own s then 0 else words s
 
+-- the sum of numbers of things
 abbrev pub sum : {A : Type 0} → (A → ℕ) → List A → ℕ
 sum f [] = 0
 sum f (a ∷ as') = f a + sum f as'
@@ -63,6 +65,7 @@ sum f (a ∷ as') = f a + sum f as'
 abbrev pub list_words : Bool → Table Sort → ℕ
 list_words own table = sum (λ e. where_own own item_words e.1) table
 
+-- the words of a list's arrays, OWN or not
 abbrev pub list_array_words : Bool → Table Sort → ℕ
 list_array_words own table = sum (λ e. where_own own array_words e.1) table
 
@@ -98,6 +101,7 @@ pub record Array : Type 0 where
   pub kind : Kind
   pub low : ℤ
 
+-- an item that is an array has data there
 abbrev pub array_at : Place → Sort → List Array
 array_at from (n.array k own low high) = record { from = from; kind = k; low = low } ∷ []
 array_at from _ = []
@@ -115,10 +119,12 @@ pub record Cell : Type 0 where
   pub array : Array
   pub as_bytes : Bool
 
+-- whether a kind is BYTE
 abbrev pub is_byte_kind : Kind → Bool
 is_byte_kind kind.Byte = true
 is_byte_kind _ = false
 
+-- a cell where its place and its array are known
 abbrev pub cell_with : Option Place → Bool → Option Array → List Cell
 cell_with (Some p) as_bytes (Some a) = record { place = p; array = a; as_bytes = as_bytes } ∷ []
 cell_with _ as_bytes _ = []
@@ -129,6 +135,7 @@ cell_of places arrays x (n.array k own low high) = cell_with (find places x) fal
 cell_of places arrays x (n.view k own base) = cell_with (find places x) (is_byte_kind k) (find arrays base)
 cell_of places arrays x _ = []
 
+-- two flags are alike
 abbrev pub is_same : Bool → Bool → Bool
 is_same true b = b
 is_same false true = false
@@ -160,10 +167,12 @@ pub record Initial : Type 0 where
   pub kind : Kind
   pub values : List ℤ
 
+-- where initial values begin: at an array's data, or at the item itself
 abbrev pub start_of : Option Place → Option Array → Option Place
 start_of place (Some a) = Some a.from
 start_of place None = place
 
+-- initial values where their place is known
 abbrev pub initial_at : Option Place → Kind → List ℤ → List Initial
 initial_at None k vs = []
 initial_at (Some p) k vs = record { from = p; kind = k; values = vs } ∷ []
@@ -175,6 +184,7 @@ item_initials names places arrays k (i ∷ is) =
     initial_at (start_of (find places i.name) (find arrays i.name)) k (map (constant_or_zero names) i.first)
     ++ item_initials names places arrays k is
 
+-- the initial values of declarations
 abbrev pub initials_among : Bool → Names → Table Place → Table Array → Declarations → List Initial
 initials_among own names places arrays decl.none = []
 initials_among own names places arrays (decl.and (decl.Declaration.data_items kept k items) ds) =
@@ -187,6 +197,7 @@ initials_among own names places arrays (decl.and d ds) = initials_among own name
 abbrev pub put : ℕ → ℕ → (ℕ → Option ℕ) → ℕ → Option ℕ
 put a v mem b = if nat_eq a b then Some v else mem b
 
+-- a data word, or zero where there is none
 abbrev pub word_or_zero : Option ℕ → ℕ
 word_or_zero (Some v) = v
 word_or_zero None = 0
@@ -201,6 +212,7 @@ put_value kind.Double a j v mem = put (a + 2 * j) (high_word (double_of v)) (put
 put_value kind.Byte a j v mem = put_byte (2 * a + j) (word_of v % 256) mem
 put_value _ a j v mem = put (a + j) (word_of v) mem
 
+-- values of a kind one behind the other
 abbrev pub put_values : Kind → ℕ → ℕ → List ℤ → (ℕ → Option ℕ) → ℕ → Option ℕ
 put_values k a j [] mem = mem
 put_values k a j (v ∷ vs) mem = put_values k a (suc j) vs (put_value k a j v mem)
@@ -211,6 +223,7 @@ put_cells address [] mem = mem
 put_cells address (c ∷ cs) mem =
     put_cells address cs (put (address c.place) (viewed c.as_bytes (cell_word c.array.kind c.array.low (address c.array.from))) mem)
 
+-- all initial values
 abbrev pub put_initials : (Place → ℕ) → List Initial → (ℕ → Option ℕ) → ℕ → Option ℕ
 put_initials address [] mem = mem
 put_initials address (i ∷ is) mem = put_initials address is (put_values i.kind (address i.from) 0 i.values mem)

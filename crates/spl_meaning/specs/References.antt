@@ -62,6 +62,7 @@ abbrev pub variable_address : Kind → ℕ → ℕ
 variable_address kind.Byte a = 2 * a
 variable_address _ a = a
 
+-- the spot of a variable whose words begin at an address
 abbrev pub variable_spot : Kind → ℕ → Spot
 variable_spot k a = record { far = false; kind = k; address = variable_address k a }
 
@@ -70,6 +71,7 @@ abbrev pub element_address : Kind → ℕ → ℕ → ℕ
 element_address kind.Double cell i = (cell + 2 * i) % 65536
 element_address _ cell i = (cell + i) % 65536
 
+-- the spot of element i
 abbrev pub element_spot : Bool → Kind → ℕ → ℕ → Spot
 element_spot far k cell i = record { far = far; kind = k; address = element_address k cell i }
 
@@ -79,6 +81,7 @@ read_by kind.Double far a s = then_go (word_at far a s) (λ high s1. then_go (wo
 read_by kind.Byte far a s = then_go (word_at far (a / 2) s) (λ w s1. done (byte_at a w ∷ []) s1)
 read_by _ far a s = then_go (word_at far a s) (λ w s1. done (w ∷ []) s1)
 
+-- the value at a spot
 abbrev pub read : Spot → State → Outcome (List ℕ)
 read p s = read_by p.kind p.far p.address s
 
@@ -92,6 +95,7 @@ store_by kind.Byte far a (v ∷ []) s = then_go (word_at far (a / 2) s) (λ w s1
 store_by _ far a (v ∷ []) s = then_go (word_at far a s) (λ _ s1. done tt (placed_word far a v s1))
 store_by _ far a vs s = strays s
 
+-- a value is stored at a spot
 abbrev pub store : Spot → List ℕ → State → Outcome (Unit {0})
 store p vs s = store_by p.kind p.far p.address vs s
 
@@ -139,6 +143,7 @@ spot_by h x (Some (n.array_parameter k)) i s = led_spot false k (h.places x) (in
 spot_by h x (Some (n.pointer k own)) i s = led_spot h.split k (h.places x) (index_or_zero i) s
 spot_by h x _ i s = strays s
 
+-- the spot of a name with an index
 abbrev pub spot : Here → List ℕ → Option ℕ → State → Outcome Spot
 spot h x i s = spot_by h x (h.names x) i s
 
@@ -148,5 +153,6 @@ target_by h x (Some (n.procedure p)) i s = result_spot (h.results x) i s
 target_by h x (Some (n.subroutine p)) i s = result_spot (h.results x) i s
 target_by h x sort i s = spot_by h x sort i s
 
+-- the spot of a name on the left of :=
 abbrev pub target_spot : Here → List ℕ → Option ℕ → State → Outcome Spot
 target_spot h x i s = target_by h x (h.names x) i s

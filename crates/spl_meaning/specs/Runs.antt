@@ -109,10 +109,12 @@ enter_subroutine call d b ws k s =
       };
     }))
 
+-- a call of a procedure that is there
 abbrev pub call_procedure : Option Body → (Body → Callee) → ℕ → List ℕ → ℕ → State → Outcome (List ℕ)
 call_procedure (Some b) call d ws k s = enter_procedure (call b) d b ws k s
 call_procedure None call d ws k s = strays s
 
+-- a call of a subroutine that is there
 abbrev pub call_subroutine : Option Subroutine → Body → Callee → ℕ → List ℕ → ℕ → State → Outcome (List ℕ)
 call_subroutine (Some x) b call d ws k s = enter_subroutine call d (subroutine_body b x) ws k s
 call_subroutine None b call d ws k s = strays s
@@ -132,6 +134,7 @@ run_main procedures d b s =
     if nat_lt s1.now.stack (s1.now.top + b.depth') then ends (trapped StackOverflow) s1
     else then_go (returned (run_body b.here (calls procedures d b) d b.statements s1)) (λ _ s2. stepping s2 (λ s3. ends terminated s3)))
 
+-- a program that has a main body
 abbrev pub run_program : Program → Option Body → ℕ → State → Outcome (Unit {0})
 run_program p (Some b) d s = run_main p.procedures d b s
 run_program p None d s = strays s
@@ -179,18 +182,22 @@ pub data Standing : Type 0 where
   stands : Ending → Standing
   stray : Standing
 
+-- a point of a run: what it has printed, and how it stands
 pub record Point : Type 0 where
   pub printed : List ℕ
   pub standing : Standing
 
+-- an end of a run as the ending of a session
 abbrev pub ending_of : End → Ending
 ending_of terminated = ending.Terminated
 ending_of (quit n) = ending.Quit n
 ending_of (trapped t) = ending.Trapped t
 
+-- the point of a state
 abbrev pub at_state : State → Standing → Point
 at_state s standing = record { printed = all_printed s.now.printed; standing = standing }
 
+-- the point of an outcome
 abbrev pub point_of : {A : Type 0} → Outcome A → Point
 point_of (done a s) = at_state s (stands ending.Running)
 point_of (leaves x s) = at_state s (stands ending.Running)
@@ -198,6 +205,7 @@ point_of (spent s) = at_state s (stands ending.Running)
 point_of (ends e s) = at_state s (stands (ending_of e))
 point_of (strays s) = at_state s stray
 
+-- the statements begun in an outcome
 abbrev pub begun_of : {A : Type 0} → Outcome A → List Begun
 begun_of (done a s) = s.begun
 begun_of (leaves x s) = s.begun

@@ -19,9 +19,11 @@ byte_of mem b = byte_at b (word_or_zero (mem (b / 2)))
 abbrev pub touched : gate.Effect → List ℕ
 touched e = e.reads ++ map (λ p. p.0) e.stores
 
+-- whether the words of all bytes are below STACK
 abbrev pub all_below : ℕ → List ℕ → Bool
 all_below stack bs = list_all (λ b. nat_lt (b / 2) stack) bs
 
+-- whether they are data words
 abbrev pub all_data : (ℕ → Option ℕ) → List ℕ → Bool
 all_data mem bs = list_all (λ b. is_some (mem (b / 2))) bs
 
@@ -35,6 +37,7 @@ abbrev pub with_print : List ℕ → List (List ℕ) → List (List ℕ)
 with_print [] printed = printed
 with_print (b ∷ bs) printed = printed ++ (b ∷ bs) ∷ []
 
+-- how many lines were taken then
 abbrev pub lines_taken : Bool → ℕ → ℕ
 lines_taken true n = suc n
 lines_taken false n = n

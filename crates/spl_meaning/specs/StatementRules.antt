@@ -17,6 +17,7 @@ use Rattle.spl_meaning.specs.ExpressionRules.{Scope, fits, count, has_elements, 
 
 -- ---- targets
 
+-- whether a name is among some
 abbrev pub has_name : List (List ℕ) → List ℕ → Bool
 has_name [] x = false
 has_name (y ∷ ys) x = if same_name x y then true else has_name ys x
@@ -26,6 +27,7 @@ has_name (y ∷ ys) x = if same_name x y then true else has_name ys x
 abbrev pub result_faults : Scope → List ℕ → Profile → ℕ → At → List Fault
 result_faults sc x p given at = unless (has_name sc.results x && is_some p.result) 12 at ++ unless (given == 0) 3 at
 
+-- a name on the left of :=
 abbrev pub target_by : Scope → List ℕ → Option Sort → ℕ → At → List Fault
 target_by sc x (Some (n.procedure p)) given at = result_faults sc x p given at
 target_by sc x (Some (n.subroutine p)) given at = result_faults sc x p given at
@@ -37,6 +39,7 @@ target_kind_by (Some (n.procedure p)) = p.result
 target_kind_by (Some (n.subroutine p)) = p.result
 target_kind_by s = variable_kind s
 
+-- the kind of a target
 abbrev pub target_kind : Names → Tree → Option Kind
 target_kind names (tree.Tree.named x es at) = target_kind_by (names x)
 target_kind names _ = None
@@ -58,6 +61,7 @@ abbrev pub fit_faults : Option Kind → Operand → At → List Fault
 fit_faults None e at = []
 fit_faults (Some k) e at = unless (fits k e) 6 at
 
+-- a kind of one word that is not BYTE, or none
 abbrev pub is_single : Option Kind → Bool
 is_single (Some kind.Byte) = false
 is_single (Some kind.Double) = false
@@ -80,6 +84,7 @@ assign_faults sc (stat.Target.address x a) e at =
 
 -- ---- MOVE and SCAN
 
+-- INTEGER or LOGICAL, or none
 abbrev pub is_word_kind : Option Kind → Bool
 is_word_kind (Some kind.Integer) = true
 is_word_kind (Some kind.Logical) = true
@@ -90,6 +95,7 @@ is_word_kind None = true
 abbrev pub moves : Option Kind → Option Kind → Bool
 moves a b = (may_be_byte a && may_be_byte b) || (is_word_kind a && is_word_kind b)
 
+-- a kind that is not DOUBLE, or none
 abbrev pub may_be_moved_to : Option Kind → Bool
 may_be_moved_to (Some kind.Double) = false
 may_be_moved_to _ = true
@@ -117,6 +123,7 @@ answer_by sc x s es a at =
     if has_elements s then fault 3 a ∷ indices_faults sc es a
     else target_by sc x s (count es) a ++ indices_faults sc es a ++ unless (may_be_moved_to (target_kind_by s)) 6 at
 
+-- the target of an answer
 abbrev pub answer_faults : Scope → Tree → At → List Fault
 answer_faults sc (tree.Tree.named x es a) at = answer_by sc x (sc.names x) es a at
 answer_faults sc _ at = []
@@ -137,6 +144,7 @@ called_by sc None None given at = fault 1 at ∷ []
 called_by sc None (Some n.unknown) given at = []
 called_by sc None (Some s) given at = fault 3 at ∷ []
 
+-- a call as a statement
 abbrev pub call_statement_faults : Scope → List ℕ → Trees → At → List Fault
 call_statement_faults sc x es at =
     called_by sc (callable (sc.names x)) (sc.names x) (count es) at ++ arguments_faults sc (formals_by (callable (sc.names x))) es at
@@ -156,6 +164,7 @@ counter_by sc x (Some s) at = fault 23 at ∷ []
 abbrev pub single_value_faults : Scope → At → Tree → List Fault
 single_value_faults sc at e = faults sc at e ++ single_faults sc.names at e
 
+-- the step of a loop, where there is one
 abbrev pub step_faults : Scope → At → Trees → List Fault
 step_faults sc at tree.Trees.none = []
 step_faults sc at (tree.Trees.and e es) = single_value_faults sc at e
@@ -184,6 +193,7 @@ abbrev pub own_labels : Statement → List (List ℕ)
 own_labels (stat.Statement.labelled x at s) = x ∷ own_labels s
 own_labels _ = []
 
+-- the labels that a list bears
 abbrev pub list_labels : Statements → List (List ℕ)
 list_labels stat.Statements.none = []
 list_labels (stat.Statements.and s ss) = own_labels s ++ list_labels ss
@@ -200,6 +210,7 @@ abbrev mutual
   all_labels (stat.Statement.case_of e ss at) = all_labels_of ss
   all_labels _ = []
 
+  -- all labels of statements in order
   pub all_labels_of : Statements → List Placed
   all_labels_of stat.Statements.none = []
   all_labels_of (stat.Statements.and s ss) = all_labels s ++ all_labels_of ss
@@ -209,6 +220,7 @@ abbrev pub is_listed : List Placed → List ℕ → Bool
 is_listed [] x = false
 is_listed (y ∷ ys) x = if same_name x y.letters then true else is_listed ys x
 
+-- each name that stands again breaks a rule
 abbrev pub repeated : ℕ → List Placed → List Placed → List Fault
 repeated rule before [] = []
 repeated rule before (x ∷ xs) = unless (not (is_listed before x.letters)) rule x.at ++ repeated rule (x ∷ before) xs
@@ -220,6 +232,7 @@ label_faults ss = repeated 20 [] (all_labels_of ss)
 -- ---- statements, with the labels of the lists around them, and whether the condition code may be tested
 
 abbrev mutual
+  -- a statement
   pub statement_faults : Scope → List (List ℕ) → Bool → Statement → List Fault
   statement_faults sc labels after stat.Statement.empty = []
   statement_faults sc labels after (stat.Statement.labelled x at s) = statement_faults sc labels false s

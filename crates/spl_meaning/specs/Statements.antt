@@ -28,6 +28,7 @@ abbrev pub target_index : Here → Callee → Tree → ℕ → State → Outcome
 target_index h call (tree.Tree.named x es at) k s = index h call es k s
 target_index h call _ k s = strays s
 
+-- the name of a reference
 abbrev pub reference_name : Tree → List ℕ
 reference_name (tree.Tree.named x es at) = x
 reference_name _ = []
@@ -54,10 +55,12 @@ abbrev pub is_intrinsic : Option Sort → Bool
 is_intrinsic (Some (n.intrinsic i)) = true
 is_intrinsic _ = false
 
+-- a kind that is not BYTE
 abbrev pub is_word_kind : Kind → Bool
 is_word_kind kind.Byte = false
 is_word_kind _ = true
 
+-- a result of such a kind
 abbrev pub is_word_result : Option Kind → Bool
 is_word_result (Some k) = is_word_kind k
 is_word_result None = false
@@ -71,10 +74,12 @@ keeps_code (Some (n.procedure p)) = is_word_result p.result
 keeps_code (Some (n.subroutine p)) = is_word_result p.result
 keeps_code _ = false
 
+-- an expression that is a call of an intrinsic and nothing else
 abbrev pub is_intrinsic_alone : Names → Tree → Bool
 is_intrinsic_alone names (tree.Tree.named x es at) = is_intrinsic (names x)
 is_intrinsic_alone names _ = false
 
+-- a target that keeps the condition code
 abbrev pub target_keeps_code : Names → Target → Bool
 target_keeps_code names (stat.Target.plain (tree.Tree.named x tree.Trees.none at)) = keeps_code (names x)
 target_keeps_code names _ = false
@@ -85,6 +90,7 @@ intrinsic_value h call (Some (n.intrinsic i)) es k s =
     then_go (arguments h call (intrinsic_profile i).formals es (k + result_words (intrinsic_profile i)) s) (λ ws s1. served i ws s1)
 intrinsic_value h call _ es k s = strays s
 
+-- the value of such an expression
 abbrev pub alone_value : Here → Callee → Tree → ℕ → State → Outcome (List ℕ)
 alone_value h call (tree.Tree.named x es at) k s = intrinsic_value h call (h.names x) es k s
 alone_value h call _ k s = strays s
@@ -98,9 +104,11 @@ assign h call to e k s =
 
 -- ---- calls as statements: a value is dropped
 
+-- a value that is not used
 abbrev pub value_dropped : Outcome (List ℕ) → Outcome (Unit {0})
 value_dropped o = then_go o (λ vs s. done tt s)
 
+-- a call by itself
 abbrev pub call_statement : Here → Callee → List ℕ → Trees → At → ℕ → State → Outcome (Unit {0})
 call_statement h call x es at k s =
     if is_intrinsic (h.names x) then value_dropped (intrinsic_value h call (h.names x) es k s)
@@ -112,6 +120,7 @@ call_statement h call x es at k s =
 abbrev pub moved_far : Spot → Outcome Spot → Outcome (List ℕ)
 moved_far p o = then_go o (λ end s. done (distance end p.address ∷ []) s)
 
+-- a MOVE or a SCAN
 abbrev pub effect_done : Here → Callee → ℕ → Bool → Effect → ℕ → State → Outcome (List ℕ)
 effect_done h call d used (stat.Effect.move to (stat.Source.counted from count)) k s =
     then_go (located h call to k s) (λ p s1. then_go (located h call from (k + 1 + answer_words used) s1) (λ q s2.
@@ -166,6 +175,7 @@ abbrev pub loop_step : Here → Callee → Trees → ℕ → State → Outcome (
 loop_step h call tree.Trees.none k s = done (1 ∷ []) s
 loop_step h call (tree.Trees.and e es) k s = value h call e k s
 
+-- a FOR: its value, the variable's address, the store, the step and the limit, and then the turns
 abbrev pub for_loop : Here → Callee → ℕ → List ℕ → Tree → Trees → Tree → (State → Outcome (Unit {0})) → ℕ → State → Outcome (Unit {0})
 for_loop h call d x first step last body k s =
     then_go (value h call first k s) (λ vs s1. then_go (spot h x None s1) (λ p s2. then_go (store p vs s2) (λ _ s3.
@@ -204,6 +214,7 @@ deciding h call (stat.Test.code op) at k s go =
     stepping s (λ s1. code_tested op s1.now.code (noted (Some at) s1) (λ b s2. go b (without_code s2)))
 
 abbrev mutual
+  -- a statement
   pub run : Here → Callee → ℕ → Statement → ℕ → State → Outcome (Unit {0})
   run h call d stat.Statement.empty k s = beginning None s (λ s1. done tt s1)
   run h call d (stat.Statement.labelled x at st) k s = beginning None s (λ s1. run h call d st k s1)

@@ -71,6 +71,7 @@ abbrev pub step_of : {A : Type 0} → ℕ → State → (State → Outcome A) �
 step_of zero s go = spent s
 step_of (suc n) s go = go (record s { left = n })
 
+-- a step of what is left
 abbrev pub stepping : {A : Type 0} → State → (State → Outcome A) → Outcome A
 stepping s go = step_of s.left s go
 

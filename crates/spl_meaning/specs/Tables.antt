@@ -21,28 +21,34 @@ declared table x s = if is_some (find table x) then table else table ++ (x, s) �
 
 -- ---- what the items of a declaration stand for; a constant in one is read with the items before it
 
+-- an item by its shape
 abbrev pub shaped : Names → Bool → Kind → decl.Shape → Sort
 shaped names own k decl.Shape.simple = n.simple k own
 shaped names own k (decl.Shape.array low high) = n.array k own (constant_or_zero names low) (constant_or_zero names high)
 shaped names own k (decl.Shape.view base) = n.view k own base
 shaped names own k decl.Shape.pointer = n.pointer k own
 
+-- the items of a declaration of data
 abbrev pub with_items : Names → Bool → Kind → Table Sort → List Item → Table Sort
 with_items outer own k table [] = table
 with_items outer own k table (i ∷ is) = with_items outer own k (declared table i.name (shaped (within table outer) own k i.shape)) is
 
+-- the names of an EQUATE
 abbrev pub with_equates : Names → Table Sort → List Equal → Table Sort
 with_equates outer table [] = table
 with_equates outer table (e ∷ es) = with_equates outer (declared table e.name (n.equate (or_zero (sum_value (within table outer) e.terms)))) es
 
+-- an intrinsic, or a name that is none
 abbrev pub intrinsic_sort : Option Intrinsic → Sort
 intrinsic_sort (Some i) = n.intrinsic i
 intrinsic_sort None = n.unknown
 
+-- the names of an INTRINSIC
 abbrev pub with_intrinsics : Table Sort → List Placed → Table Sort
 with_intrinsics table [] = table
 with_intrinsics table (x ∷ xs) = with_intrinsics (declared table x.letters (intrinsic_sort (intrinsic_named x.letters))) xs
 
+-- the names of a LABEL
 abbrev pub with_labels : Table Sort → List Placed → Table Sort
 with_labels table [] = table
 with_labels table (x ∷ xs) = with_labels (declared table x.letters n.label) xs
@@ -58,6 +64,7 @@ with_declaration outer table (decl.Declaration.external h) = declared table h.na
 with_declaration outer table (decl.Declaration.procedure h items ss) = declared table h.name (n.procedure (profile_of h))
 with_declaration outer table (decl.Declaration.subroutine h s) = declared table h.name (n.subroutine (profile_of h))
 
+-- declarations in order
 abbrev pub with_declarations : Names → Table Sort → Declarations → Table Sort
 with_declarations outer table decl.none = table
 with_declarations outer table (decl.and d ds) = with_declarations outer (with_declaration outer table d) ds
@@ -75,6 +82,7 @@ pub record Routine : Type 0 where
   pub statements : List stat.Statement
   pub globals : Table Sort
 
+-- the procedures with bodies among declarations
 abbrev pub routines_among : Table Sort → Declarations → List Routine
 routines_among table decl.none = []
 routines_among table (decl.and (decl.Declaration.procedure h items ss) ds) =
@@ -82,6 +90,7 @@ routines_among table (decl.and (decl.Declaration.procedure h items ss) ds) =
     record { heading = h; items = items; statements = ss; globals = more } ∷ routines_among more ds
 routines_among table (decl.and d ds) = routines_among (with_declaration nothing_declared table d) ds
 
+-- the procedures of a unit
 abbrev pub routines_of : Source → List Routine
 routines_of u = routines_among [] (declarations u.tree.items)
 
@@ -99,10 +108,12 @@ routine_names r = within (routine_table r) (outer_names r)
 
 -- ---- subroutines
 
+-- a subroutine
 pub record Subroutine : Type 0 where
   pub heading : Heading
   pub statement : stat.Statement
 
+-- the subroutines among declarations
 abbrev pub subroutines_among : Declarations → List Subroutine
 subroutines_among decl.none = []
 subroutines_among (decl.and (decl.Declaration.subroutine h s) ds) = record { heading = h; statement = s } ∷ subroutines_among ds

@@ -69,10 +69,12 @@ abbrev pub passed_by : Option Kind → List ℕ → List ℕ
 passed_by (Some k) vs = passed k vs
 passed_by None vs = vs
 
+-- whether an argument is given its value
 abbrev pub is_by_value : Option Formal → Bool
 is_by_value (Some f) = by_value f
 is_by_value None = true
 
+-- the kind of its parameter
 abbrev pub formal_kind : Option Formal → Option Kind
 formal_kind (Some f) = f.kind
 formal_kind None = None
@@ -84,6 +86,7 @@ argument f by_its_value by_its_spot s =
     else then_go (by_its_spot s) address_done
 
 abbrev mutual
+  -- the value of an expression
   pub value : Here → Callee → Tree → ℕ → State → Outcome (List ℕ)
   value h call (tree.Tree.number v) k s = done (v ∷ []) s
   value h call (tree.Tree.wide v) k s = done (double_words v) s
@@ -113,6 +116,7 @@ abbrev mutual
   located h call (tree.Tree.named x es at) k s = then_go (index h call es k s) (λ i s1. spot h x i s1)
   located h call _ k s = strays s
 
+  -- the index of a reference, where it has one
   pub index : Here → Callee → Trees → ℕ → State → Outcome (Option ℕ)
   index h call tree.Trees.none k s = done None s
   index h call (tree.Trees.and e es) k s = then_go (value h call e k s) as_index
