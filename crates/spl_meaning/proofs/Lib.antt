@@ -15,3 +15,4 @@ pub mod TameElements
 pub mod TameValues
 pub mod TameStatements
 pub mod RunLaws
+pub mod FirstFaults

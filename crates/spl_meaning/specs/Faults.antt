@@ -1,5 +1,5 @@
 -- Faults: which rule is broken and where, and the first of them.
-use Rattle.std.specs.Prelude.{ℕ, ◌==◌, ◌&&◌, ◌||◌, Bool, true, false, nat_lt, if◌then◌else◌, List, [], ◌∷◌, Option, Some, None}
+use Rattle.std.specs.Prelude.{ℕ, ◌≡◌, ◌⊎◌, ◌==◌, ◌&&◌, ◌||◌, Bool, true, false, nat_lt, if◌then◌else◌, List, [], ◌∷◌, Option, Some, None}
 use Rattle.spl_tree.specs.declared.names_and_places.At.{At}
 
 -- a rule that is broken at a place
@@ -36,6 +36,6 @@ first_fault known [] = known
 first_fault known (f ∷ fs) = first_fault (sooner known f) fs
 
 -- a fault is one of these
-pub data IsAmong (f : Fault) : List Fault → Type 0 where
-  here : {fs : List Fault} → IsAmong f (f ∷ fs)
-  there : {g : Fault} {fs : List Fault} → IsAmong f fs → IsAmong f (g ∷ fs)
+abbrev pub IsAmong : Fault → List Fault → Type 0
+IsAmong f [] = ⊥
+IsAmong f (g ∷ gs) = (f ≡ g) ⊎ IsAmong f gs

@@ -1,5 +1,5 @@
-//! Laws of runs, each as the contract of a function that does nothing.
-ghost use Rattle.spl_meaning.specs.Laws.{EndedRunsStay, PrintsOnlyGrow, LogsOnlyGrow};
+//! Laws of runs and rules, each as the contract of a function that does nothing.
+ghost use Rattle.spl_meaning.specs.Laws.{EndedRunsStay, PrintsOnlyGrow, LogsOnlyGrow, FirstRulesAreBroken, SoundUnitsBreakNone};
 
 /// A run that has ended, or strayed, stays as it is.
 pub fn ended_runs_stay()
@@ -14,4 +14,14 @@ pub fn prints_only_grow()
 /// So do the statements begun.
 pub fn logs_only_grow()
     ensures { LogsOnlyGrow }
+{}
+
+/// The first rule that units break is broken at its place, and no other comes before it.
+pub fn first_rules_are_broken()
+    ensures { FirstRulesAreBroken }
+{}
+
+/// Units are sound exactly where there is no first rule that they break.
+pub fn sound_units_break_none()
+    ensures { SoundUnitsBreakNone }
 {}

@@ -12,4 +12,7 @@ pub use known_runs::{
     arithmetic_is_done, calls_are_done, effects_are_done, references_are_made,
     statements_are_begun, statements_are_run,
 };
-pub use laws::{ended_runs_stay, logs_only_grow, prints_only_grow};
+pub use laws::{
+    ended_runs_stay, first_rules_are_broken, logs_only_grow, prints_only_grow,
+    sound_units_break_none,
+};
