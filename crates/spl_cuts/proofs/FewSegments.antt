@@ -182,7 +182,7 @@ same_segment s (other ∷ os) h = same_segment s os h
 
 -- ---- names
 
-same_self : (n : List ℕ) → pointwise nat_eq n n ≡ true
+pub same_self : (n : List ℕ) → pointwise nat_eq n n ≡ true
 same_self [] = refl
 same_self (b ∷ bs) = rw (eq-eqb b b refl) (same_self bs)
 
@@ -194,25 +194,25 @@ has_last (m ∷ ms) n = by (pointwise nat_eq n m) (has_last ms n)
     by true k = refl
     by false k = k
 
-has_with : (ms : List (List ℕ)) (n : List ℕ) → has_name (with_name ms n) n ≡ true
+pub has_with : (ms : List (List ℕ)) (n : List ℕ) → has_name (with_name ms n) n ≡ true
 has_with ms n = by (has_name ms n) refl
   where
     by : (b : Bool) → has_name ms n ≡ b → has_name (if b then ms else ms ++ n ∷ []) n ≡ true
     by true h = h
     by false h = has_last ms n
 
-with_again : (ms : List (List ℕ)) (n : List ℕ) → with_name (with_name ms n) n ≡ with_name ms n
+pub with_again : (ms : List (List ℕ)) (n : List ℕ) → with_name (with_name ms n) n ≡ with_name ms n
 with_again ms n = rw (has_with ms n) refl
 
-with_behind : (ms : List (List ℕ)) (xs ys : List Found) → with_names ms (xs ++ ys) ≡ with_names (with_names ms xs) ys
+pub with_behind : (ms : List (List ℕ)) (xs ys : List Found) → with_names ms (xs ++ ys) ≡ with_names (with_names ms xs) ys
 with_behind ms [] ys = refl
 with_behind ms (x ∷ xs) ys = with_behind (with_name ms x.segment) xs ys
 
-uses_name : (ms : List (List ℕ)) (t : Found) (xs : List Sign) → with_name (with_names ms (at_use t xs)) t.segment ≡ with_name ms t.segment
+pub uses_name : (ms : List (List ℕ)) (t : Found) (xs : List Sign) → with_name (with_names ms (at_use t xs)) t.segment ≡ with_name ms t.segment
 uses_name ms t [] = refl
 uses_name ms t (x ∷ xs) = uses_name (with_name ms t.segment) t xs ∙ with_again ms t.segment
 
-longer_with : (ms : List (List ℕ)) (n : List ℕ) → (length ms ≤ length (with_name ms n)) × (length (with_name ms n) ≤ length ms + 1)
+pub longer_with : (ms : List (List ℕ)) (n : List ℕ) → (length ms ≤ length (with_name ms n)) × (length (with_name ms n) ≤ length ms + 1)
 longer_with ms n = by (has_name ms n)
   where
     by : (b : Bool) → (length ms ≤ length (if b then ms else ms ++ n ∷ [])) × (length (if b then ms else ms ++ n ∷ []) ≤ length ms + 1)
@@ -220,7 +220,7 @@ longer_with ms n = by (has_name ms n)
     by false = let e = length-append ms (n ∷ []) in (omega (arith, e), omega (arith, e))
 
 -- the names of the tokens so far, with the segment in force here
-abbrev names_at : List ℕ → State → List (List ℕ)
+abbrev pub names_at : List ℕ → State → List (List ℕ)
 names_at n s = with_name (with_names [] s.found) n
 
 takes_names : (h : Here) {x : Sign} {s s1 : State} → Takes s (here h x) s1 → names_at h.segment s1 ≡ names_at h.segment s
@@ -241,7 +241,7 @@ takes_names h (d.Takes.ended p m) = refl
 settings_long : {f : Bool} {front rest : List ℕ} {os : List Setting} → Stands f front (settings os) rest → names_segment os ≡ true → 17 ≤ length front
 settings_long (g.Stands.line bs rest os a s e) h = let l = command_long bs os e h in omega (arith, l)
 
-piece_names : {h : Here} {s s1 : State} {item : Item} (front rest : List ℕ) → Stands (c.begins_line h) (map blanked front) item (map blanked rest) → Adds h s item s1
+pub piece_names : {h : Here} {s s1 : State} {item : Item} (front rest : List ℕ) → Stands (c.begins_line h) (map blanked front) item (map blanked rest) → Adds h s item s1
     → 17 * length (names_at (after h front item).segment s1) ≤ 17 * length (names_at h.segment s) + length front
 piece_names front rest v c.Adds.none = omega arith
 piece_names {h = h} {s = s} front rest v (c.Adds.command {os}) = by (names_segment os) refl

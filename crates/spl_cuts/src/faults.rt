@@ -1,5 +1,9 @@
 //! The faults of a unit's text.
+ghost use Rattle.std.specs.Prelude.{◌≡◌};
+ghost use Rattle.spl_cuts.specs.declared.faults.LexKind.TheVariants.{NoMemory};
+
 use spl_tree::At;
+use std::alloc::{AllocError, AllocFailed};
 use thiserror::Error;
 
 /// What is wrong with a text, in the order in which kinds count at one place.
@@ -23,6 +27,22 @@ pub enum LexKind {
     TooManyTokens,
     #[error("out of memory")]
     NoMemory,
+}
+
+impl From<AllocError> for LexKind {
+    ghost from_gives = { λ _ kind. kind ≡ NoMemory };
+
+    fn from(_e: AllocError) -> LexKind {
+        LexKind::NoMemory
+    }
+}
+
+impl<T: Drop> From<AllocFailed<T>> for LexKind {
+    ghost from_gives = { λ _ kind. kind ≡ NoMemory };
+
+    fn from(_e: AllocFailed<T>) -> LexKind {
+        LexKind::NoMemory
+    }
 }
 
 /// The first fault of a text, with its place.

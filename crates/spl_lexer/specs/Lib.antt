@@ -1,0 +1,4 @@
+pub mod TokenViews
+pub mod DefineViews
+pub mod StateViews
+pub mod ReaderViews

@@ -1,0 +1,15 @@
+//! The tokens of a unit's text, cut in one pass.
+#![tactic(auto)]
+
+mod defines;
+mod lexer;
+mod listing;
+mod reader;
+mod reserved;
+mod segments;
+mod signs;
+mod state;
+#[cfg(test)]
+mod tests;
+
+pub use lexer::tokens;

@@ -1,0 +1,2 @@
+pub mod SignViews
+pub mod PieceViews
