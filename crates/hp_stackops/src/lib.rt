@@ -1,0 +1,8 @@
+//! The operations of major 0 over a stack whose top words may stand in registers.
+#![tactic(auto)]
+
+mod arithmetic;
+mod doubles;
+mod logic;
+mod placing;
+mod results;
