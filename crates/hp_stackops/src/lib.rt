@@ -4,5 +4,8 @@
 mod arithmetic;
 mod doubles;
 mod logic;
+mod operations;
 mod placing;
 mod results;
+
+pub use operations::stack_op;

@@ -1,6 +1,6 @@
 //! Operations that put words elsewhere: delete, push, copy and exchange them, and X with them. A is the top word.
-ghost use Rattle.std.specs.Prelude.{◌≤◌, [], ◌∷◌};
-ghost use Rattle.hp_session.specs.State.{deleted, pushing, pushing_all};
+ghost use Rattle.std.specs.Prelude.{◌≤◌, [], ◌∷◌, Ok};
+ghost use Rattle.hp_session.specs.State.{deleted, pushing, pushing_all, with_x};
 ghost use Rattle.hp_stack_rows.specs.StackRows.{below_becomes, below_deleted, copied, exchanged, rotated, top_plus_x, x_and_below, x_and_top, x_from_below, x_from_top, x_plus_top};
 ghost use Rattle.hp_tos.specs.StackView.{seen};
 ghost use Rattle.hp_rows.specs.Numbers.{uses};
@@ -86,6 +86,15 @@ pub(crate) fn rotate(regs: &mut Regs, stack: &mut Stack) -> Result<(), Trap>
     need(stack, 3)?;
     let (c, b, a) = (stack.word(2), stack.word(1), stack.word(0));
     stack.replace(3, &[b, a, c]);
+    Ok(())
+}
+
+/// ZROX, INCX and DECX: X becomes a word.
+pub(crate) fn set_x(regs: &mut Regs, stack: &mut Stack, x: u16) -> Result<(), Trap>
+    ensures { Performs (λ m. Ok (with_x x m)) (uses 0 0) regs.old (seen stack.old) result regs.new (seen stack.new) }
+{
+    let _sound = stack.words();
+    regs.x = x;
     Ok(())
 }
 
