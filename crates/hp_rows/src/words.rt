@@ -1,9 +1,9 @@
 //! Words that a row needs in registers, and words that it pushes.
 //!
 //! What a row deletes or exchanges stands in registers by then, and goes by `Stack::replace`, which has nothing to test.
-ghost use Rattle.std.specs.Prelude.{◌≡◌, ◌≤◌, length, OnOk, OnErr};
+ghost use Rattle.std.specs.Prelude.{◌≡◌, ◌≤◌, length, [], ◌∷◌, OnOk, OnErr};
 ghost use Rattle.hp_tos.specs.StackView.{seen};
-ghost use Rattle.hp_tos.specs.Calls.{filled, pushed};
+ghost use Rattle.hp_tos.specs.Calls.{filled};
 ghost use Rattle.hp_tos.specs.Steps.{pushed_together};
 ghost use Rattle.hp_rows.specs.Moves.{needed, allowed};
 
@@ -28,7 +28,7 @@ pub fn need(stack: &mut Stack, n: u8) -> Result<(), Trap>
 #[inline]
 pub fn push(stack: &mut Stack, w: u16) -> Result<(), Trap>
     ensures value { result ≡ allowed 1 (seen stack.old) }
-    ensures ok { OnOk result (seen stack.new ≡ pushed w (seen stack.old)) }
+    ensures ok { OnOk result (seen stack.new ≡ pushed_together (w ∷ []) (seen stack.old)) }
     ensures err { OnErr result (stack.new ≡ stack.old) }
 {
     match stack.push(w) {
