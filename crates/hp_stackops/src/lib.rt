@@ -9,3 +9,6 @@ mod placing;
 mod results;
 
 pub use operations::stack_op;
+
+#[cfg(test)]
+mod tests;

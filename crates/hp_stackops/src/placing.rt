@@ -93,7 +93,6 @@ pub(crate) fn rotate(regs: &mut Regs, stack: &mut Stack) -> Result<(), Trap>
 pub(crate) fn set_x(regs: &mut Regs, stack: &mut Stack, x: u16) -> Result<(), Trap>
     ensures { Performs (λ m. Ok (with_x x m)) (uses 0 0) regs.old (seen stack.old) result regs.new (seen stack.new) }
 {
-    let _sound = stack.words();
     regs.x = x;
     Ok(())
 }

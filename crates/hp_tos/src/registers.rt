@@ -134,9 +134,7 @@ impl Stack {
     {
         self.words -= n as u16;
         self.sr -= n;
-        for &w in words {
-            self.put(w);
-        }
+        self.put_all(words);
     }
 
     /// Spills every register.
