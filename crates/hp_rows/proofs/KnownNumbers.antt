@@ -3,7 +3,7 @@ use Rattle.std.proofs.Common.{◌≡◌, ℕ, ◌-◌, ◌^◌, replicate, [], r
 use Rattle.std.specs.declared.result.Result.TheVariants.{Ok, Err}
 use Rattle.hp_word.specs.declared.endings.Trap.TheVariants.{IntegerOverflow, StackOverflow, StackUnderflow, Illegal}
 use Rattle.hp_tos.specs.Seen.{Seen, made}
-use Rattle.hp_rows.specs.Numbers.{Numbers, uses, moved}
+use Rattle.hp_rows.specs.Numbers.{Numbers, uses, drops, moved}
 
 -- a stack of nine words with so many in registers, five fills and seven spills so far
 abbrev with : ℕ → Seen
@@ -42,6 +42,17 @@ copied-four = refl
 -- two zeros on top of three words in registers: one spill
 zeros-three : moved (uses 0 2) (Ok tt) (with 3) ≡ are 4 5 8
 zeros-three = refl
+
+-- words that are dropped come from registers first, and then from memory
+dropped-one : moved (drops 1) (Ok tt) (with 3) ≡ are 2 5 7
+dropped-one = refl
+
+dropped-five : moved (drops 5) (Ok tt) (with 3) ≡ are 0 5 7
+dropped-five = refl
+
+-- six zeros on top of one word in registers
+zeros-six : moved (uses 0 6) (Ok tt) (with 1) ≡ are 4 5 10
+zeros-six = refl
 
 -- a trap comes after the fills and before the pushes
 overflow-none : moved (uses 2 1) (Err IntegerOverflow) (with 0) ≡ are 2 7 7

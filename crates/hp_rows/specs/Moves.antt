@@ -5,6 +5,7 @@ use Rattle.hp_word.specs.declared.endings.Trap.{Trap}
 use Rattle.hp_word.specs.declared.endings.Trap.TheVariants.{IntegerOverflow, StackOverflow, StackUnderflow}
 use Rattle.hp_tos.specs.Seen.{Seen}
 use Rattle.hp_session.specs.declared.registers.Regs.{Regs}
+use Rattle.hp_session.specs.State.{wrapped}
 
 -- n words are needed: a trap where fewer are there
 abbrev pub needed : ℕ → Seen → Result (Unit {0}) Trap
@@ -28,3 +29,7 @@ coded code regs = record regs { code = code }
 
 abbrev pub indexed : ℕ → Regs → Regs
 indexed x regs = record regs { x = x }
+
+-- the registers past the word at P, at the left half of the next
+abbrev pub past : Regs → Regs
+past regs = record regs { p = wrapped (regs.p + 1); right = false }

@@ -4,5 +4,5 @@
 mod results;
 mod words;
 
-pub use results::{delete_coded, leave_coded, settle};
+pub use results::{delete_coded, leave_coded, pass, settle};
 pub use words::{need, push, push_all};

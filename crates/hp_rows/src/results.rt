@@ -3,7 +3,7 @@ ghost use Rattle.std.specs.Prelude.{◌≡◌, ◌≤◌, OnOk, OnErr, [], ◌�
 ghost use Rattle.hp_word.specs.Words.{word_code};
 ghost use Rattle.hp_tos.specs.StackView.{seen};
 ghost use Rattle.hp_tos.specs.Calls.{replaced};
-ghost use Rattle.hp_rows.specs.Moves.{in_range, flagged, coded};
+ghost use Rattle.hp_rows.specs.Moves.{in_range, flagged, coded, past};
 
 use hp_session::{Regs, code_of};
 use hp_tos::Stack;
@@ -46,4 +46,13 @@ pub fn delete_coded(regs: &mut Regs, stack: &mut Stack, n: u8, code: Code)
 {
     stack.replace(n, &[]);
     regs.code = code;
+}
+
+/// Goes on past the word at P, to the left half of the next.
+#[inline]
+pub fn pass(regs: &mut Regs)
+    ensures { regs.new ≡ past regs.old }
+{
+    regs.p = regs.p.wrapping_add(1);
+    regs.right = false;
 }
