@@ -1,0 +1,54 @@
+-- The cursor's list and symbol, read.
+use Rattle.std.proofs.Common.{ℕ, ◌≡◌, List, [], ◌∷◌, map, Option, Some, None, refl, sym, ap, ◌∙◌, length, arith, ◌+◌, ◌<◌, Bool, true, false, nat_eq, get_or, drop, if◌then◌else◌}
+use Rattle.std.proofs.lemmas.List.{at_drop_more}
+use lib.Pointwise.{pointwise}
+use denote.Ref.{Bor}
+use Rattle.spl_tree.specs.declared.symbols.Symbol.{Symbol}
+use Rattle.spl_tree.specs.declared.tokens.Token.{Token}
+use Rattle.spl_tree.specs.Symbols.{Lexeme, lexeme_of, symbol_of}
+use Rattle.spl_grammar.specs.Readers.{Got, Bad, by_symbol, pure, take, at_place}
+use Rattle.spl_expr.specs.Cursor.{first_symbol, symbol_in}
+use Rattle.spl_expr.specs.Reads.{peeked}
+
+-- where the symbol is absent, no token is left
+pub peek_none : (ts : List Token) → None ≡ first_symbol ts → peeked (map lexeme_of ts) ≡ Bad (map lexeme_of ts)
+unfolding peeked by_symbol pure
+peek_none [] e = refl
+peek_none (t ∷ ts) e = cc
+
+-- and else it is that of the next token
+pub peek_some : (ts : List Token) (k : Symbol) → Some k ≡ first_symbol ts → peeked (map lexeme_of ts) ≡ Got k (map lexeme_of ts)
+unfolding peeked by_symbol pure
+peek_some [] k e = cc
+peek_some (t ∷ ts) k e = let f : symbol_of t.what ≡ k = cc in ap (λ s. Got s (map lexeme_of (t ∷ ts))) f
+
+-- where no token is left there is no place
+pub place_none : (ts : List Token) → length ts ≡ 0 → at_place (map lexeme_of ts) ≡ Bad (map lexeme_of ts)
+unfolding at_place
+place_none [] e = refl
+place_none (t ∷ ts) e = absurd (omega arith)
+
+-- and else it is that of the next
+pub place_some : (ts : List Token) (t : Token) (rest : List Token) → ts ≡ t ∷ rest → at_place (map lexeme_of ts) ≡ Got t.at (map lexeme_of ts)
+unfolding at_place
+place_some ts t rest e = rw e refl
+
+-- where no token is left none is taken
+pub take_none : (ts : List Token) → length ts ≡ 0 → take (map lexeme_of ts) ≡ Bad (map lexeme_of ts)
+unfolding take
+take_none [] e = refl
+take_none (t ∷ ts) e = absurd (omega arith)
+
+-- and else the next
+pub take_some : (ts : List Token) (t : Token) (rest : List Token) → ts ≡ t ∷ rest → take (map lexeme_of ts) ≡ Got (lexeme_of t) (map lexeme_of rest)
+unfolding take
+take_some ts t rest e = rw e refl
+
+-- the words from the next on
+pub word_found : (words : List (Bor (List ℕ) × Symbol)) (letters : List ℕ) (i : ℕ) (w : Bor (List ℕ) × Symbol) → i < length words
+    → pointwise nat_eq letters (get_or words i w).0.now ≡ true → symbol_in (drop i words) letters ≡ (get_or words i w).1
+word_found words letters i w below e = at_drop_more (λ ws. symbol_in ws letters) words i w below ∙ rw e refl
+
+pub word_passed : (words : List (Bor (List ℕ) × Symbol)) (letters : List ℕ) (i : ℕ) (w : Bor (List ℕ) × Symbol) → i < length words
+    → pointwise nat_eq letters (get_or words i w).0.now ≡ false → symbol_in (drop i words) letters ≡ symbol_in (drop (i + 1) words) letters
+word_passed words letters i w below e = at_drop_more (λ ws. symbol_in ws letters) words i w below ∙ rw e refl

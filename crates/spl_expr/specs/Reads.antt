@@ -1,0 +1,32 @@
+-- What a rule of the code answers: what the reading of the tokens that are left comes to.
+use Rattle.std.specs.Prelude.{ℕ, ◌≡◌, List, Result, Ok, Err}
+use denote.Ref.{Bor}
+use Rattle.spl_tree.specs.declared.symbols.Symbol.{Symbol}
+use Rattle.spl_tree.specs.declared.tokens.Token.{Token}
+use Rattle.spl_tree.specs.Symbols.{Lexeme, lexeme_of}
+use Rattle.spl_grammar.specs.Readers.{Outcome, Got, Bad, Deep, Parser, pure, by_symbol}
+use Rattle.spl_expr.specs.declared.faults.Fault.{Fault}
+use Rattle.spl_expr.specs.declared.faults.Fault.TheVariants.{Syntax, TooDeep, NoMemory}
+
+-- the reading has this fault, and the tokens from its place on are left; nothing is said where memory is wanting
+abbrev pub Fails : {A : Type 0} → Outcome A → Fault → List Lexeme → Type 0
+Fails read Syntax rest = read ≡ Bad rest
+Fails read TooDeep rest = read ≡ Deep rest
+Fails read NoMemory rest = Unit {0}
+
+-- what is read is what the answer shows, and the tokens behind it are left
+abbrev pub Reads : {X A : Type 0} → (X → A) → Outcome A → Result X Fault → List Lexeme → Type 0
+Reads view read (Ok x) rest = read ≡ Got (view x) rest
+Reads view read (Err e) rest = Fails read e rest
+
+-- a value as it is
+abbrev pub same_as : {A : Type 0} → A → A
+same_as a = a
+
+-- a token that is lent
+abbrev pub shown : Bor Token → Lexeme
+shown t = lexeme_of t.now
+
+-- the symbol of the next token, which is left
+unfoldable pub peeked : Parser Symbol
+peeked = by_symbol pure
