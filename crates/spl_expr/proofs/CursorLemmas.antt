@@ -1,14 +1,16 @@
 -- The cursor's list and symbol, read.
-use Rattle.std.proofs.Common.{ℕ, ◌≡◌, List, [], ◌∷◌, map, Option, Some, None, refl, sym, ap, ◌∙◌, length, arith, ◌+◌, ◌<◌, Bool, true, false, nat_eq, get_or, drop, if◌then◌else◌}
+use Rattle.std.proofs.Common.{Result, Ok, Err, IfOk, ℕ, ◌≡◌, List, [], ◌∷◌, map, Option, Some, None, refl, sym, ap, ◌∙◌, length, arith, ◌+◌, ◌<◌, Bool, true, false, nat_eq, get_or, drop, if◌then◌else◌}
 use Rattle.std.proofs.lemmas.List.{at_drop_more}
 use lib.Pointwise.{pointwise}
 use denote.Ref.{Bor}
 use Rattle.spl_tree.specs.declared.symbols.Symbol.{Symbol}
 use Rattle.spl_tree.specs.declared.tokens.Token.{Token}
 use Rattle.spl_tree.specs.Symbols.{Lexeme, lexeme_of, symbol_of}
-use Rattle.spl_grammar.specs.Readers.{Got, Bad, by_symbol, pure, take, at_place}
+use Rattle.spl_grammar.specs.Readers.{Got, Bad, by_symbol, pure, take, at_place, same_symbol}
+use Rattle.spl_grammar.proofs.SameSymbol.{same_is}
+use Rattle.spl_expr.specs.declared.faults.Fault.{Fault}
 use Rattle.spl_expr.specs.Cursor.{first_symbol, symbol_in}
-use Rattle.spl_expr.specs.Reads.{peeked}
+use Rattle.spl_expr.specs.Reads.{peeked, lexeme}
 
 -- where the symbol is absent, no token is left
 pub peek_none : (ts : List Token) → None ≡ first_symbol ts → peeked (map lexeme_of ts) ≡ Bad (map lexeme_of ts)
@@ -40,9 +42,14 @@ take_none [] e = refl
 take_none (t ∷ ts) e = absurd (omega arith)
 
 -- and else the next
-pub take_some : (ts : List Token) (t : Token) (rest : List Token) → ts ≡ t ∷ rest → take (map lexeme_of ts) ≡ Got (lexeme_of t) (map lexeme_of rest)
-unfolding take
+pub take_some : (ts : List Token) (t : Token) (rest : List Token) → ts ≡ t ∷ rest → take (map lexeme_of ts) ≡ Got (lexeme t) (map lexeme_of rest)
+unfolding take lexeme
 take_some ts t rest e = rw e refl
+
+-- whose symbol is the one that was next
+pub peek_taken : (ts : List Token) (t : Token) (rest : List Token) → ts ≡ t ∷ rest → peeked (map lexeme_of ts) ≡ Got (lexeme t).symbol (map lexeme_of ts)
+unfolding peeked by_symbol pure lexeme
+peek_taken ts t rest e = rw e refl
 
 -- the words from the next on
 pub word_found : (words : List (Bor (List ℕ) × Symbol)) (letters : List ℕ) (i : ℕ) (w : Bor (List ℕ) × Symbol) → i < length words
@@ -52,3 +59,9 @@ word_found words letters i w below e = at_drop_more (λ ws. symbol_in ws letters
 pub word_passed : (words : List (Bor (List ℕ) × Symbol)) (letters : List ℕ) (i : ℕ) (w : Bor (List ℕ) × Symbol) → i < length words
     → pointwise nat_eq letters (get_or words i w).0.now ≡ false → symbol_in (drop i words) letters ≡ symbol_in (drop (i + 1) words) letters
 word_passed words letters i w below e = at_drop_more (λ ws. symbol_in ws letters) words i w below ∙ rw e refl
+
+-- a token that was taken where this symbol was next
+pub taken_symbol : (ts : List Lexeme) (wanted k : Symbol) (r : Result (Bor Token) Fault) → peeked ts ≡ Got k ts → same_symbol k wanted ≡ true
+    → IfOk r (λ t. peeked ts ≡ Got (lexeme t.now).symbol ts) → IfOk r (λ t. (lexeme t.now).symbol ≡ wanted)
+taken_symbol ts wanted k (Ok t) e same h = let s = same_is k wanted same in cc
+taken_symbol ts wanted k (Err e) p same h = h

@@ -1,11 +1,12 @@
 -- How the readings of the grammar go on where one of their steps was made.
 use Rattle.std.proofs.Common.{ℕ, ◌≡◌, List, [], ◌∷◌, Result, Ok, Err, IsErr, IsErrAnd, refl, sym, ap, ◌∙◌, rules, arith}
 use Rattle.spl_tree.specs.declared.symbols.Symbol.{Symbol}
+use Rattle.spl_tree.specs.declared.tokens.Token.{Token}
 use Rattle.spl_tree.specs.Symbols.{Lexeme}
 use Rattle.spl_grammar.specs.Readers.{Outcome, Got, Bad, Deep, Parser, by_symbol, pure, followed, and_then}
 use Rattle.spl_expr.specs.declared.faults.Fault.{Fault}
 use Rattle.spl_expr.specs.declared.faults.Fault.TheVariants.{Syntax, TooDeep, NoMemory}
-use Rattle.spl_expr.specs.Reads.{Fails, Reads, peeked}
+use Rattle.spl_expr.specs.Reads.{Fails, Reads, peeked, lexeme}
 
 -- a rule that depends on the symbol of the next token
 pub by_peek : {A : Type 0} (f : Symbol → Parser A) (ts us : List Lexeme) (k : Symbol) → peeked ts ≡ Got k us → by_symbol f ts ≡ f k ts
@@ -39,4 +40,9 @@ pub handed : {X A : Type 0} (view : X → A) (o : Outcome A) (r : Result X Fault
 handed view o (Ok x) e us h f = cc
 handed view o (Err d) e us h f = rw h.1 f
 
-pub ruleset steps = (by_peek, no_peek, goes_on, fails, handed)
+-- the place of a token
+pub lexeme_at : (t : Token) → (lexeme t).at ≡ t.at
+unfolding lexeme
+lexeme_at t = refl
+
+pub ruleset steps = (by_peek, no_peek, goes_on, fails, handed, lexeme_at)

@@ -23,9 +23,13 @@ Reads view read (Err e) rest = Fails read e rest
 abbrev pub same_as : {A : Type 0} → A → A
 same_as a = a
 
+-- a token as the grammar sees it
+unfoldable pub lexeme : Token → Lexeme
+lexeme t = lexeme_of t
+
 -- a token that is lent
 abbrev pub shown : Bor Token → Lexeme
-shown t = lexeme_of t.now
+shown t = lexeme t.now
 
 -- the symbol of the next token, which is left
 unfoldable pub peeked : Parser Symbol

@@ -1,10 +1,14 @@
 //! Expressions and conditions, read from the tokens of a unit.
 #![tactic(auto)]
 
+mod constants;
 mod faults;
 mod symbols;
 mod tokens;
+mod words;
 
+pub use constants::{constant, is_sign};
 pub use faults::{Fault, ParseFault};
 pub use symbols::{same, symbol};
 pub use tokens::Tokens;
+pub use words::{name, text};

@@ -1,9 +1,9 @@
 //! A cursor over the tokens of a unit. A contract sees it as the list of the tokens that are left.
-ghost use Rattle.std.specs.Prelude.{◌≡◌, ◌<◌, ◌^◌, ℕ, length, map};
+ghost use Rattle.std.specs.Prelude.{◌≡◌, ◌<◌, ◌^◌, ℕ, length, map, IfOk};
 ghost use Rattle.spl_tree.specs.Symbols.{lexeme_of};
 ghost use Rattle.spl_expr.specs.Cursor as cursor;
 ghost use Rattle.spl_grammar.specs.Readers as r;
-ghost use Rattle.spl_expr.specs.Reads.{Reads, shown, same_as, peeked};
+ghost use Rattle.spl_expr.specs.Reads.{Reads, lexeme, shown, same_as, peeked};
 
 use crate::faults::Fault;
 use crate::symbols::{same, symbol};
@@ -81,7 +81,8 @@ impl<'a> Tokens<'a> {
 
     /// Goes on behind the next token. Err: `Syntax`, where none is left.
     pub fn take(&mut self) -> Result<&'a Token, Fault>
-        ensures { Reads shown (r.take self.old) result self.new }
+        ensures read { Reads shown (r.take self.old) result self.new }
+        ensures symbol { IfOk result (λ token. peeked self.old ≡ r.Got (lexeme token.now).symbol self.old) }
     {
         match self.rest.split_first() {
             None => Err(Fault::Syntax),
@@ -96,7 +97,8 @@ impl<'a> Tokens<'a> {
     #[tactic(auto, using(crate::proofs::Steps::steps), unfolding(spl_grammar::specs::Readers::expect, spl_grammar::specs::Readers::refuse))]
     /// Goes on behind the next token, which is this symbol. Err: `Syntax`, where it is not.
     pub fn expect(&mut self, wanted: Symbol) -> Result<&'a Token, Fault>
-        ensures { Reads shown (r.expect wanted self.old) result self.new }
+        ensures read { Reads shown (r.expect wanted self.old) result self.new }
+        ensures symbol { IfOk result (λ token. (lexeme token.now).symbol ≡ wanted) }
     {
         if same(self.peek()?, wanted) {
             self.take()
