@@ -4,13 +4,14 @@ use Rattle.std.proofs.lemmas.List.{at_drop_more}
 use lib.Pointwise.{pointwise}
 use denote.Ref.{Bor}
 use Rattle.spl_tree.specs.declared.symbols.Symbol.{Symbol}
+use Rattle.spl_tree.specs.declared.symbols.Symbol.TheVariants as s
 use Rattle.spl_tree.specs.declared.tokens.Token.{Token}
-use Rattle.spl_tree.specs.Symbols.{Lexeme, lexeme_of, symbol_of}
-use Rattle.spl_grammar.specs.Readers.{Got, Bad, by_symbol, pure, take, at_place, same_symbol}
+use Rattle.spl_tree.specs.Symbols.{Lexeme, lexeme_of, symbol_of, letters_of}
+use Rattle.spl_grammar.specs.Readers.{Got, Bad, by_symbol, pure, refuse, take, at_place, same_symbol}
 use Rattle.spl_grammar.proofs.SameSymbol.{same_is}
 use Rattle.spl_expr.specs.declared.faults.Fault.{Fault}
 use Rattle.spl_expr.specs.Cursor.{first_symbol, symbol_in}
-use Rattle.spl_expr.specs.Reads.{peeked, lexeme}
+use Rattle.spl_expr.specs.Reads.{peeked, lexeme, named, named_by}
 
 -- where the symbol is absent, no token is left
 pub peek_none : (ts : List Token) → None ≡ first_symbol ts → peeked (map lexeme_of ts) ≡ Bad (map lexeme_of ts)
@@ -50,6 +51,29 @@ take_some ts t rest e = rw e refl
 pub peek_taken : (ts : List Token) (t : Token) (rest : List Token) → ts ≡ t ∷ rest → peeked (map lexeme_of ts) ≡ Got (lexeme t).symbol (map lexeme_of ts)
 unfolding peeked by_symbol pure lexeme
 peek_taken ts t rest e = rw e refl
+
+-- where no token is left there is no name
+pub named_none : (ts : List Token) → length ts ≡ 0 → named (map lexeme_of ts) ≡ Bad (map lexeme_of ts)
+unfolding named
+named_none [] e = refl
+named_none (t ∷ ts) e = absurd (omega arith)
+
+-- nor where the next token is none
+pub named_other : (ts : List Token) (t : Token) (rest : List Token) → ts ≡ t ∷ rest → same_symbol (symbol_of t.what) s.Name ≡ false
+    → named (map lexeme_of ts) ≡ Bad (map lexeme_of ts)
+unfolding named refuse
+named_other ts t rest e n = rw e (ap (λ b. named_by (if b then Some (letters_of t.what) else None) (map lexeme_of (t ∷ rest))) n)
+
+-- and else it is the next token's
+pub named_some : (ts : List Token) (t : Token) (rest : List Token) (letters : List ℕ) → ts ≡ t ∷ rest → same_symbol (symbol_of t.what) s.Name ≡ true
+    → letters ≡ (lexeme t).letters → named (map lexeme_of ts) ≡ Got letters (map lexeme_of ts)
+unfolding named pure lexeme
+named_some ts t rest letters e n l = rw (e, l) (ap (λ b. named_by (if b then Some (letters_of t.what) else None) (map lexeme_of (t ∷ rest))) n)
+
+-- a symbol that is a name's
+pub name_symbol : (t : Token) → same_symbol (symbol_of t.what) s.Name ≡ true → (lexeme t).symbol ≡ s.Name
+unfolding lexeme
+name_symbol t h = same_is (symbol_of t.what) s.Name h
 
 -- the words from the next on
 pub word_found : (words : List (Bor (List ℕ) × Symbol)) (letters : List ℕ) (i : ℕ) (w : Bor (List ℕ) × Symbol) → i < length words

@@ -1,12 +1,13 @@
 -- How the readings of the grammar go on where one of their steps was made.
-use Rattle.std.proofs.Common.{ℕ, ◌≡◌, List, [], ◌∷◌, Result, Ok, Err, IsErr, IsErrAnd, refl, sym, ap, ◌∙◌, rules, arith}
+use Rattle.std.proofs.Common.{ℕ, ◌≡◌, List, [], ◌∷◌, Bool, true, false, if◌then◌else◌, Option, Some, None, Result, Ok, Err, IsErr, IsErrAnd, refl, sym, ap, ◌∙◌, rules, arith}
 use Rattle.spl_tree.specs.declared.symbols.Symbol.{Symbol}
+use Rattle.spl_tree.specs.declared.symbols.Symbol.TheVariants as s
 use Rattle.spl_tree.specs.declared.tokens.Token.{Token}
 use Rattle.spl_tree.specs.Symbols.{Lexeme}
-use Rattle.spl_grammar.specs.Readers.{Outcome, Got, Bad, Deep, Parser, by_symbol, pure, followed, and_then}
+use Rattle.spl_grammar.specs.Readers.{Outcome, Got, Bad, Deep, Parser, by_symbol, pure, refuse, followed, and_then, named_number, numbered, same_symbol}
 use Rattle.spl_expr.specs.declared.faults.Fault.{Fault}
 use Rattle.spl_expr.specs.declared.faults.Fault.TheVariants.{Syntax, TooDeep, NoMemory}
-use Rattle.spl_expr.specs.Reads.{Fails, Reads, peeked, lexeme}
+use Rattle.spl_expr.specs.Reads.{Fails, Reads, peeked, lexeme, named, named_by}
 
 -- a rule that depends on the symbol of the next token
 pub by_peek : {A : Type 0} (f : Symbol → Parser A) (ts us : List Lexeme) (k : Symbol) → peeked ts ≡ Got k us → by_symbol f ts ≡ f k ts
@@ -45,4 +46,31 @@ pub lexeme_at : (t : Token) → (lexeme t).at ≡ t.at
 unfolding lexeme
 lexeme_at t = refl
 
-pub ruleset steps = (by_peek, no_peek, goes_on, fails, handed, lexeme_at)
+-- a number from a table, by the letters of the next token
+pub by_name : (table : List ℕ → Option ℕ) (ts us : List Lexeme) (letters : List ℕ) → named ts ≡ Got letters us → named_number table ts ≡ numbered (table letters) ts
+unfolding named named_number pure refuse
+by_name table [] us letters e = cc
+by_name table (t ∷ ts) us letters e = go (same_symbol t.symbol s.Name) e
+  where
+    go : (b : Bool) → named_by (if b then Some t.letters else None) (t ∷ ts) ≡ Got letters us → (if b then numbered (table t.letters) (t ∷ ts) else Bad (t ∷ ts)) ≡ numbered (table letters) (t ∷ ts)
+    go true e = let l : t.letters ≡ letters = cc in ap (λ l. numbered (table l) (t ∷ ts)) l
+    go false e = cc
+
+pub no_name : (table : List ℕ → Option ℕ) (ts us : List Lexeme) (e : Fault) → Fails (named ts) e us → Fails (named_number table ts) e us
+unfolding named named_number pure refuse
+no_name table [] us Syntax h = cc
+no_name table [] us TooDeep h = cc
+no_name table [] us NoMemory h = tt
+no_name table (t ∷ ts) us NoMemory h = tt
+no_name table (t ∷ ts) us Syntax h = go (same_symbol t.symbol s.Name) h
+  where
+    go : (b : Bool) → named_by (if b then Some t.letters else None) (t ∷ ts) ≡ Bad us → (if b then numbered (table t.letters) (t ∷ ts) else Bad (t ∷ ts)) ≡ Bad us
+    go true e = cc
+    go false e = cc
+no_name table (t ∷ ts) us TooDeep h = go (same_symbol t.symbol s.Name) h
+  where
+    go : (b : Bool) → named_by (if b then Some t.letters else None) (t ∷ ts) ≡ Deep us → (if b then numbered (table t.letters) (t ∷ ts) else Bad (t ∷ ts)) ≡ Deep us
+    go true e = cc
+    go false e = cc
+
+pub ruleset steps = (by_peek, no_peek, goes_on, fails, handed, lexeme_at, by_name, no_name)

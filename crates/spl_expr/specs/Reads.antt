@@ -1,10 +1,11 @@
 -- What a rule of the code answers: what the reading of the tokens that are left comes to.
-use Rattle.std.specs.Prelude.{ℕ, ◌≡◌, List, Result, Ok, Err}
+use Rattle.std.specs.Prelude.{ℕ, ◌≡◌, List, [], ◌∷◌, Option, Some, None, Result, Ok, Err, if◌then◌else◌}
 use denote.Ref.{Bor}
 use Rattle.spl_tree.specs.declared.symbols.Symbol.{Symbol}
+use Rattle.spl_tree.specs.declared.symbols.Symbol.TheVariants as s
 use Rattle.spl_tree.specs.declared.tokens.Token.{Token}
 use Rattle.spl_tree.specs.Symbols.{Lexeme, lexeme_of}
-use Rattle.spl_grammar.specs.Readers.{Outcome, Got, Bad, Deep, Parser, pure, by_symbol}
+use Rattle.spl_grammar.specs.Readers.{Outcome, Got, Bad, Deep, Parser, pure, refuse, by_symbol, same_symbol}
 use Rattle.spl_expr.specs.declared.faults.Fault.{Fault}
 use Rattle.spl_expr.specs.declared.faults.Fault.TheVariants.{Syntax, TooDeep, NoMemory}
 
@@ -34,3 +35,20 @@ shown t = lexeme t.now
 -- the symbol of the next token, which is left
 unfoldable pub peeked : Parser Symbol
 peeked = by_symbol pure
+
+-- letters that are lent
+abbrev pub lent : Bor (List ℕ) → List ℕ
+lent letters = letters.now
+
+-- the letters of a token, where it is a name
+abbrev pub name_in : Lexeme → Option (List ℕ)
+name_in t = if same_symbol t.symbol s.Name then Some t.letters else None
+
+-- the letters of the next token, which is a name, and left
+abbrev pub named_by : Option (List ℕ) → Parser (List ℕ)
+named_by None = refuse
+named_by (Some letters) = pure letters
+
+unfoldable pub named : Parser (List ℕ)
+named [] = Bad []
+named (t ∷ ts) = named_by (name_in t) (t ∷ ts)

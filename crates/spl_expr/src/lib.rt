@@ -1,8 +1,11 @@
 //! Expressions and conditions, read from the tokens of a unit.
 #![tactic(auto)]
 
+mod comparison;
 mod constants;
 mod faults;
+mod operators;
+mod parts;
 mod symbols;
 mod tokens;
 mod words;

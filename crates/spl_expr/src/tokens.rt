@@ -3,10 +3,11 @@ ghost use Rattle.std.specs.Prelude.{◌≡◌, ◌<◌, ◌^◌, ℕ, length, ma
 ghost use Rattle.spl_tree.specs.Symbols.{lexeme_of};
 ghost use Rattle.spl_expr.specs.Cursor as cursor;
 ghost use Rattle.spl_grammar.specs.Readers as r;
-ghost use Rattle.spl_expr.specs.Reads.{Reads, lexeme, shown, same_as, peeked};
+ghost use Rattle.spl_expr.specs.Reads.{Reads, lexeme, shown, lent, same_as, peeked, named};
 
 use crate::faults::Fault;
 use crate::symbols::{same, symbol};
+use crate::words::letters;
 use spl_tree::{At, Symbol, Token};
 use std::marker::Model;
 
@@ -104,6 +105,37 @@ impl<'a> Tokens<'a> {
             self.take()
         } else {
             Err(Fault::Syntax)
+        }
+    }
+
+    /// Goes on behind the next token, with which one more construct is open. Err: `TooDeep`, where it may not be;
+    /// `Syntax`, where no token is left.
+    #[tactic(auto, using(crate::proofs::Steps::steps), unfolding(spl_grammar::specs::Readers::allowed))]
+    pub fn allowed(&mut self, fits: bool) -> Result<&'a Token, Fault>
+        ensures read { Reads shown (r.allowed fits self.old) result self.new }
+        ensures symbol { IfOk result (λ token. peeked self.old ≡ r.Got (lexeme token.now).symbol self.old) }
+    {
+        if fits {
+            self.take()
+        } else {
+            self.peek()?;
+            Err(Fault::TooDeep)
+        }
+    }
+
+    /// The letters of the next token, which is a name. Err: `Syntax`, where it is not.
+    pub fn next_name(&self) -> Result<&'a [u8], Fault>
+        ensures { Reads lent (named self.now) result self.now }
+    {
+        match self.rest.split_first() {
+            None => Err(Fault::Syntax),
+            Some((token, _)) => {
+                if same(symbol(&token.what), Symbol::Name) {
+                    Ok(letters(token))
+                } else {
+                    Err(Fault::Syntax)
+                }
+            }
         }
     }
 }

@@ -1,7 +1,7 @@
 //! The letters of a token, as names and strings of a tree.
 ghost use Rattle.std.specs.Prelude.{◌≡◌, ◌≤◌, IfOk, length};
 ghost use Rattle.spl_tree.specs.declared.symbols.Symbol.{Symbol};
-ghost use Rattle.spl_tree.specs.Views.{letters};
+ghost use Rattle.spl_tree.specs.Views as view;
 ghost use Rattle.spl_expr.specs.Reads.{lexeme};
 
 use arrayvec::ArrayVec;
@@ -11,23 +11,32 @@ use std::alloc::{AllocError, Global};
 /// A name of these bytes, at most 15.
 fn name_of(bytes: &[u8]) -> Name
     requires { length bytes.now ≤ 15 }
-    ensures { letters result ≡ bytes.now }
+    ensures { view.letters result ≡ bytes.now }
 {
     let mut text = ArrayVec::new();
     text.try_extend_from_slice(bytes).unwrap();
     Name { text }
 }
 
+/// The letters of a token that is a name.
 #[tactic(auto, unfolding(crate::specs::Reads::lexeme))]
+pub fn letters(token: &Token) -> &[u8]
+    requires { (lexeme token.now).symbol ≡ Symbol.Name }
+    ensures value { result.now ≡ (lexeme token.now).letters }
+    ensures few { length result.now ≤ 15 }
+{
+    match &token.what {
+        What::Word(name) => name.text.as_slice(),
+        _ => &[],
+    }
+}
+
 /// The name that stands at a token.
 pub fn name(token: &Token) -> Name
     requires { (lexeme token.now).symbol ≡ Symbol.Name }
-    ensures { letters result ≡ (lexeme token.now).letters }
+    ensures { view.letters result ≡ (lexeme token.now).letters }
 {
-    match &token.what {
-        What::Word(name) => name_of(name.text.as_slice()),
-        _ => name_of(&[]),
-    }
+    name_of(letters(token))
 }
 
 #[tactic(auto, unfolding(crate::specs::Reads::lexeme))]
