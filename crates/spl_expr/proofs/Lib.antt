@@ -1,2 +1,3 @@
 pub mod CursorLemmas
 pub mod Steps
+pub mod ViewLemmas

@@ -1,3 +1,4 @@
 pub mod Cursor
 pub mod Reads
 pub mod Parts
+pub mod Nests

@@ -1,5 +1,5 @@
 -- What a rule of the code answers: what the reading of the tokens that are left comes to.
-use Rattle.std.specs.Prelude.{ℕ, ◌≡◌, List, [], ◌∷◌, Option, Some, None, Result, Ok, Err, if◌then◌else◌}
+use Rattle.std.specs.Prelude.{ℕ, ◌≡◌, Bool, List, [], ◌∷◌, Option, Some, None, Result, Ok, Err, if◌then◌else◌}
 use denote.Ref.{Bor}
 use Rattle.spl_tree.specs.declared.symbols.Symbol.{Symbol}
 use Rattle.spl_tree.specs.declared.symbols.Symbol.TheVariants as s
@@ -52,3 +52,7 @@ named_by (Some letters) = pure letters
 unfoldable pub named : Parser (List ℕ)
 named [] = Bad []
 named (t ∷ ts) = named_by (name_in t) (t ∷ ts)
+
+-- what a turn of a loop answers: whether another follows, and what was read
+abbrev pub paired : {X A : Type 0} → (X → A) → Bool × X → Bool × A
+paired view r = (r.0, view r.1)

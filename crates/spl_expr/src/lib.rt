@@ -4,6 +4,8 @@
 mod comparison;
 mod constants;
 mod faults;
+mod levels;
+mod operands;
 mod operators;
 mod parts;
 mod symbols;

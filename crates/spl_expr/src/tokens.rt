@@ -1,5 +1,5 @@
 //! A cursor over the tokens of a unit. A contract sees it as the list of the tokens that are left.
-ghost use Rattle.std.specs.Prelude.{◌≡◌, ◌<◌, ◌^◌, ℕ, length, map, IfOk};
+ghost use Rattle.std.specs.Prelude.{◌≡◌, ◌<◌, ◌^◌, ℕ, length, map, IfOk, OnOk, true};
 ghost use Rattle.spl_tree.specs.Symbols.{lexeme_of};
 ghost use Rattle.spl_expr.specs.Cursor as cursor;
 ghost use Rattle.spl_grammar.specs.Readers as r;
@@ -112,6 +112,7 @@ impl<'a> Tokens<'a> {
     /// `Syntax`, where no token is left.
     #[tactic(auto, using(crate::proofs::Steps::steps), unfolding(spl_grammar::specs::Readers::allowed))]
     pub fn allowed(&mut self, fits: bool) -> Result<&'a Token, Fault>
+        ensures fits { OnOk result (fits ≡ true) }
         ensures read { Reads shown (r.allowed fits self.old) result self.new }
         ensures symbol { IfOk result (λ token. peeked self.old ≡ r.Got (lexeme token.now).symbol self.old) }
     {

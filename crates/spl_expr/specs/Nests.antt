@@ -1,0 +1,34 @@
+-- A function value that reads operands, where fewer than so many constructs may be opened.
+use Rattle.std.specs.Prelude.{ℕ, zero, suc, ◌≤◌, ◌<◌, Bool, true, false, Option, Some, None, List, Result}
+use Rattle.std.specs.declared.alloc.Global.{Global}
+use denote.Ref.{MutBor}
+use Rattle.spl_tree.specs.declared.names_and_places.At.{At}
+use Rattle.spl_tree.specs.Symbols.{Lexeme}
+use Rattle.spl_tree.specs.Trees as tree
+use Rattle.spl_grammar.specs.Readers.{Parser, refuse}
+use Rattle.spl_grammar.specs.ReadExpressions as r
+use Rattle.spl_expr.specs.declared.parts.Part.{Part}
+use Rattle.spl_expr.specs.declared.faults.Fault.{Fault}
+use Rattle.spl_expr.specs.Reads.{Reads}
+use Rattle.spl_expr.specs.Parts.{operand}
+
+pub record Nests (bound : ℕ) (pre : Global → MutBor (List Lexeme) → ℕ → ℕ → Option At → Type 0)
+    (post : Global → MutBor (List Lexeme) → ℕ → ℕ → Option At → Result Part Fault → MutBor (List Lexeme) → Type 0) : Type 0 where
+  pub callable : (alloc : Global) (old : MutBor (List Lexeme)) (room taken : ℕ) (minus : Option At) → room < bound → taken ≤ room
+      → pre alloc old room taken minus
+  pub reads : (alloc : Global) (old new : MutBor (List Lexeme)) (room taken : ℕ) (minus : Option At) (result : Result Part Fault)
+      → room < bound → post alloc old room taken minus result new → Reads operand (r.unary room taken minus old.now) result new.now
+
+-- the operand behind a NOT, with which one more construct is open
+abbrev pub inner : ℕ → ℕ → Parser r.Found
+inner zero taken = refuse
+inner (suc room) taken = r.unary room taken None
+
+-- the number of bytes of a comparison, which a condition alone has
+abbrev pub counted_bytes : Bool → ℕ → ℕ → Parser tree.Tree
+counted_bytes true room = r.within room
+counted_bytes false room = λ _. refuse
+
+-- a part of an expression, or of a condition where c is true
+abbrev pub level : Bool → ℕ → ℕ → ℕ → ℕ → Option At → Parser r.Found
+level c room taken height count minus = r.level (r.unary room) (counted_bytes c room) room c taken height count minus
