@@ -5,7 +5,7 @@ use denote.Ref.{MutBor}
 use Rattle.spl_tree.specs.declared.names_and_places.At.{At}
 use Rattle.spl_tree.specs.Symbols.{Lexeme}
 use Rattle.spl_tree.specs.Trees as tree
-use Rattle.spl_grammar.specs.Readers.{Parser, refuse}
+use Rattle.spl_grammar.specs.Readers.{Parser, ◌>>=◌, by_symbol, pure, refuse}
 use Rattle.spl_grammar.specs.ReadExpressions as r
 use Rattle.spl_expr.specs.declared.parts.Part.{Part}
 use Rattle.spl_expr.specs.declared.faults.Fault.{Fault}
@@ -32,3 +32,27 @@ counted_bytes false room = λ _. refuse
 -- a part of an expression, or of a condition where c is true
 abbrev pub level : Bool → ℕ → ℕ → ℕ → ℕ → Option At → Parser r.Found
 level c room taken height count minus = r.level (r.unary room) (counted_bytes c room) room c taken height count minus
+
+-- what goes on with a part of the level above this one
+abbrev pub turn : Bool → ℕ → ℕ → ℕ → At → r.Found → Parser (Bool × r.Found)
+turn c room taken height at = r.turn (r.unary room) (counted_bytes c room) room c taken (level c room taken height) height at
+
+-- the first operand of the level above this one
+abbrev pub first : Bool → ℕ → ℕ → ℕ → ℕ → Option At → Parser r.Found
+first c room taken height count minus = r.first (r.unary room) (counted_bytes c room) room c taken (level c room taken height) height count minus
+
+-- the term behind a sign
+abbrev pub term : Bool → ℕ → ℕ → ℕ → ℕ → Lexeme → Parser r.Found
+term c room taken height count sign = by_symbol (r.signed_by_next (r.unary room) (counted_bytes c room) room c taken (level c room taken height) count sign)
+
+-- an operator and its right operand
+abbrev pub join : Bool → ℕ → ℕ → ℕ → At → r.Found → Parser (Bool × r.Found)
+join c room taken height at f = r.join (r.unary room) (counted_bytes c room) room c taken (level c room taken height) height at f
+
+-- the number of bytes behind a comparison
+abbrev pub bytes : ℕ → ℕ → r.Found → Parser (Bool × r.Found)
+bytes room taken f = r.bytes (r.unary room) (r.within room) room true taken f
+
+-- a whole expression or condition
+abbrev pub whole : Bool → ℕ → ℕ → Parser tree.Tree
+whole c room taken = level c room taken 10 0 None >>= λ f. pure f.tree

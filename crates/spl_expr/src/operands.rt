@@ -101,7 +101,7 @@ fn enter<'a>(tokens: &mut Tokens<'a>, room: u8, taken: u8) -> Result<&'a Token, 
 
 #[tactic(auto, using(crate::proofs::Steps::steps), unfolding(spl_grammar::specs::Readers::pure, spl_grammar::specs::Readers::refuse, spl_grammar::specs::Readers::followed, spl_grammar::specs::Readers::and_then, crate::specs::Parts::operand, spl_grammar::specs::ReadExpressions::opening))]
 /// A parenthesis that opens a construct.
-fn opening<'a>(tokens: &mut Tokens<'a>, room: u8, taken: u8) -> Result<&'a Token, Fault>
+pub fn opening<'a>(tokens: &mut Tokens<'a>, room: u8, taken: u8) -> Result<&'a Token, Fault>
     ensures read { Reads shown (spec.opening room taken tokens.old) result tokens.new }
     ensures room { OnOk result (taken < room) }
 {

@@ -2,10 +2,11 @@
 ghost use Rattle.std.specs.Prelude.{◌≡◌};
 ghost use Rattle.spl_tree.specs.Symbols.{symbol_of};
 ghost use Rattle.spl_expr.specs.Cursor.{symbol_in};
+ghost use Rattle.spl_expr.specs.Reads.{lexeme};
 ghost use Rattle.spl_grammar.specs.Readers.{same_symbol};
 ghost use Rattle.spl_grammar.specs.Readers as readers;
 
-use spl_tree::{Kind, Reserved, Symbol, What, binary};
+use spl_tree::{Kind, Reserved, Symbol, Token, What, binary};
 
 /// The reserved words with their symbols.
 const RESERVED: [(&str, Symbol); 50] = [
@@ -202,4 +203,12 @@ pub fn symbol(what: &What) -> Symbol
         },
         What::End => Symbol::Stop,
     }
+}
+
+/// The symbol of a token.
+#[tactic(auto, unfolding(crate::specs::Reads::lexeme))]
+pub fn token_symbol(token: &Token) -> Symbol
+    ensures { result ≡ (lexeme token.now).symbol }
+{
+    symbol(&token.what)
 }
