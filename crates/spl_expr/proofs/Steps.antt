@@ -1,5 +1,5 @@
 -- How the readings of the grammar go on where one of their steps was made.
-use Rattle.std.proofs.Common.{ℕ, ◌≡◌, List, [], ◌∷◌, Bool, true, false, if◌then◌else◌, Option, Some, None, Result, Ok, Err, IsErr, IsErrAnd, refl, sym, ap, ◌∙◌, rules, arith}
+use Rattle.std.proofs.Common.{ℕ, ◌≡◌, List, [], ◌∷◌, ◌++◌, map, Bool, true, false, if◌then◌else◌, Option, Some, None, Result, Ok, Err, IsErr, IsErrAnd, refl, sym, ap, ◌∙◌, rules, arith}
 use Rattle.spl_tree.specs.declared.symbols.Symbol.{Symbol}
 use Rattle.spl_tree.specs.declared.symbols.Symbol.TheVariants as s
 use Rattle.spl_tree.specs.declared.tokens.Token.{Token}
@@ -72,5 +72,10 @@ no_name table (t ∷ ts) us TooDeep h = go (same_symbol t.symbol s.Name) h
     go : (b : Bool) → named_by (if b then Some t.letters else None) (t ∷ ts) ≡ Deep us → (if b then numbered (table t.letters) (t ∷ ts) else Bad (t ∷ ts)) ≡ Deep us
     go true e = cc
     go false e = cc
+
+-- a list with one more at its end, through a view
+pub pushed : {X A : Type 0} (view : X → A) (xs : List X) (x : X) → map view (xs ++ x ∷ []) ≡ map view xs ++ view x ∷ []
+pushed view [] x = refl
+pushed view (y ∷ ys) x = ap (λ zs. view y ∷ zs) (pushed view ys x)
 
 pub ruleset steps = (by_peek, no_peek, goes_on, fails, handed, lexeme_at, by_name, no_name)

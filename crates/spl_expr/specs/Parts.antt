@@ -1,5 +1,7 @@
 -- Parts that were read, as the grammar's readings have them.
-use Rattle.std.specs.Prelude.{ℕ, ◌+◌, []}
+use Rattle.std.specs.Prelude.{ℕ, ◌+◌, List, [], map, Vec}
+use Rattle.std.specs.declared.alloc.Global.{Global}
+use Rattle.spl_tree.specs.declared.expressions.Expr.{Expr}
 use Rattle.spl_tree.specs.Operators.{Form, reference, comparison, other}
 use Rattle.spl_tree.specs.Trees as tree
 use Rattle.spl_tree.specs.Views as view
@@ -27,3 +29,7 @@ operand p = record { count = 0; form = form p; tree = tree_of p }
 -- a part behind its operators
 unfoldable pub found : Found → r.Found
 found f = record { count = f.count; form = form f.part; tree = tree_of f.part }
+
+-- expressions in order
+abbrev pub expressions : Vec Expr Global → List tree.Tree
+expressions es = map view.expression es.items

@@ -3,6 +3,7 @@
 
 mod comparison;
 mod constants;
+mod expressions;
 mod faults;
 mod levels;
 mod operands;
@@ -13,6 +14,7 @@ mod tokens;
 mod words;
 
 pub use constants::{constant, is_sign};
+pub use expressions::{arguments_within, condition_within, enclosed_within, expression_within};
 pub use faults::{Fault, ParseFault};
 pub use symbols::{same, symbol};
 pub use tokens::Tokens;

@@ -3,11 +3,11 @@ ghost use Rattle.std.specs.Prelude.{◌≡◌, ◌+◌, ◌≤◌, ◌==◌, ◌
 ghost use Rattle.spl_tree.specs.Operators as operators;
 ghost use Rattle.spl_tree.specs.Trees as tree;
 ghost use Rattle.spl_tree.specs.Views.{letters, expression};
-ghost use Rattle.spl_grammar.specs.ReadExpressions.{is_comparison};
-ghost use Rattle.spl_expr.specs.Parts.{form, tree_of};
+ghost use Rattle.spl_grammar.specs.ReadExpressions.{plain};
+ghost use Rattle.spl_expr.specs.Parts.{form, tree_of, operand};
 
 use crate::comparison::Comparison;
-use spl_tree::{At, Expr, Name, Ref, binary};
+use spl_tree::{At, Chars, Expr, Kind, Name, Ref, binary, unary};
 use std::alloc::{AllocError, Global};
 
 /// A part of an expression: a reference as it stands, two of them with a relation between, or anything else. A
@@ -83,6 +83,105 @@ impl Part {
             Part::Other(e) => Ok(e),
         }
     }
+}
+
+/// A number of one word.
+#[tactic(auto, unfolding(crate::specs::Parts::operand))]
+pub fn number(value: u16) -> Part
+    ensures { operand result ≡ plain operators.other (tree.Tree.number value) }
+{
+    Part::Other(Expr::Number(value))
+}
+
+/// A number of two words.
+#[tactic(auto, unfolding(crate::specs::Parts::operand))]
+pub fn wide(value: u32) -> Part
+    ensures { operand result ≡ plain operators.other (tree.Tree.wide value) }
+{
+    Part::Other(Expr::Wide(value))
+}
+
+/// A string.
+#[tactic(auto, unfolding(crate::specs::Parts::operand))]
+pub fn string(chars: Chars) -> Part
+    ensures { operand result ≡ plain operators.other (tree.Tree.text chars.bytes.items) }
+{
+    Part::Other(Expr::Text(chars))
+}
+
+/// TRUE or FALSE.
+#[tactic(auto, unfolding(crate::specs::Parts::operand))]
+pub fn truth(value: bool) -> Part
+    ensures { operand result ≡ plain operators.other (tree.Tree.truth value) }
+{
+    Part::Other(Expr::Truth(value))
+}
+
+/// What was read in parentheses.
+#[tactic(auto, unfolding(crate::specs::Parts::operand))]
+pub fn enclosing(of: Expr) -> Part
+    ensures { operand result ≡ plain operators.other (expression of) }
+{
+    Part::Other(of)
+}
+
+/// A name alone.
+#[tactic(auto, unfolding(crate::specs::Parts::operand))]
+pub fn variable(name: Name, at: At) -> Part
+    ensures { operand result ≡ plain operators.reference (tree.Tree.named (letters name) (tree.trees []) at) }
+{
+    Part::Reference(Ref {
+        name,
+        index: None,
+        at,
+    })
+}
+
+/// The address of a variable.
+#[tactic(auto, using(crate::proofs::ViewLemmas::element_tree), unfolding(crate::specs::Parts::operand))]
+pub fn address(name: Name, at: At) -> Part
+    ensures { operand result ≡ plain operators.other (tree.Tree.address (letters name) (tree.trees []) at) }
+{
+    Part::Other(Expr::Address {
+        name,
+        index: None,
+        at,
+    })
+}
+
+/// The address of an element.
+#[tactic(auto, unfolding(crate::specs::Parts::operand))]
+pub fn element_address(alloc: Global, name: Name, index: Expr, at: At) -> Result<Part, AllocError>
+    ensures { IfOk result (λ p. operand p ≡ plain operators.other (tree.Tree.address (letters name) (tree.trees (expression index ∷ [])) at)) }
+{
+    let index = Box::new(alloc, index)?;
+    Ok(Part::Other(Expr::Address {
+        name,
+        index: Some(index),
+        at,
+    }))
+}
+
+/// A value taken as one of another kind.
+#[tactic(auto, unfolding(crate::specs::Parts::operand))]
+pub fn transferred(alloc: Global, to: Kind, of: Expr, at: At) -> Result<Part, AllocError>
+    ensures { IfOk result (λ p. operand p ≡ plain operators.other (tree.Tree.transfer to (expression of) at)) }
+{
+    let of = Box::new(alloc, of)?;
+    Ok(Part::Other(Expr::Transfer { to, of, at }))
+}
+
+/// NOT before an operand.
+#[tactic(auto, unfolding(crate::specs::Parts::operand))]
+pub fn inverted(alloc: Global, of: Part, at: At) -> Result<Part, AllocError>
+    ensures { IfOk result (λ p. operand p ≡ plain operators.other (tree.Tree.unary 2 (operand of).tree at)) }
+{
+    let of = Box::new(alloc, of.into_expr(alloc)?)?;
+    Ok(Part::Other(Expr::Unary {
+        op: unary::NOT,
+        of,
+        at,
+    }))
 }
 
 /// A name with arguments: a reference, where it has one.
