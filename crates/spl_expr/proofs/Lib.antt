@@ -1,5 +1,2 @@
-pub mod CursorLemmas
-pub mod Steps
 pub mod ViewLemmas
-pub mod Turns
 pub mod LevelLemmas

@@ -1,4 +1,2 @@
-pub mod Cursor
-pub mod Reads
 pub mod Parts
 pub mod Nests

@@ -10,8 +10,8 @@ use Rattle.spl_tree.specs.Trees as tree
 use Rattle.spl_grammar.specs.Readers.{Parser, ◌>>=◌, by_symbol, take, pure, refuse}
 use Rattle.spl_grammar.specs.ReadExpressions as r
 use Rattle.spl_expr.specs.declared.parts.Part.{Part}
-use Rattle.spl_expr.specs.declared.faults.Fault.{Fault}
-use Rattle.spl_expr.specs.Reads.{Reads}
+use Rattle.spl_tokens.specs.declared.faults.Fault.{Fault}
+use Rattle.spl_tokens.specs.Reads.{Reads}
 use Rattle.spl_expr.specs.Parts.{operand}
 
 pub record Nests (bound : ℕ) (pre : Global → MutBor (List Lexeme) → ℕ → ℕ → Option At → Type 0)

@@ -2,14 +2,13 @@
 ghost use Rattle.spl_tree.specs.Views as view;
 ghost use Rattle.spl_grammar.specs.ReadExpressions as spec;
 ghost use Rattle.spl_grammar.specs.Readers.{refuse};
-ghost use Rattle.spl_expr.specs.Reads.{Reads};
+ghost use Rattle.spl_tokens.specs.Reads.{Reads};
 ghost use Rattle.spl_expr.specs.Parts.{expressions};
 ghost use Rattle.spl_expr.specs.Nests as nests;
 
-use crate::faults::Fault;
 use crate::levels::Levels;
 use crate::operands::{Operands, operand};
-use crate::tokens::Tokens;
+use spl_tokens::{Fault, Tokens};
 use spl_tree::Expr;
 use std::alloc::Global;
 

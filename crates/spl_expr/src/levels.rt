@@ -5,18 +5,16 @@ ghost use Rattle.spl_tree.specs.Trees as tree;
 ghost use Rattle.spl_tree.specs.Views as view;
 ghost use Rattle.spl_grammar.specs.Readers as readers;
 ghost use Rattle.spl_grammar.specs.ReadExpressions as spec;
-ghost use Rattle.spl_expr.specs.Reads.{Reads, lexeme, shown, paired, peeked, same_as};
+ghost use Rattle.spl_tokens.specs.Reads.{Reads, lexeme, shown, paired, peeked, same_as};
 ghost use Rattle.spl_expr.specs.Parts.{form, tree_of, operand, found};
 ghost use Rattle.spl_expr.specs.Nests.{Nests, counted_bytes, level, turn, first, term, join, bytes, whole};
 
 use crate::comparison::Comparison;
-use crate::constants::{constant, is_sign};
-use crate::faults::Fault;
 use crate::operands::opening;
-use crate::operators::{binds, is_number, operator_of, shift_of};
 use crate::parts::{Found, Part};
-use crate::symbols::{same, token_symbol};
-use crate::tokens::Tokens;
+use spl_tokens::{
+    Fault, Tokens, binds, constant, is_number, is_sign, operator_of, same, shift_of, token_symbol,
+};
 use spl_tree::{At, Const, Expr, Symbol, Token, binary, unary};
 use std::alloc::{AllocError, Global};
 
@@ -32,7 +30,7 @@ pub struct Levels<F> {
     pub operand: F,
 }
 
-#[tactic(auto, using(crate::proofs::Steps::steps), unfolding(spl_grammar::specs::Readers::pure, spl_grammar::specs::Readers::refuse, spl_grammar::specs::Readers::followed, spl_grammar::specs::Readers::and_then, spl_grammar::specs::Readers::numbered))]
+#[tactic(auto, using(spl_tokens::proofs::Steps::steps), unfolding(spl_grammar::specs::Readers::pure, spl_grammar::specs::Readers::refuse, spl_grammar::specs::Readers::followed, spl_grammar::specs::Readers::and_then, spl_grammar::specs::Readers::numbered))]
 /// The number of the shift that comes next.
 fn shift_kind(tokens: &mut Tokens<'_>) -> Result<u8, Fault>
     ensures { Reads same_as (readers.named_number operators.shift_of tokens.old) result tokens.new }
@@ -145,7 +143,7 @@ fn combined(
 }
 
 impl<F: Fn(Global, &mut Tokens<'_>, u8, u8, Option<At>) -> Result<Part, Fault> + Copy> Levels<F> {
-    #[tactic(auto, using(crate::proofs::Steps::steps), unfolding(spl_grammar::specs::Readers::pure, spl_grammar::specs::Readers::refuse, spl_grammar::specs::Readers::followed, spl_grammar::specs::Readers::and_then, crate::specs::Parts::operand, crate::specs::Parts::found, spl_grammar::specs::ReadExpressions::counted))]
+    #[tactic(auto, using(spl_tokens::proofs::Steps::steps), unfolding(spl_grammar::specs::Readers::pure, spl_grammar::specs::Readers::refuse, spl_grammar::specs::Readers::followed, spl_grammar::specs::Readers::and_then, crate::specs::Parts::operand, crate::specs::Parts::found, spl_grammar::specs::ReadExpressions::counted))]
     /// An operator or a mark `&` behind so many others of its expression.
     fn counted<'a>(&self, tokens: &mut Tokens<'a>, count: u16) -> Result<&'a Token, Fault>
         requires { self.now.taken + count / 8 ≤ self.now.room }
@@ -158,7 +156,7 @@ impl<F: Fn(Global, &mut Tokens<'_>, u8, u8, Option<At>) -> Result<Part, Fault> +
         tokens.allowed(open <= room)
     }
 
-    #[tactic(auto, using(crate::proofs::Steps::steps), unfolding(spl_grammar::specs::Readers::pure, spl_grammar::specs::Readers::refuse, spl_grammar::specs::Readers::followed, spl_grammar::specs::Readers::and_then, crate::specs::Parts::operand, crate::specs::Parts::found, spl_grammar::specs::ReadExpressions::level))]
+    #[tactic(auto, using(spl_tokens::proofs::Steps::steps), unfolding(spl_grammar::specs::Readers::pure, spl_grammar::specs::Readers::refuse, spl_grammar::specs::Readers::followed, spl_grammar::specs::Readers::and_then, crate::specs::Parts::operand, crate::specs::Parts::found, spl_grammar::specs::ReadExpressions::level))]
     /// An operand behind so many operators.
     fn operand(
         &self,
@@ -177,7 +175,7 @@ impl<F: Fn(Global, &mut Tokens<'_>, u8, u8, Option<At>) -> Result<Part, Fault> +
         Ok(Found { count, part })
     }
 
-    #[tactic(auto, using(crate::proofs::Steps::steps), unfolding(spl_grammar::specs::Readers::pure, spl_grammar::specs::Readers::refuse, spl_grammar::specs::Readers::followed, spl_grammar::specs::Readers::and_then, crate::specs::Parts::operand, crate::specs::Parts::found, spl_grammar::specs::ReadExpressions::shifted))]
+    #[tactic(auto, using(spl_tokens::proofs::Steps::steps), unfolding(spl_grammar::specs::Readers::pure, spl_grammar::specs::Readers::refuse, spl_grammar::specs::Readers::followed, spl_grammar::specs::Readers::and_then, crate::specs::Parts::operand, crate::specs::Parts::found, spl_grammar::specs::ReadExpressions::shifted))]
     /// A shift of what was read, from its mark on.
     fn shifted(&self, tokens: &mut Tokens<'_>, of: Found, at: At) -> Result<(bool, Found), Fault>
         requires room { self.now.taken + of.count / 8 ≤ self.now.room }
@@ -201,7 +199,7 @@ impl<F: Fn(Global, &mut Tokens<'_>, u8, u8, Option<At>) -> Result<Part, Fault> +
         ))
     }
 
-    #[tactic(auto, using(crate::proofs::Steps::steps), unfolding(spl_grammar::specs::Readers::pure, spl_grammar::specs::Readers::refuse, spl_grammar::specs::Readers::followed, spl_grammar::specs::Readers::and_then, crate::specs::Parts::operand, crate::specs::Parts::found, spl_grammar::specs::ReadExpressions::level))]
+    #[tactic(auto, using(spl_tokens::proofs::Steps::steps), unfolding(spl_grammar::specs::Readers::pure, spl_grammar::specs::Readers::refuse, spl_grammar::specs::Readers::followed, spl_grammar::specs::Readers::and_then, crate::specs::Parts::operand, crate::specs::Parts::found, spl_grammar::specs::ReadExpressions::level))]
     /// A part of a level behind so many operators.
     #[cycle(level)]
     fn level(
@@ -225,7 +223,7 @@ impl<F: Fn(Global, &mut Tokens<'_>, u8, u8, Option<At>) -> Result<Part, Fault> +
         self.rest(tokens, height - 1, of, at)
     }
 
-    #[tactic(auto, using(crate::proofs::Steps::steps), unfolding(spl_grammar::specs::Readers::pure, spl_grammar::specs::Readers::refuse, spl_grammar::specs::Readers::followed, spl_grammar::specs::Readers::and_then, crate::specs::Parts::operand, crate::specs::Parts::found, spl_grammar::specs::ReadExpressions::first))]
+    #[tactic(auto, using(spl_tokens::proofs::Steps::steps), unfolding(spl_grammar::specs::Readers::pure, spl_grammar::specs::Readers::refuse, spl_grammar::specs::Readers::followed, spl_grammar::specs::Readers::and_then, crate::specs::Parts::operand, crate::specs::Parts::found, spl_grammar::specs::ReadExpressions::first))]
     /// The first operand of the level above.
     #[cycle(level)]
     fn first(
@@ -252,7 +250,7 @@ impl<F: Fn(Global, &mut Tokens<'_>, u8, u8, Option<At>) -> Result<Part, Fault> +
         }
     }
 
-    #[tactic(auto, using(crate::proofs::Steps::steps), unfolding(spl_grammar::specs::Readers::pure, spl_grammar::specs::Readers::refuse, spl_grammar::specs::Readers::followed, spl_grammar::specs::Readers::and_then, crate::specs::Parts::operand, crate::specs::Parts::found, spl_grammar::specs::ReadExpressions::signed_by_next))]
+    #[tactic(auto, using(spl_tokens::proofs::Steps::steps), unfolding(spl_grammar::specs::Readers::pure, spl_grammar::specs::Readers::refuse, spl_grammar::specs::Readers::followed, spl_grammar::specs::Readers::and_then, crate::specs::Parts::operand, crate::specs::Parts::found, spl_grammar::specs::ReadExpressions::signed_by_next))]
     /// The term behind a sign.
     #[cycle(level)]
     fn term(
@@ -281,7 +279,7 @@ impl<F: Fn(Global, &mut Tokens<'_>, u8, u8, Option<At>) -> Result<Part, Fault> +
         }
     }
 
-    #[tactic(auto, using(crate::proofs::Steps::steps, crate::proofs::Turns::loops), unfolding(spl_grammar::specs::Readers::pure, spl_grammar::specs::Readers::refuse, spl_grammar::specs::Readers::followed, spl_grammar::specs::Readers::and_then, crate::specs::Parts::operand, crate::specs::Parts::found))]
+    #[tactic(auto, using(spl_tokens::proofs::Steps::steps, spl_tokens::proofs::Turns::loops), unfolding(spl_grammar::specs::Readers::pure, spl_grammar::specs::Readers::refuse, spl_grammar::specs::Readers::followed, spl_grammar::specs::Readers::and_then, crate::specs::Parts::operand, crate::specs::Parts::found))]
     /// What goes on with a part of the level above.
     #[cycle(level)]
     fn rest(&self, tokens: &mut Tokens<'_>, height: u8, of: Found, at: At) -> Result<Found, Fault>
@@ -302,7 +300,7 @@ impl<F: Fn(Global, &mut Tokens<'_>, u8, u8, Option<At>) -> Result<Part, Fault> +
         Err(Fault::Syntax)
     }
 
-    #[tactic(auto, using(crate::proofs::Steps::steps), unfolding(spl_grammar::specs::Readers::pure, spl_grammar::specs::Readers::refuse, spl_grammar::specs::Readers::followed, spl_grammar::specs::Readers::and_then, crate::specs::Parts::operand, crate::specs::Parts::found, spl_grammar::specs::ReadExpressions::turn, spl_grammar::specs::ReadExpressions::turn_by))]
+    #[tactic(auto, using(spl_tokens::proofs::Steps::steps), unfolding(spl_grammar::specs::Readers::pure, spl_grammar::specs::Readers::refuse, spl_grammar::specs::Readers::followed, spl_grammar::specs::Readers::and_then, crate::specs::Parts::operand, crate::specs::Parts::found, spl_grammar::specs::ReadExpressions::turn, spl_grammar::specs::ReadExpressions::turn_by))]
     /// One turn of it, and whether another may follow.
     #[cycle(level)]
     fn turn(
@@ -330,7 +328,7 @@ impl<F: Fn(Global, &mut Tokens<'_>, u8, u8, Option<At>) -> Result<Part, Fault> +
         }
     }
 
-    #[tactic(auto, using(crate::proofs::Steps::steps), unfolding(spl_grammar::specs::Readers::pure, spl_grammar::specs::Readers::refuse, spl_grammar::specs::Readers::followed, spl_grammar::specs::Readers::and_then, crate::specs::Parts::operand, crate::specs::Parts::found, spl_grammar::specs::ReadExpressions::join))]
+    #[tactic(auto, using(spl_tokens::proofs::Steps::steps), unfolding(spl_grammar::specs::Readers::pure, spl_grammar::specs::Readers::refuse, spl_grammar::specs::Readers::followed, spl_grammar::specs::Readers::and_then, crate::specs::Parts::operand, crate::specs::Parts::found, spl_grammar::specs::ReadExpressions::join))]
     /// An operator and its right operand.
     #[cycle(level)]
     fn join(
@@ -362,7 +360,7 @@ impl<F: Fn(Global, &mut Tokens<'_>, u8, u8, Option<At>) -> Result<Part, Fault> +
         ))
     }
 
-    #[tactic(auto, using(crate::proofs::Steps::steps), unfolding(spl_grammar::specs::Readers::pure, spl_grammar::specs::Readers::refuse, spl_grammar::specs::Readers::followed, spl_grammar::specs::Readers::and_then, crate::specs::Parts::operand, crate::specs::Parts::found))]
+    #[tactic(auto, using(spl_tokens::proofs::Steps::steps), unfolding(spl_grammar::specs::Readers::pure, spl_grammar::specs::Readers::refuse, spl_grammar::specs::Readers::followed, spl_grammar::specs::Readers::and_then, crate::specs::Parts::operand, crate::specs::Parts::found))]
     /// The number of bytes, where a comparison was read.
     #[cycle(level)]
     fn compared(&self, tokens: &mut Tokens<'_>, of: Found) -> Result<(bool, Found), Fault>
@@ -379,7 +377,7 @@ impl<F: Fn(Global, &mut Tokens<'_>, u8, u8, Option<At>) -> Result<Part, Fault> +
         }
     }
 
-    #[tactic(auto, using(crate::proofs::Steps::steps), unfolding(spl_grammar::specs::Readers::pure, spl_grammar::specs::Readers::refuse, spl_grammar::specs::Readers::followed, spl_grammar::specs::Readers::and_then, crate::specs::Parts::operand, crate::specs::Parts::found, spl_grammar::specs::ReadExpressions::bytes))]
+    #[tactic(auto, using(spl_tokens::proofs::Steps::steps), unfolding(spl_grammar::specs::Readers::pure, spl_grammar::specs::Readers::refuse, spl_grammar::specs::Readers::followed, spl_grammar::specs::Readers::and_then, crate::specs::Parts::operand, crate::specs::Parts::found, spl_grammar::specs::ReadExpressions::bytes))]
     /// The number of bytes of a comparison, from its comma on.
     #[cycle(level)]
     fn bytes(
@@ -410,7 +408,7 @@ impl<F: Fn(Global, &mut Tokens<'_>, u8, u8, Option<At>) -> Result<Part, Fault> +
         Ok((true, Found { count, part }))
     }
 
-    #[tactic(auto, using(crate::proofs::Steps::steps), unfolding(spl_grammar::specs::Readers::pure, spl_grammar::specs::Readers::refuse, spl_grammar::specs::Readers::followed, spl_grammar::specs::Readers::and_then, crate::specs::Parts::operand, crate::specs::Parts::found))]
+    #[tactic(auto, using(spl_tokens::proofs::Steps::steps), unfolding(spl_grammar::specs::Readers::pure, spl_grammar::specs::Readers::refuse, spl_grammar::specs::Readers::followed, spl_grammar::specs::Readers::and_then, crate::specs::Parts::operand, crate::specs::Parts::found))]
     /// A whole expression or condition.
     #[cycle(level)]
     pub fn whole(&self, tokens: &mut Tokens<'_>) -> Result<Expr, Fault>

@@ -6,20 +6,16 @@ ghost use Rattle.spl_tree.specs.Views as view;
 ghost use Rattle.spl_grammar.specs.Readers.{by_symbol};
 ghost use Rattle.spl_grammar.specs.Readers as readers;
 ghost use Rattle.spl_grammar.specs.ReadExpressions as spec;
-ghost use Rattle.spl_expr.specs.Reads.{Reads, lexeme, shown, paired};
+ghost use Rattle.spl_tokens.specs.Reads.{Reads, lexeme, shown, paired};
 ghost use Rattle.spl_expr.specs.Parts.{operand, expressions};
 ghost use Rattle.spl_expr.specs.Nests.{Nests, inner, negated_at, enclosed, more_arguments, arguments, named, addressed, transfer, atom, primary, inverse, operand_at};
 
-use crate::constants::constant;
-use crate::faults::Fault;
 use crate::levels::Levels;
 use crate::parts::{
     Part, address, called, element_address, enclosing, inverted, number, string, transferred,
     truth, variable, wide,
 };
-use crate::symbols::same;
-use crate::tokens::Tokens;
-use crate::words::{name, text};
+use spl_tokens::{Fault, Tokens, constant, name, same, text};
 use spl_tree::{At, Expr, Kind, Symbol, Token};
 use std::alloc::Global;
 
@@ -32,7 +28,7 @@ pub struct Operands<F> {
     pub operand: F,
 }
 
-#[tactic(auto, using(crate::proofs::Steps::steps), unfolding(spl_grammar::specs::Readers::pure, spl_grammar::specs::Readers::refuse, spl_grammar::specs::Readers::followed, spl_grammar::specs::Readers::and_then, crate::specs::Parts::operand, spl_grammar::specs::ReadExpressions::bits))]
+#[tactic(auto, using(spl_tokens::proofs::Steps::steps), unfolding(spl_grammar::specs::Readers::pure, spl_grammar::specs::Readers::refuse, spl_grammar::specs::Readers::followed, spl_grammar::specs::Readers::and_then, crate::specs::Parts::operand, spl_grammar::specs::ReadExpressions::bits))]
 /// A bit field of what was read, from its dot on.
 fn bits(alloc: Global, tokens: &mut Tokens<'_>, of: Part, at: At) -> Result<Part, Fault>
     ensures { Reads operand (spec.bits at (operand of) tokens.old) result tokens.new }
@@ -52,7 +48,7 @@ fn bits(alloc: Global, tokens: &mut Tokens<'_>, of: Part, at: At) -> Result<Part
     }))
 }
 
-#[tactic(auto, using(crate::proofs::Steps::steps), unfolding(spl_grammar::specs::Readers::pure, spl_grammar::specs::Readers::refuse, spl_grammar::specs::Readers::followed, spl_grammar::specs::Readers::and_then, crate::specs::Parts::operand, spl_grammar::specs::ReadExpressions::field))]
+#[tactic(auto, using(spl_tokens::proofs::Steps::steps), unfolding(spl_grammar::specs::Readers::pure, spl_grammar::specs::Readers::refuse, spl_grammar::specs::Readers::followed, spl_grammar::specs::Readers::and_then, crate::specs::Parts::operand, spl_grammar::specs::ReadExpressions::field))]
 /// What was read, or a bit field of it.
 fn field(alloc: Global, tokens: &mut Tokens<'_>, of: Part, at: At) -> Result<Part, Fault>
     ensures { Reads operand (spec.field at (operand of) tokens.old) result tokens.new }
@@ -78,7 +74,7 @@ fn negated_double(value: u32) -> u32
     if value == 0 { 0 } else { u32::MAX - value + 1 }
 }
 
-#[tactic(auto, using(crate::proofs::Steps::steps), unfolding(spl_grammar::specs::Readers::pure, spl_grammar::specs::Readers::refuse, spl_grammar::specs::Readers::followed, spl_grammar::specs::Readers::and_then, crate::specs::Parts::operand, spl_grammar::specs::ReadExpressions::negative_by))]
+#[tactic(auto, using(spl_tokens::proofs::Steps::steps), unfolding(spl_grammar::specs::Readers::pure, spl_grammar::specs::Readers::refuse, spl_grammar::specs::Readers::followed, spl_grammar::specs::Readers::and_then, crate::specs::Parts::operand, spl_grammar::specs::ReadExpressions::negative_by))]
 /// The number behind a minus.
 fn negative(tokens: &mut Tokens<'_>, at: At) -> Result<Part, Fault>
     ensures { Reads operand (by_symbol (spec.negative_by at) tokens.old) result tokens.new }
@@ -97,7 +93,7 @@ fn negative(tokens: &mut Tokens<'_>, at: At) -> Result<Part, Fault>
 }
 
 /// The number behind a minus, with its bit field where it has one.
-#[tactic(auto, using(crate::proofs::Steps::steps), unfolding(spl_grammar::specs::Readers::pure, spl_grammar::specs::Readers::refuse, spl_grammar::specs::Readers::followed, spl_grammar::specs::Readers::and_then))]
+#[tactic(auto, using(spl_tokens::proofs::Steps::steps), unfolding(spl_grammar::specs::Readers::pure, spl_grammar::specs::Readers::refuse, spl_grammar::specs::Readers::followed, spl_grammar::specs::Readers::and_then))]
 fn negated(alloc: Global, tokens: &mut Tokens<'_>, at: At) -> Result<Part, Fault>
     ensures { Reads operand (negated_at at tokens.old) result tokens.new }
 {
@@ -105,16 +101,16 @@ fn negated(alloc: Global, tokens: &mut Tokens<'_>, at: At) -> Result<Part, Fault
     field(alloc, tokens, of, at)
 }
 
-#[tactic(auto, using(crate::proofs::Steps::steps), unfolding(spl_grammar::specs::Readers::pure, spl_grammar::specs::Readers::refuse, spl_grammar::specs::Readers::followed, spl_grammar::specs::Readers::and_then, crate::specs::Parts::operand, spl_grammar::specs::ReadExpressions::enter))]
+#[tactic(auto, using(spl_tokens::proofs::Steps::steps), unfolding(spl_grammar::specs::Readers::pure, spl_grammar::specs::Readers::refuse, spl_grammar::specs::Readers::followed, spl_grammar::specs::Readers::and_then, crate::specs::Parts::operand, spl_grammar::specs::ReadExpressions::enter))]
 /// A token that opens a construct.
-fn enter<'a>(tokens: &mut Tokens<'a>, room: u8, taken: u8) -> Result<&'a Token, Fault>
+pub fn enter<'a>(tokens: &mut Tokens<'a>, room: u8, taken: u8) -> Result<&'a Token, Fault>
     ensures read { Reads shown (spec.enter room taken tokens.old) result tokens.new }
     ensures room { OnOk result (taken < room) }
 {
     tokens.allowed(taken < room)
 }
 
-#[tactic(auto, using(crate::proofs::Steps::steps), unfolding(spl_grammar::specs::Readers::pure, spl_grammar::specs::Readers::refuse, spl_grammar::specs::Readers::followed, spl_grammar::specs::Readers::and_then, crate::specs::Parts::operand, spl_grammar::specs::ReadExpressions::opening))]
+#[tactic(auto, using(spl_tokens::proofs::Steps::steps), unfolding(spl_grammar::specs::Readers::pure, spl_grammar::specs::Readers::refuse, spl_grammar::specs::Readers::followed, spl_grammar::specs::Readers::and_then, crate::specs::Parts::operand, spl_grammar::specs::ReadExpressions::opening))]
 /// A parenthesis that opens a construct.
 pub fn opening<'a>(tokens: &mut Tokens<'a>, room: u8, taken: u8) -> Result<&'a Token, Fault>
     ensures read { Reads shown (spec.opening room taken tokens.old) result tokens.new }
@@ -146,7 +142,7 @@ impl<F: Fn(Global, &mut Tokens<'_>, u8, u8, Option<At>) -> Result<Part, Fault> +
     }
 
     /// An expression in parentheses.
-    #[tactic(auto, using(crate::proofs::Steps::steps), unfolding(spl_grammar::specs::Readers::pure, spl_grammar::specs::Readers::refuse, spl_grammar::specs::Readers::followed, spl_grammar::specs::Readers::and_then, spl_grammar::specs::ReadExpressions::enclosed))]
+    #[tactic(auto, using(spl_tokens::proofs::Steps::steps), unfolding(spl_grammar::specs::Readers::pure, spl_grammar::specs::Readers::refuse, spl_grammar::specs::Readers::followed, spl_grammar::specs::Readers::and_then, spl_grammar::specs::ReadExpressions::enclosed))]
     pub fn enclosed(&self, tokens: &mut Tokens<'_>, taken: u8) -> Result<Expr, Fault>
         requires nests { Nests self.now.room (F.pre self.now.operand) (F.post self.now.operand) }
         ensures { Reads view.expression (enclosed self.now.room taken tokens.old) result tokens.new }
@@ -158,7 +154,7 @@ impl<F: Fn(Global, &mut Tokens<'_>, u8, u8, Option<At>) -> Result<Part, Fault> +
     }
 
     /// A further argument, and whether another may follow.
-    #[tactic(auto, using(crate::proofs::Steps::steps, crate::proofs::Steps::pushed), unfolding(spl_grammar::specs::Readers::pure, spl_grammar::specs::Readers::refuse, spl_grammar::specs::Readers::followed, spl_grammar::specs::Readers::and_then, spl_grammar::specs::ReadExpressions::more_arguments))]
+    #[tactic(auto, using(spl_tokens::proofs::Steps::steps, spl_tokens::proofs::Steps::pushed), unfolding(spl_grammar::specs::Readers::pure, spl_grammar::specs::Readers::refuse, spl_grammar::specs::Readers::followed, spl_grammar::specs::Readers::and_then, spl_grammar::specs::ReadExpressions::more_arguments))]
     fn argument(
         &self,
         tokens: &mut Tokens<'_>,
@@ -180,7 +176,7 @@ impl<F: Fn(Global, &mut Tokens<'_>, u8, u8, Option<At>) -> Result<Part, Fault> +
     }
 
     /// The further arguments.
-    #[tactic(auto, using(crate::proofs::Steps::steps, crate::proofs::Turns::loops), unfolding(spl_grammar::specs::Readers::pure, spl_grammar::specs::Readers::refuse, spl_grammar::specs::Readers::followed, spl_grammar::specs::Readers::and_then))]
+    #[tactic(auto, using(spl_tokens::proofs::Steps::steps, spl_tokens::proofs::Turns::loops), unfolding(spl_grammar::specs::Readers::pure, spl_grammar::specs::Readers::refuse, spl_grammar::specs::Readers::followed, spl_grammar::specs::Readers::and_then))]
     fn more(&self, tokens: &mut Tokens<'_>, taken: u8, args: Vec<Expr>) -> Result<Vec<Expr>, Fault>
         requires nests { Nests self.now.room (F.pre self.now.operand) (F.post self.now.operand) }
         requires room { taken < self.now.room }
@@ -198,7 +194,7 @@ impl<F: Fn(Global, &mut Tokens<'_>, u8, u8, Option<At>) -> Result<Part, Fault> +
     }
 
     /// Arguments in parentheses.
-    #[tactic(auto, using(crate::proofs::Steps::steps), unfolding(spl_grammar::specs::Readers::pure, spl_grammar::specs::Readers::refuse, spl_grammar::specs::Readers::followed, spl_grammar::specs::Readers::and_then, spl_grammar::specs::ReadExpressions::arguments))]
+    #[tactic(auto, using(spl_tokens::proofs::Steps::steps), unfolding(spl_grammar::specs::Readers::pure, spl_grammar::specs::Readers::refuse, spl_grammar::specs::Readers::followed, spl_grammar::specs::Readers::and_then, spl_grammar::specs::ReadExpressions::arguments))]
     pub fn arguments(&self, tokens: &mut Tokens<'_>, taken: u8) -> Result<Vec<Expr>, Fault>
         requires nests { Nests self.now.room (F.pre self.now.operand) (F.post self.now.operand) }
         ensures { Reads expressions (arguments self.now.room taken tokens.old) result tokens.new }
@@ -211,7 +207,7 @@ impl<F: Fn(Global, &mut Tokens<'_>, u8, u8, Option<At>) -> Result<Part, Fault> +
     }
 
     /// A name, with the arguments behind it.
-    #[tactic(auto, using(crate::proofs::Steps::steps), unfolding(spl_grammar::specs::Readers::pure, spl_grammar::specs::Readers::refuse, spl_grammar::specs::Readers::followed, spl_grammar::specs::Readers::and_then, spl_grammar::specs::ReadExpressions::named, crate::specs::Parts::operand))]
+    #[tactic(auto, using(spl_tokens::proofs::Steps::steps), unfolding(spl_grammar::specs::Readers::pure, spl_grammar::specs::Readers::refuse, spl_grammar::specs::Readers::followed, spl_grammar::specs::Readers::and_then, spl_grammar::specs::ReadExpressions::named, crate::specs::Parts::operand))]
     fn named(&self, tokens: &mut Tokens<'_>, taken: u8, token: &Token) -> Result<Part, Fault>
         requires nests { Nests self.now.room (F.pre self.now.operand) (F.post self.now.operand) }
         requires name { (lexeme token.now).symbol ≡ Symbol.Name }
@@ -228,7 +224,7 @@ impl<F: Fn(Global, &mut Tokens<'_>, u8, u8, Option<At>) -> Result<Part, Fault> +
     }
 
     /// The address of what a name stands for, behind its mark.
-    #[tactic(auto, using(crate::proofs::Steps::steps), unfolding(spl_grammar::specs::Readers::pure, spl_grammar::specs::Readers::refuse, spl_grammar::specs::Readers::followed, spl_grammar::specs::Readers::and_then, spl_grammar::specs::ReadExpressions::addressed))]
+    #[tactic(auto, using(spl_tokens::proofs::Steps::steps), unfolding(spl_grammar::specs::Readers::pure, spl_grammar::specs::Readers::refuse, spl_grammar::specs::Readers::followed, spl_grammar::specs::Readers::and_then, spl_grammar::specs::ReadExpressions::addressed))]
     fn addressed(
         &self,
         tokens: &mut Tokens<'_>,
@@ -251,7 +247,7 @@ impl<F: Fn(Global, &mut Tokens<'_>, u8, u8, Option<At>) -> Result<Part, Fault> +
     }
 
     /// A value taken as one of another kind.
-    #[tactic(auto, using(crate::proofs::Steps::steps), unfolding(spl_grammar::specs::Readers::pure, spl_grammar::specs::Readers::refuse, spl_grammar::specs::Readers::followed, spl_grammar::specs::Readers::and_then))]
+    #[tactic(auto, using(spl_tokens::proofs::Steps::steps), unfolding(spl_grammar::specs::Readers::pure, spl_grammar::specs::Readers::refuse, spl_grammar::specs::Readers::followed, spl_grammar::specs::Readers::and_then))]
     fn transfer(&self, tokens: &mut Tokens<'_>, taken: u8, to: Kind) -> Result<Part, Fault>
         requires nests { Nests self.now.room (F.pre self.now.operand) (F.post self.now.operand) }
         ensures { Reads operand (transfer self.now.room taken to tokens.old) result tokens.new }
@@ -262,7 +258,7 @@ impl<F: Fn(Global, &mut Tokens<'_>, u8, u8, Option<At>) -> Result<Part, Fault> +
     }
 
     /// An operand without a bit field.
-    #[tactic(auto, using(crate::proofs::Steps::steps), unfolding(spl_grammar::specs::Readers::pure, spl_grammar::specs::Readers::refuse, spl_grammar::specs::Readers::followed, spl_grammar::specs::Readers::and_then, spl_grammar::specs::ReadExpressions::primary_by))]
+    #[tactic(auto, using(spl_tokens::proofs::Steps::steps), unfolding(spl_grammar::specs::Readers::pure, spl_grammar::specs::Readers::refuse, spl_grammar::specs::Readers::followed, spl_grammar::specs::Readers::and_then, spl_grammar::specs::ReadExpressions::primary_by))]
     fn atom(&self, tokens: &mut Tokens<'_>, taken: u8) -> Result<Part, Fault>
         requires nests { Nests self.now.room (F.pre self.now.operand) (F.post self.now.operand) }
         ensures { Reads operand (atom self.now.room taken tokens.old) result tokens.new }
@@ -297,7 +293,7 @@ impl<F: Fn(Global, &mut Tokens<'_>, u8, u8, Option<At>) -> Result<Part, Fault> +
     }
 
     /// An operand, with its bit field where it has one.
-    #[tactic(auto, using(crate::proofs::Steps::steps), unfolding(spl_grammar::specs::Readers::pure, spl_grammar::specs::Readers::refuse, spl_grammar::specs::Readers::followed, spl_grammar::specs::Readers::and_then, spl_grammar::specs::ReadExpressions::primary))]
+    #[tactic(auto, using(spl_tokens::proofs::Steps::steps), unfolding(spl_grammar::specs::Readers::pure, spl_grammar::specs::Readers::refuse, spl_grammar::specs::Readers::followed, spl_grammar::specs::Readers::and_then, spl_grammar::specs::ReadExpressions::primary))]
     fn primary(&self, tokens: &mut Tokens<'_>, taken: u8) -> Result<Part, Fault>
         requires nests { Nests self.now.room (F.pre self.now.operand) (F.post self.now.operand) }
         ensures { Reads operand (primary self.now.room taken tokens.old) result tokens.new }
@@ -318,7 +314,7 @@ impl<F: Fn(Global, &mut Tokens<'_>, u8, u8, Option<At>) -> Result<Part, Fault> +
     }
 
     /// NOT and its operand.
-    #[tactic(auto, using(crate::proofs::Steps::steps), unfolding(spl_grammar::specs::Readers::pure, spl_grammar::specs::Readers::refuse, spl_grammar::specs::Readers::followed, spl_grammar::specs::Readers::and_then, spl_grammar::specs::ReadExpressions::inverse))]
+    #[tactic(auto, using(spl_tokens::proofs::Steps::steps), unfolding(spl_grammar::specs::Readers::pure, spl_grammar::specs::Readers::refuse, spl_grammar::specs::Readers::followed, spl_grammar::specs::Readers::and_then, spl_grammar::specs::ReadExpressions::inverse))]
     fn inverse(&self, tokens: &mut Tokens<'_>, taken: u8) -> Result<Part, Fault>
         requires nests { Nests self.now.room (F.pre self.now.operand) (F.post self.now.operand) }
         ensures { Reads operand (inverse self.now.room taken tokens.old) result tokens.new }
@@ -329,7 +325,7 @@ impl<F: Fn(Global, &mut Tokens<'_>, u8, u8, Option<At>) -> Result<Part, Fault> +
     }
 
     /// An operand with no minus before its number.
-    #[tactic(auto, using(crate::proofs::Steps::steps), unfolding(spl_grammar::specs::ReadExpressions::unary_step))]
+    #[tactic(auto, using(spl_tokens::proofs::Steps::steps), unfolding(spl_grammar::specs::ReadExpressions::unary_step))]
     fn plain(&self, tokens: &mut Tokens<'_>, taken: u8) -> Result<Part, Fault>
         requires nests { Nests self.now.room (F.pre self.now.operand) (F.post self.now.operand) }
         ensures { Reads operand (operand_at self.now.room taken None tokens.old) result tokens.new }
@@ -342,7 +338,7 @@ impl<F: Fn(Global, &mut Tokens<'_>, u8, u8, Option<At>) -> Result<Part, Fault> +
     }
 
     /// An operand; a minus may stand before its number.
-    #[tactic(auto, using(crate::proofs::Steps::steps), unfolding(spl_grammar::specs::ReadExpressions::unary_step))]
+    #[tactic(auto, using(spl_tokens::proofs::Steps::steps), unfolding(spl_grammar::specs::ReadExpressions::unary_step))]
     fn read(&self, tokens: &mut Tokens<'_>, taken: u8, minus: Option<At>) -> Result<Part, Fault>
         requires nests { Nests self.now.room (F.pre self.now.operand) (F.post self.now.operand) }
         ensures { Reads operand (operand_at self.now.room taken minus tokens.old) result tokens.new }

@@ -2,7 +2,7 @@ use Rattle.std.proofs.Common.{◌≡◌}
 use Rattle.spl_grammar.specs.Readers.{pure}
 use Rattle.spl_grammar.specs.ReadExpressions.{negative_by}
 use Rattle.spl_expr.specs.Parts.{operand}
-use Rattle.spl_expr.proofs.Steps.{by_peek, goes_on}
+use Rattle.spl_tokens.proofs.Steps.{by_peek, goes_on}
 use Rattle.spl_expr.proofs.ViewLemmas.{number_tree, wide_tree}
 use Rattle.spl_expr.proofs.operands.negative.Goals as goal
 

@@ -4,7 +4,7 @@ use Rattle.spl_tree.specs.Operators.{is_sign}
 use Rattle.spl_grammar.specs.Readers.{pure, refuse, followed, and_then}
 use Rattle.spl_grammar.specs.ReadExpressions as r
 use Rattle.spl_expr.specs.Parts.{operand, found}
-use Rattle.spl_expr.proofs.Steps.{steps, by_peek}
+use Rattle.spl_tokens.proofs.Steps.{steps, by_peek}
 use Rattle.spl_expr.proofs.LevelLemmas.{first_sum, level_up, within_is, turn_shifted, turn_compared}
 use Rattle.spl_expr.proofs.levels.Levels.+level.Goals as goal
 

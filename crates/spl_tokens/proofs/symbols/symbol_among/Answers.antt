@@ -1,7 +1,7 @@
 use Rattle.std.proofs.Common.{sym, ◌∙◌, []}
 use Rattle.spl_tree.specs.declared.symbols.Symbol.TheVariants as s
-use Rattle.spl_expr.proofs.CursorLemmas.{word_found, word_passed}
-use Rattle.spl_expr.proofs.symbols.symbol_among.Goals as goal
+use Rattle.spl_tokens.proofs.CursorLemmas.{word_found, word_passed}
+use Rattle.spl_tokens.proofs.symbols.symbol_among.Goals as goal
 
 -- the word is the next of the table
 pub returns-then-eq : goal.returns-then-eq

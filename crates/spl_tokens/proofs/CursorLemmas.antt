@@ -9,9 +9,9 @@ use Rattle.spl_tree.specs.declared.tokens.Token.{Token}
 use Rattle.spl_tree.specs.Symbols.{Lexeme, lexeme_of, symbol_of, letters_of}
 use Rattle.spl_grammar.specs.Readers.{Got, Bad, by_symbol, pure, refuse, take, at_place, same_symbol}
 use Rattle.spl_grammar.proofs.SameSymbol.{same_is}
-use Rattle.spl_expr.specs.declared.faults.Fault.{Fault}
-use Rattle.spl_expr.specs.Cursor.{first_symbol, symbol_in}
-use Rattle.spl_expr.specs.Reads.{peeked, lexeme, named, named_by}
+use Rattle.spl_tokens.specs.declared.faults.Fault.{Fault}
+use Rattle.spl_tokens.specs.Cursor.{first_symbol, symbol_in}
+use Rattle.spl_tokens.specs.Reads.{peeked, lexeme, named, named_by}
 
 -- where the symbol is absent, no token is left
 pub peek_none : (ts : List Token) → None ≡ first_symbol ts → peeked (map lexeme_of ts) ≡ Bad (map lexeme_of ts)

@@ -1,6 +1,6 @@
 use Rattle.std.proofs.Common.{◌≡◌, drop}
-use Rattle.spl_expr.specs.Cursor.{symbol_in}
-use Rattle.spl_expr.proofs.symbols.symbol_among.Given as goal
+use Rattle.spl_tokens.specs.Cursor.{symbol_in}
+use Rattle.spl_tokens.proofs.symbols.symbol_among.Given as goal
 
 -- the words so far are others
 abbrev pub invariant-loop-word : goal.invariant-loop-word

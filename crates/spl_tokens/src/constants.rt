@@ -4,7 +4,7 @@ ghost use Rattle.spl_tree.specs.Operators as operators;
 ghost use Rattle.spl_tree.specs.Views as view;
 ghost use Rattle.spl_grammar.specs.Readers.{by_symbol};
 ghost use Rattle.spl_grammar.specs.ReadExpressions as spec;
-ghost use Rattle.spl_expr.specs.Reads.{Reads};
+ghost use Rattle.spl_tokens.specs.Reads.{Reads};
 
 use crate::faults::Fault;
 use crate::tokens::Tokens;

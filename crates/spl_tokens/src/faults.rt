@@ -15,7 +15,7 @@ pub enum Fault {
 
 impl From<AllocError> for Fault {
     ghost use Rattle.std.specs.Prelude.{◌≡◌};
-    ghost use Rattle.spl_expr.specs.declared.faults.Fault.TheVariants.{NoMemory};
+    ghost use Rattle.spl_tokens.specs.declared.faults.Fault.TheVariants.{NoMemory};
 
     ghost from_gives = { λ _ fault. fault ≡ NoMemory };
 
@@ -26,7 +26,7 @@ impl From<AllocError> for Fault {
 
 impl<T: Drop> From<AllocFailed<T>> for Fault {
     ghost use Rattle.std.specs.Prelude.{◌≡◌};
-    ghost use Rattle.spl_expr.specs.declared.faults.Fault.TheVariants.{NoMemory};
+    ghost use Rattle.spl_tokens.specs.declared.faults.Fault.TheVariants.{NoMemory};
 
     ghost from_gives = { λ _ fault. fault ≡ NoMemory };
 

@@ -1,6 +1,6 @@
 use Rattle.std.proofs.Common.{sym, ◌∙◌}
-use Rattle.spl_expr.proofs.CursorLemmas.{named_none, named_other, named_some, name_symbol}
-use Rattle.spl_expr.proofs.tokens.Tokens.next_name.Goals as goal
+use Rattle.spl_tokens.proofs.CursorLemmas.{named_none, named_other, named_some, name_symbol}
+use Rattle.spl_tokens.proofs.tokens.Tokens.next_name.Goals as goal
 
 -- the first of the tokens is the name
 pub returns-in-None : goal.returns-in-None

@@ -1,5 +1,5 @@
-use Rattle.spl_expr.proofs.CursorLemmas.{place_none, place_some}
-use Rattle.spl_expr.proofs.tokens.Tokens.place.Goals as goal
+use Rattle.spl_tokens.proofs.CursorLemmas.{place_none, place_some}
+use Rattle.spl_tokens.proofs.tokens.Tokens.place.Goals as goal
 
 -- the first of the tokens has the place
 pub returns-in-None : goal.returns-in-None

@@ -1,5 +1,5 @@
-use Rattle.spl_expr.proofs.CursorLemmas.{peek_none, peek_some}
-use Rattle.spl_expr.proofs.tokens.Tokens.peek.Goals as goal
+use Rattle.spl_tokens.proofs.CursorLemmas.{peek_none, peek_some}
+use Rattle.spl_tokens.proofs.tokens.Tokens.peek.Goals as goal
 
 -- the symbol that is kept is the next token's
 pub returns-in-None : goal.returns-in-None

@@ -2,7 +2,7 @@
 ghost use Rattle.std.specs.Prelude.{◌≡◌, ◌≤◌, IfOk, length};
 ghost use Rattle.spl_tree.specs.declared.symbols.Symbol.{Symbol};
 ghost use Rattle.spl_tree.specs.Views as view;
-ghost use Rattle.spl_expr.specs.Reads.{lexeme};
+ghost use Rattle.spl_tokens.specs.Reads.{lexeme};
 
 use arrayvec::ArrayVec;
 use spl_tree::{Chars, Name, Token, What};

@@ -5,9 +5,9 @@ use Rattle.spl_tree.specs.declared.symbols.Symbol.TheVariants as s
 use Rattle.spl_tree.specs.declared.tokens.Token.{Token}
 use Rattle.spl_tree.specs.Symbols.{Lexeme}
 use Rattle.spl_grammar.specs.Readers.{Outcome, Got, Bad, Deep, Parser, by_symbol, pure, refuse, followed, and_then, named_number, numbered, same_symbol}
-use Rattle.spl_expr.specs.declared.faults.Fault.{Fault}
-use Rattle.spl_expr.specs.declared.faults.Fault.TheVariants.{Syntax, TooDeep, NoMemory}
-use Rattle.spl_expr.specs.Reads.{Fails, Reads, peeked, lexeme, named, named_by}
+use Rattle.spl_tokens.specs.declared.faults.Fault.{Fault}
+use Rattle.spl_tokens.specs.declared.faults.Fault.TheVariants.{Syntax, TooDeep, NoMemory}
+use Rattle.spl_tokens.specs.Reads.{Fails, Reads, peeked, lexeme, named, named_by}
 
 -- a rule that depends on the symbol of the next token
 pub by_peek : {A : Type 0} (f : Symbol → Parser A) (ts us : List Lexeme) (k : Symbol) → peeked ts ≡ Got k us → by_symbol f ts ≡ f k ts

@@ -1,9 +1,9 @@
 //! A cursor over the tokens of a unit. A contract sees it as the list of the tokens that are left.
 ghost use Rattle.std.specs.Prelude.{◌≡◌, ◌<◌, ◌^◌, ℕ, length, map, IfOk, OnOk, true};
 ghost use Rattle.spl_tree.specs.Symbols.{lexeme_of};
-ghost use Rattle.spl_expr.specs.Cursor as cursor;
+ghost use Rattle.spl_tokens.specs.Cursor as cursor;
 ghost use Rattle.spl_grammar.specs.Readers as r;
-ghost use Rattle.spl_expr.specs.Reads.{Reads, lexeme, shown, lent, same_as, peeked, named};
+ghost use Rattle.spl_tokens.specs.Reads.{Reads, lexeme, shown, lent, same_as, peeked, named};
 
 use crate::faults::Fault;
 use crate::symbols::{same, symbol};
@@ -24,7 +24,7 @@ impl<'a> Model for Tokens<'a> {
 
     ghost Value = { List Lexeme };
 
-    ghost use Rattle.spl_expr.specs.Cursor.{first_symbol};
+    ghost use Rattle.spl_tokens.specs.Cursor.{first_symbol};
 
     ghost view = { λ s. map lexeme_of s.rest.now };
 

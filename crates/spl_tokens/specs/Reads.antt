@@ -6,8 +6,8 @@ use Rattle.spl_tree.specs.declared.symbols.Symbol.TheVariants as s
 use Rattle.spl_tree.specs.declared.tokens.Token.{Token}
 use Rattle.spl_tree.specs.Symbols.{Lexeme, lexeme_of}
 use Rattle.spl_grammar.specs.Readers.{Outcome, Got, Bad, Deep, Parser, pure, refuse, by_symbol, same_symbol}
-use Rattle.spl_expr.specs.declared.faults.Fault.{Fault}
-use Rattle.spl_expr.specs.declared.faults.Fault.TheVariants.{Syntax, TooDeep, NoMemory}
+use Rattle.spl_tokens.specs.declared.faults.Fault.{Fault}
+use Rattle.spl_tokens.specs.declared.faults.Fault.TheVariants.{Syntax, TooDeep, NoMemory}
 
 -- the reading has this fault, and the tokens from its place on are left; nothing is said where memory is wanting
 abbrev pub Fails : {A : Type 0} → Outcome A → Fault → List Lexeme → Type 0

@@ -1,5 +1,5 @@
-use Rattle.spl_expr.proofs.CursorLemmas.{take_none, take_some, peek_taken}
-use Rattle.spl_expr.proofs.tokens.Tokens.take.Goals as goal
+use Rattle.spl_tokens.proofs.CursorLemmas.{take_none, take_some, peek_taken}
+use Rattle.spl_tokens.proofs.tokens.Tokens.take.Goals as goal
 
 -- the first of the tokens is taken
 pub returns-in-None-clause-read : goal.returns-in-None-clause-read

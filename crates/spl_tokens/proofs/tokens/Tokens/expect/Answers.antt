@@ -1,5 +1,5 @@
-use Rattle.spl_expr.proofs.CursorLemmas.{taken_symbol}
-use Rattle.spl_expr.proofs.tokens.Tokens.expect.Goals as goal
+use Rattle.spl_tokens.proofs.CursorLemmas.{taken_symbol}
+use Rattle.spl_tokens.proofs.tokens.Tokens.expect.Goals as goal
 
 -- the token that is taken is the one that was looked at
 pub returns-then-same-clause-symbol : goal.returns-then-same-clause-symbol

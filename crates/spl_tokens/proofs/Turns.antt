@@ -2,9 +2,9 @@
 use Rattle.std.proofs.Common.{ℕ, zero, suc, ◌≡◌, ◌+◌, ◌-◌, ◌<◌, ◌≤◌, Bool, true, false, List, [], ◌∷◌, length, refl, sym, ap, ◌∙◌, arith}
 use Rattle.spl_tree.specs.Symbols.{Lexeme}
 use Rattle.spl_grammar.specs.Readers.{Outcome, Got, Bad, Deep, Parser, pure, refuse, followed, and_then, turns, repeat}
-use Rattle.spl_expr.specs.declared.faults.Fault.{Fault}
-use Rattle.spl_expr.specs.declared.faults.Fault.TheVariants.{Syntax, TooDeep, NoMemory}
-use Rattle.spl_expr.specs.Reads.{Fails}
+use Rattle.spl_tokens.specs.declared.faults.Fault.{Fault}
+use Rattle.spl_tokens.specs.declared.faults.Fault.TheVariants.{Syntax, TooDeep, NoMemory}
+use Rattle.spl_tokens.specs.Reads.{Fails}
 
 -- one turn of some
 one_of : (n i : ℕ) → i < n → n - i ≡ suc (n - (i + 1))

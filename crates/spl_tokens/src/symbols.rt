@@ -1,8 +1,8 @@
 //! What a token is to the grammar.
 ghost use Rattle.std.specs.Prelude.{◌≡◌};
 ghost use Rattle.spl_tree.specs.Symbols.{symbol_of};
-ghost use Rattle.spl_expr.specs.Cursor.{symbol_in};
-ghost use Rattle.spl_expr.specs.Reads.{lexeme};
+ghost use Rattle.spl_tokens.specs.Cursor.{symbol_in};
+ghost use Rattle.spl_tokens.specs.Reads.{lexeme};
 ghost use Rattle.spl_grammar.specs.Readers.{same_symbol};
 ghost use Rattle.spl_grammar.specs.Readers as readers;
 
