@@ -1,8 +1,9 @@
 //! The same step over a stack whose top words may stand in registers, for the instructions that have a call there.
 
 use crate::fields::State;
+use hp_fields::field_op;
 use hp_flat::Regs;
-use hp_instr::{Instr, Op, decode};
+use hp_instr::{Group, Instr, Op, decode, group_of};
 use hp_stackops::stack_op;
 use hp_tos::Stack;
 use hp_word::{Ending, Trap};
@@ -54,8 +55,12 @@ fn pair(left: Op, right: Op, regs: &mut Regs, stack: &mut Stack) -> Result<(), T
 
 /// What a word does; none where its instruction has no call over registers.
 fn perform(word: u16, regs: &mut Regs, stack: &mut Stack) -> Option<Result<(), Trap>> {
-    match decode(word) {
-        Instr::Pair { left, right } => Some(pair(left, right, regs, stack)),
+    let instruction = decode(word);
+    if let Instr::Pair { left, right } = instruction {
+        return Some(pair(left, right, regs, stack));
+    }
+    match group_of(instruction) {
+        Group::Field => Some(field_op(instruction, regs, stack)),
         _ => None,
     }
 }
