@@ -2,7 +2,7 @@
 use Rattle.std.proofs.Common.{◌≡◌, ℕ, ◌-◌, ◌^◌, true, List, [], ◌∷◌, replicate, refl}
 use Rattle.std.specs.declared.result.Result.TheVariants.{Ok, Err}
 use Rattle.hp_tos.specs.Seen.{Seen, made}
-use Rattle.hp_tos.specs.Calls.{taking, word_at, making_room, filled, pushed, popped, dropped, flushed}
+use Rattle.hp_tos.specs.Calls.{taking, word_at, making_room, filled, pushed, popped, dropped, replaced, flushed}
 use Rattle.hp_tos.specs.Steps.{stepped}
 use Rattle.hp_tos.specs.References.{db_words, read_of, stack_written, db_written}
 
@@ -54,6 +54,13 @@ dropped-registers = refl
 -- the fifth comes from memory, with no fill
 dropped-memory : dropped 5 six ≡ with (1 ∷ []) 0 0 2
 dropped-memory = refl
+
+-- two of the words in registers exchanged for one, and for two: no word moves between registers and memory
+replaced-fewer : replaced 2 (9 ∷ []) six ≡ with (1 ∷ 2 ∷ 3 ∷ 4 ∷ 9 ∷ []) 3 0 2
+replaced-fewer = refl
+
+replaced-many : replaced 2 (6 ∷ 5 ∷ []) six ≡ with (1 ∷ 2 ∷ 3 ∷ 4 ∷ 6 ∷ 5 ∷ []) 4 0 2
+replaced-many = refl
 
 -- a flush is one spill for each of the four registers, and the words stay
 flushed-four : flushed six ≡ with (1 ∷ 2 ∷ 3 ∷ 4 ∷ 5 ∷ 6 ∷ []) 0 0 6

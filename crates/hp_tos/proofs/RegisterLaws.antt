@@ -1,9 +1,9 @@
 -- What several calls in a row leave, and so what a whole step does to the registers in use, the fills and the spills.
-use Rattle.std.proofs.Common.{◌≡◌, ℕ, ◌+◌, ◌-◌, ◌%◌, ◌^◌, ◌<◌, ◌≤◌, min, max, List, [], ◌∷◌, ◌++◌, length, refl, arith}
+use Rattle.std.proofs.Common.{◌≡◌, ℕ, ◌+◌, ◌-◌, ◌%◌, ◌^◌, ◌<◌, ◌≤◌, min, max, List, [], ◌∷◌, ◌++◌, length, refl, sym, arith}
 use Rattle.std.proofs.lemmas.Grind.{common_steps}
 use Rattle.hp_tos.specs.Seen.{Seen}
-use Rattle.hp_tos.specs.Steps.{pushed_all, stepped}
-use Rattle.hp_tos.specs.Calls.{filled, pushed, popped, dropped}
+use Rattle.hp_tos.specs.Steps.{pushed_all, pushed_together, stepped}
+use Rattle.hp_tos.specs.Calls.{filled, pushed, popped, dropped, replaced}
 
 -- words that stand in registers need no fill
 pub filled-there : (n : ℕ) (s : Seen) → n ≤ s.in_registers → filled n s ≡ s
@@ -45,6 +45,24 @@ pub spills-stepped : (n : ℕ) (ws : List ℕ) (s : Seen) → s.in_registers ≤
     → (stepped n ws s).spills ≡ (s.spills + (max s.in_registers n - n + length ws - 4)) % 2 ^ 64
 spills-stepped n ws s few small fits =
     let pushes = spills-pushed_all ws (dropped n (filled n s)) in grind arith
+
+-- words pushed one after the other are pushed together
+pub pushed_all-together : (ws : List ℕ) (s : Seen) → s.in_registers ≤ 4 → s.spills < 2 ^ 64
+    → pushed_all ws s ≡ pushed_together ws s
+pushed_all-together [] s few fits = grind (arith, common_steps)
+pushed_all-together (w ∷ ws) s few fits =
+    let later = pushed_all-together ws (pushed w s) (omega arith) (grind arith) in grind (arith, common_steps)
+
+-- words for which registers are free stand there as they are pushed: none is spilled
+pub pushed_all-free : (ws : List ℕ) (s : Seen) → s.in_registers + length ws ≤ 4
+    → pushed_all ws s ≡ record s { words = s.words ++ ws; in_registers = s.in_registers + length ws }
+pushed_all-free [] s free = grind (arith, common_steps)
+pushed_all-free (w ∷ ws) s free = let later = pushed_all-free ws (pushed w s) (omega arith) in grind (arith, common_steps)
+
+-- so as many words or fewer in place of words that stand in registers are those taken away and these pushed
+pub replaced-pushed : (n : ℕ) (ws : List ℕ) (s : Seen) → s.in_registers ≤ 4 → n ≤ s.in_registers → length ws ≤ n
+    → replaced n ws s ≡ pushed_all ws (dropped n s)
+replaced-pushed n ws s few there fewer = sym (pushed_all-free ws (dropped n s) (omega arith))
 
 -- a push fills nothing
 pub fills-pushed_all : (ws : List ℕ) (s : Seen) → (pushed_all ws s).fills ≡ s.fills

@@ -1,5 +1,5 @@
 -- What each call on the top of a stack answers and leaves.
-use Rattle.std.specs.Prelude.{ℕ, ◌+◌, ◌-◌, ◌%◌, ◌^◌, ◌==◌, nat_lt, nat_le, min, max, [], ◌∷◌, ◌++◌, length, take, slice_index, Result, Ok, Err, if◌then◌else◌}
+use Rattle.std.specs.Prelude.{ℕ, ◌+◌, ◌-◌, ◌%◌, ◌^◌, ◌==◌, nat_lt, nat_le, min, max, List, [], ◌∷◌, ◌++◌, length, take, slice_index, Result, Ok, Err, if◌then◌else◌}
 use Rattle.hp_tos.specs.declared.refusals.Overflow.{Overflow}
 use Rattle.hp_tos.specs.declared.refusals.Underflow.{Underflow}
 use Rattle.hp_tos.specs.Seen.{Seen}
@@ -36,6 +36,13 @@ pushed w s = record s {
 -- without the n top words: those in registers go first, then those in memory, with no fill
 abbrev pub dropped : ℕ → Seen → Seen
 dropped n s = record s { words = take (length s.words - n) s.words; in_registers = s.in_registers - n }
+
+-- the n top words, which stand in registers, exchanged for as many or fewer: nothing moves between registers and memory
+abbrev pub replaced : ℕ → List ℕ → Seen → Seen
+replaced n ws s = record s {
+  words = take (length s.words - n) s.words ++ ws;
+  in_registers = s.in_registers - n + length ws;
+}
 
 -- the top word taken away: one word is needed, and then it goes
 abbrev pub popped : Seen → Seen

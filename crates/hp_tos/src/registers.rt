@@ -1,8 +1,9 @@
 //! The words that come and go at the top, and the numbers that count what moves between memory and registers.
 //!
 //! Every word stands in memory. A register is a number here: a fill or a spill is counted, and no word is copied.
-ghost use Rattle.std.specs.Prelude.{◌≡◌, ◌≤◌, ◌+◌, length, min, OnOk, OnErr};
-ghost use Rattle.hp_tos.specs.Calls.{taking, making_room, word_at, filled, pushed, popped, dropped, flushed};
+ghost use Rattle.std.specs.Prelude.{◌≡◌, ◌<◌, ◌≤◌, ◌+◌, length, min, OnOk, OnErr};
+ghost use Rattle.hp_tos.specs.Calls.{taking, making_room, word_at, filled, pushed, popped, dropped, replaced, flushed};
+ghost use Rattle.hp_tos.specs.Steps.{pushed_together};
 
 use crate::refusals::{Overflow, Underflow};
 use crate::stack::Stack;
@@ -40,6 +41,17 @@ impl Stack {
         if self.words == self.limit() {
             return Err(Overflow { limit: self.words });
         }
+        self.put(w);
+        Ok(())
+    }
+
+    /// Puts a word on top, in a register, where there is room for it.
+    #[tactic(auto, unfolding(crate::specs::Representation::seen_of))]
+    #[inline]
+    pub fn put(&mut self, w: u16)
+        requires { length (seen self.old).words < (seen self.old).limit }
+        ensures { seen self.new ≡ pushed w (seen self.old) }
+    {
         if self.sr == 4 {
             self.spills = self.spills.wrapping_add(1);
         } else {
@@ -47,7 +59,17 @@ impl Stack {
         }
         self.memory.set_word(self.words, w);
         self.words += 1;
-        Ok(())
+    }
+
+    /// Puts some words on top, the last of them highest, where there is room for all.
+    #[tactic(auto, unfolding(crate::specs::Representation::seen_of))]
+    pub fn put_all(&mut self, words: &[u16])
+        requires { length (seen self.old).words + length words.now ≤ (seen self.old).limit }
+        ensures { seen self.new ≡ pushed_together words.now (seen self.old) }
+    {
+        for &w in words {
+            self.put(w);
+        }
     }
 
     /// Takes the top word away. It is needed in a register first.
@@ -64,6 +86,16 @@ impl Stack {
         Ok(self.memory.word(self.words))
     }
 
+    /// The word that stands `depth` words beneath the top, which must be there. Nothing is filled.
+    #[tactic(auto, unfolding(crate::specs::Representation::seen_of))]
+    #[inline]
+    pub fn word(&self, depth: u16) -> u16
+        requires { depth < length (seen self.now).words }
+        ensures { result ≡ word_at depth (seen self.now) }
+    {
+        self.memory.word(self.words - 1 - depth)
+    }
+
     /// The word that stands `depth` words beneath the top, wherever it stands. Nothing is filled.
     #[tactic(auto, unfolding(crate::specs::Representation::seen_of))]
     #[inline]
@@ -71,7 +103,7 @@ impl Stack {
         ensures { result ≡ taking (depth + 1) (seen self.now) (word_at depth (seen self.now)) }
     {
         if depth < self.words {
-            Ok(self.memory.word(self.words - 1 - depth))
+            Ok(self.word(depth))
         } else {
             Err(self.underflow(depth as u32 + 1))
         }
@@ -91,6 +123,18 @@ impl Stack {
         self.words -= n;
         self.sr = (self.sr as u16).saturating_sub(n) as u8;
         Ok(())
+    }
+
+    /// Puts as many words or fewer in place of the `n` top ones, which stand in registers. Nothing is filled or spilled.
+    #[tactic(auto, unfolding(crate::specs::Representation::seen_of))]
+    pub fn replace(&mut self, n: u8, words: &[u16])
+        requires there { n ≤ (seen self.old).in_registers }
+        requires enough { length words.now ≤ n }
+        ensures { seen self.new ≡ replaced n words.now (seen self.old) }
+    {
+        self.words -= n as u16;
+        self.sr -= n;
+        self.put_all(words);
     }
 
     /// Spills every register.

@@ -3,6 +3,7 @@
 ghost use Rattle.std.specs.Prelude.{◌≤◌, IfOk, IfSome, vec_len, vec_capacity};
 
 use crate::fields::{State, bytes, number, words};
+use crate::registers;
 use hp_flat::{Flat, Line, Program};
 use std::alloc::{AllocError, Global};
 
@@ -24,6 +25,15 @@ pub enum Verdict {
     Agrees,
     /// It leaves another: the case's number, and the first field that differs.
     Differs(u32, &'static str),
+}
+
+/// What came of a case.
+#[derive(Clone, Copy, Debug, PartialEq, Eq)]
+pub struct Judged {
+    /// The step of the flat machine.
+    pub flat: Verdict,
+    /// The step over a stack in registers, where the instruction has a call there.
+    pub registers: Option<Verdict>,
 }
 
 /// Terminal lines in hexadecimal digits, parted by commas.
@@ -152,8 +162,8 @@ impl Case {
         }))
     }
 
-    /// Makes the step, and compares what it leaves with what must follow.
-    fn judge(&mut self, alloc: Global, wanted: &State) -> Result<Verdict, AllocError> {
+    /// Makes the step of the flat machine, and compares what it leaves with what must follow.
+    fn judge_flat(&mut self, alloc: Global, wanted: &State) -> Result<Verdict, AllocError> {
         let Some(mut flat) = self.session(alloc)? else {
             return Ok(Verdict::Differs(self.number, "BEFORE"));
         };
@@ -168,14 +178,47 @@ impl Case {
             return Ok(Verdict::Differs(self.number, "BEFORE"));
         }
         flat.step(&program);
-        Ok(match difference(&flat, wanted) {
+        Ok(self.verdict(difference(&flat, wanted)))
+    }
+
+    /// Makes the step over a stack in registers, where the word at P has a call there.
+    fn judge_registers(
+        &self,
+        alloc: Global,
+        wanted: &State,
+    ) -> Result<Option<Verdict>, AllocError> {
+        let Some(before) = &self.before else {
+            return Ok(None);
+        };
+        let Some(segment) = self.segments.get(before.regs.seg as usize) else {
+            return Ok(None);
+        };
+        let Some(word) = segment.get(before.regs.p as usize) else {
+            return Ok(None);
+        };
+        let found = registers::step(alloc, *word, self.stack_limit, before, wanted)?;
+        Ok(found.map(|difference| self.verdict(difference)))
+    }
+
+    /// The verdict by the first field that differs.
+    fn verdict(&self, difference: Option<&'static str>) -> Verdict {
+        match difference {
             None => Verdict::Agrees,
             Some(name) => Verdict::Differs(self.number, name),
+        }
+    }
+
+    /// Makes the step both ways.
+    fn judge(&mut self, alloc: Global, wanted: &State) -> Result<Judged, AllocError> {
+        let registers = self.judge_registers(alloc, wanted)?;
+        Ok(Judged {
+            flat: self.judge_flat(alloc, wanted)?,
+            registers,
         })
     }
 
-    /// Takes a line. The last one of a case gives its verdict.
-    pub fn take(&mut self, alloc: Global, line: &str) -> Result<Option<Verdict>, AllocError> {
+    /// Takes a line. The last one of a case gives what came of it.
+    pub fn take(&mut self, alloc: Global, line: &str) -> Result<Option<Judged>, AllocError> {
         let Some((name, rest)) = line.split_once(' ') else {
             return Ok(None);
         };

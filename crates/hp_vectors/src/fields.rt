@@ -9,6 +9,10 @@ use std::alloc::{AllocError, Global};
 pub struct State {
     pub regs: Regs,
     pub split: bool,
+    /// How many of the top words stand in registers, and how many were filled and spilled.
+    pub in_registers: u8,
+    pub fills: u64,
+    pub spills: u64,
     pub next_line: usize,
     pub ending: Ending,
     pub printed: Vec<u8>,
@@ -125,6 +129,9 @@ impl State {
                 code: Code::Equal,
             },
             split: false,
+            in_registers: 0,
+            fills: 0,
+            spills: 0,
             next_line: 0,
             ending: Ending::Running,
             printed: Vec::new(alloc),
@@ -133,7 +140,7 @@ impl State {
         }
     }
 
-    /// Takes a field; those that a machine without registers of the stack top lacks are left out.
+    /// Takes a field.
     fn set(&mut self, alloc: Global, name: &str, value: &str) -> Result<(), AllocError> {
         match name {
             "SEG" => self.regs.seg = (number(value) % 256) as u8,
@@ -146,6 +153,9 @@ impl State {
             "CARRY" => self.regs.carry = value == "1",
             "CODE" => self.regs.code = code(value),
             "SPLIT" => self.split = value == "1",
+            "SR" => self.in_registers = (number(value) % 256) as u8,
+            "FILLS" => self.fills = value.parse::<u64>().unwrap_or(0),
+            "SPILLS" => self.spills = value.parse::<u64>().unwrap_or(0),
             "NEXTLINE" => self.next_line = number(value) as usize,
             "ENDING" => self.ending = ending(value),
             "PRINTED" => self.printed = bytes(alloc, value)?,

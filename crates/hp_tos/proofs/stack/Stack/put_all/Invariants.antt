@@ -1,0 +1,10 @@
+use Rattle.std.proofs.Common.{◌≡◌, take}
+use Rattle.hp_tos.specs.Steps.{pushed_together}
+use Rattle.hp_tos.specs.StackView.{seen}
+use Rattle.hp_tos.proofs.stack.Stack.put_all.Given as goal
+
+-- the words so far stand on top
+abbrev pub invariant-loop-w : goal.invariant-loop-w
+invariant-loop-w l = record {
+  pushed : seen l.self ≡ pushed_together (take l.w-index l.words) (seen l.fn.self);
+}

@@ -1,0 +1,151 @@
+//! The same step over a stack whose top words may stand in registers, for the instructions that have a call there.
+
+use crate::fields::State;
+use hp_fields::field_op;
+use hp_flat::Regs;
+use hp_instr::{Group, Instr, Op, decode, group_of};
+use hp_stackops::stack_op;
+use hp_tos::Stack;
+use hp_word::{Ending, Trap};
+use std::alloc::{AllocError, Global};
+
+/// The most words of a stack and of an extra segment.
+const LIMIT: usize = 32000;
+
+/// Lets a stack's counts go on from these.
+#[tactic(auto, unfolding(hp_tos::specs::Representation::seen_of))]
+fn count_from(stack: &mut Stack, fills: u64, spills: u64) {
+    stack.fills = fills;
+    stack.spills = spills;
+}
+
+/// The stack of a state, with room for `limit` words; none where the state has no such stack.
+fn stack_of(alloc: Global, state: &State, limit: u16) -> Result<Option<Stack>, AllocError> {
+    let words = state.stack.len();
+    let limit = limit as usize;
+    if limit > LIMIT || state.extra.len() > LIMIT || words > limit || state.in_registers > 4 {
+        return Ok(None);
+    }
+    let mut room = Vec::with_capacity(alloc, limit)?;
+    room.extend_from_slice(&state.stack)?;
+    room.resize(limit, 0)?;
+    let mut extra = Vec::new(alloc);
+    extra.extend_from_slice(&state.extra)?;
+    let mut stack = Stack::make(room, extra, words as u16);
+    if stack.need(state.in_registers).is_err() {
+        return Ok(None);
+    }
+    if state.split {
+        stack.split();
+    }
+    count_from(&mut stack, state.fills, state.spills);
+    Ok(Some(stack))
+}
+
+/// One operation of a pair: the right one where R is set.
+fn pair(left: Op, right: Op, regs: &mut Regs, stack: &mut Stack) -> Result<(), Trap> {
+    let last = regs.right || right == Op::NOP;
+    stack_op(if regs.right { right } else { left }, regs, stack)?;
+    if last {
+        regs.p = regs.p.wrapping_add(1);
+    }
+    regs.right = !last;
+    Ok(())
+}
+
+/// What a word does; none where its instruction has no call over registers.
+fn perform(word: u16, regs: &mut Regs, stack: &mut Stack) -> Option<Result<(), Trap>> {
+    let instruction = decode(word);
+    if let Instr::Pair { left, right } = instruction {
+        return Some(pair(left, right, regs, stack));
+    }
+    match group_of(instruction) {
+        Group::Field => Some(field_op(instruction, regs, stack)),
+        _ => None,
+    }
+}
+
+/// The ending of a session that ran, by what its step answered.
+fn ending(answer: Result<(), Trap>) -> Ending {
+    match answer {
+        Ok(()) => Ending::Running,
+        Err(trap) => Ending::Trapped(trap),
+    }
+}
+
+/// Whether these are the words of a stack.
+fn has_words(stack: &Stack, words: &[u16]) -> bool {
+    let mut address = 0u16;
+    for &w in words {
+        if stack.read_stack(address) != Ok(w) {
+            return false;
+        }
+        address = address.wrapping_add(1);
+    }
+    stack.words() as usize == words.len()
+}
+
+/// Whether these are the words of a stack's extra segment.
+fn has_extra(stack: &mut Stack, words: &[u16]) -> bool {
+    stack.split();
+    let mut address = 0u16;
+    for &w in words {
+        if stack.read_db(address) != Ok(w) {
+            return false;
+        }
+        address = address.wrapping_add(1);
+    }
+    stack.read_db(address).is_err()
+}
+
+/// The first field in which registers and a stack differ from a state.
+fn difference(
+    regs: &Regs,
+    stack: &mut Stack,
+    ending: Ending,
+    wanted: &State,
+) -> Option<&'static str> {
+    let tests = [
+        (regs.seg == wanted.regs.seg, "SEG"),
+        (regs.p == wanted.regs.p, "P"),
+        (regs.right == wanted.regs.right, "R"),
+        (regs.x == wanted.regs.x, "X"),
+        (regs.q == wanted.regs.q, "Q"),
+        (regs.traps == wanted.regs.traps, "TRAPS"),
+        (regs.overflow == wanted.regs.overflow, "OVERFLOW"),
+        (regs.carry == wanted.regs.carry, "CARRY"),
+        (regs.code == wanted.regs.code, "CODE"),
+        (stack.is_split() == wanted.split, "SPLIT"),
+        (stack.sr == wanted.in_registers, "SR"),
+        (stack.fills == wanted.fills, "FILLS"),
+        (stack.spills == wanted.spills, "SPILLS"),
+        (ending == wanted.ending, "ENDING"),
+        (has_words(stack, &wanted.stack), "STACK"),
+        (has_extra(stack, &wanted.extra), "EXTRA"),
+    ];
+    for (same, name) in tests {
+        if !same {
+            return Some(name);
+        }
+    }
+    None
+}
+
+/// Makes the step of a word over registers, and answers the first field that differs from what must follow, if any does.
+/// The outer answer is none where the instruction has no call there.
+pub fn step(
+    alloc: Global,
+    word: u16,
+    limit: u16,
+    before: &State,
+    wanted: &State,
+) -> Result<Option<Option<&'static str>>, AllocError> {
+    let Some(mut stack) = stack_of(alloc, before, limit)? else {
+        return Ok(Some(Some("BEFORE")));
+    };
+    let mut regs = before.regs;
+    let Some(answer) = perform(word, &mut regs, &mut stack) else {
+        return Ok(None);
+    };
+    Ok(Some(difference(&regs, &mut stack, ending(answer), wanted)))
+}

@@ -1,0 +1,2 @@
+//! What it means that a program carries sources, as definitions.
+#![tactic(auto)]

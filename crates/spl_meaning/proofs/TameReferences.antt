@@ -1,0 +1,257 @@
+-- References, operations, elements and intrinsics are tame.
+use Rattle.std.proofs.Common.{ℕ, ◌+◌, ◌-◌, ◌/◌, ◌%◌, ◌==◌, Bool, true, false, List, [], ◌∷◌, length, Option, Some, None, refl, sym}
+use Rattle.std.proofs.lemmas.List.{append-nil}
+use Rattle.std.specs.Prelude.{if◌then◌else◌, nat_lt, slice_index}
+use Rattle.hp_word.specs.declared.arithmetic.Arith.{Arith}
+use Rattle.hp_word.specs.declared.arithmetic.Wide.{Wide}
+use Rattle.hp_word.specs.declared.arithmetic.Quotient.{Quotient}
+use Rattle.hp_word.specs.declared.arithmetic.Code.{Code}
+use Rattle.hp_word.specs.declared.endings.Trap.TheVariants.{IntegerOverflow, DivideByZero, Bounds}
+use Rattle.hp_word.specs.Words.{added, subtracted, multiplied, negated, divided, logically_added, logically_subtracted, logically_multiplied, logically_divided, double_added, double_subtracted, double_negated, words_compared, logically_compared, doubles_compared}
+use Rattle.hp_word.specs.Bits.{with_field}
+use Rattle.hp_word.specs.Bytes.{byte_at, with_byte, double}
+use Rattle.spl_tree.specs.declared.expressions.Kind.{Kind}
+use Rattle.spl_tree.specs.declared.expressions.Kind.TheVariants as kind
+use Rattle.spl_meaning.specs.Names as n
+use Rattle.spl_meaning.specs.Names.{Sort, truth_word}
+use Rattle.spl_meaning.specs.Kinds.{Operand, of, const, unknown, Class, integers, logicals, doubles, mixed, class_of, is_relation}
+use Rattle.spl_meaning.specs.Places.{Place}
+use Rattle.spl_meaning.specs.States.{trapped, done, ends, then_go}
+use Rattle.spl_meaning.specs.References.{Here, Spot, address, data_word_read, word_at, placed_word, variable_spot, element_spot, read_by, read, store_by, store, store_field, index_or_zero, own_spot, led_spot, passed_spot, result_spot, spot_by, spot, target_by, target_spot}
+use Rattle.spl_meaning.specs.Operations.{word_done, double_done, quotient_done, relation_done, on_integers, on_logicals, on_doubles, by_class, bits_done, joined, minus_done, not_done, signed_done, shift_done, field_done, double_words, related}
+use Rattle.spl_meaning.proofs.Tame.{Tame, tame_done, tame_ends, tame_strays, tame_go, tame_if, tame_now, Keeps, tame_in}
+
+-- ---- words
+
+tame_data_word : (b : ℕ) (o : Option ℕ) → Tame b (data_word_read o) (data_word_read o)
+tame_data_word b (Some v) = tame_done b v
+tame_data_word b None = tame_strays b
+
+pub tame_word : (b : ℕ) (far : Bool) (a : ℕ) → Tame b (word_at far a) (word_at far a)
+tame_word b true a =
+    tame_now (λ d s. if nat_lt a (length d.extra) then done (slice_index d.extra a) s else ends (trapped Bounds) s)
+    (λ d s. if nat_lt a (length d.extra) then done (slice_index d.extra a) s else ends (trapped Bounds) s)
+    (λ d. tame_if (nat_lt a (length d.extra)) (tame_done b (slice_index d.extra a)) (tame_ends b (trapped Bounds)))
+tame_word b false a =
+    tame_now (λ d s. if nat_lt a d.stack then data_word_read (d.mem a) s else ends (trapped Bounds) s)
+    (λ d s. if nat_lt a d.stack then data_word_read (d.mem a) s else ends (trapped Bounds) s)
+    (λ d. tame_if (nat_lt a d.stack) (tame_data_word b (d.mem a)) (tame_ends b (trapped Bounds)))
+
+pub keeps_placed : (far : Bool) (a v : ℕ) → Keeps (placed_word far a v)
+keeps_placed true a v = record {
+  left = λ s. refl;
+  grown = λ s. record { prints = []; printed = sym (append-nil s.now.printed); log = []; begun = sym (append-nil s.begun) };
+  same = λ s. refl;
+}
+keeps_placed false a v = record {
+  left = λ s. refl;
+  grown = λ s. record { prints = []; printed = sym (append-nil s.now.printed); log = []; begun = sym (append-nil s.begun) };
+  same = λ s. refl;
+}
+
+pub tame_placed : (b : ℕ) (far : Bool) (a v : ℕ)
+    → Tame {A = Unit {0}} b (λ s. done tt (placed_word far a v s)) (λ s. done tt (placed_word far a v s))
+tame_placed b far a v = tame_in (keeps_placed far a v) (tame_done {A = Unit {0}} b tt)
+
+-- ---- spots
+
+tame_read_by : (b : ℕ) (k : Kind) (far : Bool) (a : ℕ) → Tame b (read_by k far a) (read_by k far a)
+tame_read_by b kind.Double far a =
+    tame_go (tame_word b far a) (λ high. tame_go (tame_word b far ((a + 1) % 65536)) (λ low. tame_done b (high ∷ low ∷ [])))
+tame_read_by b kind.Byte far a = tame_go (tame_word b far (a / 2)) (λ w. tame_done b (byte_at a w ∷ []))
+tame_read_by b kind.Integer far a = tame_go (tame_word b far a) (λ w. tame_done b (w ∷ []))
+tame_read_by b kind.Logical far a = tame_go (tame_word b far a) (λ w. tame_done b (w ∷ []))
+
+pub tame_read : (b : ℕ) (p : Spot) → Tame b (read p) (read p)
+tame_read b p = tame_read_by b p.kind p.far p.address
+
+tame_store_by : (b : ℕ) (k : Kind) (far : Bool) (a : ℕ) (vs : List ℕ) → Tame b (store_by k far a vs) (store_by k far a vs)
+tame_store_by b kind.Double far a [] = tame_strays b
+tame_store_by b kind.Double far a (h ∷ []) = tame_strays b
+tame_store_by b kind.Double far a (high ∷ low ∷ []) =
+    tame_go (tame_word b far a) (λ _. tame_go (tame_word b far ((a + 1) % 65536)) (λ _.
+    tame_in (keeps_placed far a high) (tame_placed b far ((a + 1) % 65536) low)))
+tame_store_by b kind.Double far a (h ∷ l ∷ v ∷ vs) = tame_strays b
+tame_store_by b kind.Byte far a [] = tame_strays b
+tame_store_by b kind.Byte far a (v ∷ []) = tame_go (tame_word b far (a / 2)) (λ w. tame_placed b far (a / 2) (with_byte a (v % 256) w))
+tame_store_by b kind.Byte far a (v ∷ w ∷ vs) = tame_strays b
+tame_store_by b kind.Integer far a [] = tame_strays b
+tame_store_by b kind.Integer far a (v ∷ []) = tame_go (tame_word b far a) (λ _. tame_placed b far a v)
+tame_store_by b kind.Integer far a (v ∷ w ∷ vs) = tame_strays b
+tame_store_by b kind.Logical far a [] = tame_strays b
+tame_store_by b kind.Logical far a (v ∷ []) = tame_go (tame_word b far a) (λ _. tame_placed b far a v)
+tame_store_by b kind.Logical far a (v ∷ w ∷ vs) = tame_strays b
+
+pub tame_store : (b : ℕ) (p : Spot) (vs : List ℕ) → Tame b (store p vs) (store p vs)
+tame_store b p vs = tame_store_by b p.kind p.far p.address vs
+
+pub tame_store_field : (b : ℕ) (p : Spot) (start size : ℕ) (vs : List ℕ) → Tame b (store_field p start size vs) (store_field p start size vs)
+tame_store_field b p start size [] = tame_strays b
+tame_store_field b p start size (v ∷ []) =
+    tame_go (tame_word b p.far p.address) (λ w. tame_placed b p.far p.address (with_field w start size v))
+tame_store_field b p start size (v ∷ w ∷ vs) = tame_strays b
+
+tame_own : (b : ℕ) (k : Kind) (p : Option Place) (i : Option ℕ) → Tame b (own_spot k p i) (own_spot k p i)
+tame_own b k (Some p) None =
+    tame_now (λ d s. done (variable_spot k (address p d)) s) (λ d s. done (variable_spot k (address p d)) s)
+    (λ d. tame_done b (variable_spot k (address p d)))
+tame_own b k (Some p) (Some i) = tame_strays b
+tame_own b k None i = tame_strays b
+
+tame_led : (b : ℕ) (far : Bool) (k : Kind) (p : Option Place) (i : ℕ) → Tame b (led_spot far k p i) (led_spot far k p i)
+tame_led b far k (Some p) i =
+    tame_now (λ d s. then_go (word_at false (address p d) s) (λ cell s1. done (element_spot far k cell i) s1))
+    (λ d s. then_go (word_at false (address p d) s) (λ cell s1. done (element_spot far k cell i) s1))
+    (λ d. tame_go (tame_word b false (address p d)) (λ cell. tame_done b (element_spot far k cell i)))
+tame_led b far k None i = tame_strays b
+
+tame_passed : (b : ℕ) (k : Kind) (p : Option Place) (i : Option ℕ) → Tame b (passed_spot k p i) (passed_spot k p i)
+tame_passed b k p None = tame_led b false k p 0
+tame_passed b k p (Some i) = tame_strays b
+
+tame_result : (b : ℕ) (r : Option (Kind × Place)) (i : Option ℕ) → Tame b (result_spot r i) (result_spot r i)
+tame_result b (Some r) None =
+    tame_now (λ d s. done (variable_spot r.0 (address r.1 d)) s) (λ d s. done (variable_spot r.0 (address r.1 d)) s)
+    (λ d. tame_done b (variable_spot r.0 (address r.1 d)))
+tame_result b (Some r) (Some i) = tame_strays b
+tame_result b None i = tame_strays b
+
+tame_spot_by : (b : ℕ) (h : Here) (x : List ℕ) (o : Option Sort) (i : Option ℕ) → Tame b (spot_by h x o i) (spot_by h x o i)
+tame_spot_by b h x (Some (n.simple k own)) i = tame_own b k (h.places x) i
+tame_spot_by b h x (Some (n.value k)) i = tame_own b k (h.places x) i
+tame_spot_by b h x (Some (n.by_reference k)) i = tame_passed b k (h.places x) i
+tame_spot_by b h x (Some (n.array k own low high)) i = tame_led b false k (h.places x) (index_or_zero i)
+tame_spot_by b h x (Some (n.view k own base)) i = tame_led b false k (h.places x) (index_or_zero i)
+tame_spot_by b h x (Some (n.array_parameter k)) i = tame_led b false k (h.places x) (index_or_zero i)
+tame_spot_by b h x (Some (n.pointer k own)) i = tame_led b h.split k (h.places x) (index_or_zero i)
+tame_spot_by b h x (Some (n.equate v)) i = tame_strays b
+tame_spot_by b h x (Some n.label) i = tame_strays b
+tame_spot_by b h x (Some (n.intrinsic g)) i = tame_strays b
+tame_spot_by b h x (Some (n.procedure p)) i = tame_strays b
+tame_spot_by b h x (Some (n.subroutine p)) i = tame_strays b
+tame_spot_by b h x (Some n.unknown) i = tame_strays b
+tame_spot_by b h x None i = tame_strays b
+
+pub tame_spot : (b : ℕ) (h : Here) (x : List ℕ) (i : Option ℕ) → Tame b (spot h x i) (spot h x i)
+tame_spot b h x i = tame_spot_by b h x (h.names x) i
+
+tame_target_by : (b : ℕ) (h : Here) (x : List ℕ) (o : Option Sort) (i : Option ℕ) → Tame b (target_by h x o i) (target_by h x o i)
+tame_target_by b h x (Some (n.simple k own)) i = tame_spot_by b h x (Some (n.simple k own)) i
+tame_target_by b h x (Some (n.value k)) i = tame_spot_by b h x (Some (n.value k)) i
+tame_target_by b h x (Some (n.by_reference k)) i = tame_spot_by b h x (Some (n.by_reference k)) i
+tame_target_by b h x (Some (n.array k own low high)) i = tame_spot_by b h x (Some (n.array k own low high)) i
+tame_target_by b h x (Some (n.view k own base)) i = tame_spot_by b h x (Some (n.view k own base)) i
+tame_target_by b h x (Some (n.array_parameter k)) i = tame_spot_by b h x (Some (n.array_parameter k)) i
+tame_target_by b h x (Some (n.pointer k own)) i = tame_spot_by b h x (Some (n.pointer k own)) i
+tame_target_by b h x (Some (n.equate v)) i = tame_strays b
+tame_target_by b h x (Some n.label) i = tame_strays b
+tame_target_by b h x (Some (n.intrinsic g)) i = tame_strays b
+tame_target_by b h x (Some (n.procedure p)) i = tame_result b (h.results x) i
+tame_target_by b h x (Some (n.subroutine p)) i = tame_result b (h.results x) i
+tame_target_by b h x (Some n.unknown) i = tame_strays b
+tame_target_by b h x None i = tame_strays b
+
+pub tame_target : (b : ℕ) (h : Here) (x : List ℕ) (i : Option ℕ) → Tame b (target_spot h x i) (target_spot h x i)
+tame_target b h x i = tame_target_by b h x (h.names x) i
+
+-- ---- operations
+
+pub tame_word_done : (b : ℕ) (r : Arith) → Tame b (word_done r) (word_done r)
+tame_word_done b r = tame_if r.overflow (tame_ends b (trapped IntegerOverflow)) (tame_done b (r.value ∷ []))
+
+tame_double_done : (b : ℕ) (r : Wide) → Tame b (double_done r) (double_done r)
+tame_double_done b r = tame_if r.overflow (tame_ends b (trapped IntegerOverflow)) (tame_done b (double_words r.value))
+
+tame_quotient : (b : ℕ) (rest : Bool) (o : Option Quotient) → Tame b (quotient_done rest o) (quotient_done rest o)
+tame_quotient b rest None = tame_ends b (trapped DivideByZero)
+tame_quotient b rest (Some q) =
+    tame_if q.overflow (tame_ends b (trapped IntegerOverflow)) (tame_done b ((if rest then q.remainder else q.quotient) ∷ []))
+
+tame_relation : (b op : ℕ) (c : Code) → Tame b (relation_done op c) (relation_done op c)
+tame_relation b op c = tame_done b (truth_word (related op c) ∷ [])
+
+tame_integers : (b op x y : ℕ) → Tame b (on_integers op x y) (on_integers op x y)
+tame_integers b op x y =
+    tame_if (is_relation op) (tame_relation b (op - 5) (words_compared x y))
+    (tame_if (op == 11) (tame_word_done b (added x y))
+    (tame_if (op == 12) (tame_word_done b (subtracted x y))
+    (tame_if (op == 13) (tame_word_done b (multiplied x y)) (tame_quotient b (op == 15) (divided x y)))))
+
+tame_logicals : (b op x y : ℕ) → Tame b (on_logicals op x y) (on_logicals op x y)
+tame_logicals b op x y =
+    tame_if (is_relation op) (tame_relation b (op - 5) (logically_compared x y))
+    (tame_if (op == 11) (tame_done b ((logically_added x y).value ∷ []))
+    (tame_if (op == 12) (tame_done b ((logically_subtracted x y).value ∷ []))
+    (tame_if (op == 13) (tame_done b ((logically_multiplied x y).value % 65536 ∷ [])) (tame_quotient b (op == 15) (logically_divided x y)))))
+
+tame_doubles : (b op x y : ℕ) → Tame b (on_doubles op x y) (on_doubles op x y)
+tame_doubles b op x y =
+    tame_if (is_relation op) (tame_relation b (op - 5) (doubles_compared x y))
+    (tame_if (op == 11) (tame_double_done b (double_added x y)) (tame_double_done b (double_subtracted x y)))
+
+tame_by_class : (b : ℕ) (c : Class) (op : ℕ) (xs ys : List ℕ) → Tame b (by_class c op xs ys) (by_class c op xs ys)
+tame_by_class b integers op [] ys = tame_strays b
+tame_by_class b integers op (x ∷ []) [] = tame_strays b
+tame_by_class b integers op (x ∷ []) (y ∷ []) = tame_integers b op x y
+tame_by_class b integers op (x ∷ []) (y ∷ z ∷ ys) = tame_strays b
+tame_by_class b integers op (x ∷ w ∷ xs) ys = tame_strays b
+tame_by_class b logicals op [] ys = tame_strays b
+tame_by_class b logicals op (x ∷ []) [] = tame_strays b
+tame_by_class b logicals op (x ∷ []) (y ∷ []) = tame_logicals b op x y
+tame_by_class b logicals op (x ∷ []) (y ∷ z ∷ ys) = tame_strays b
+tame_by_class b logicals op (x ∷ w ∷ xs) ys = tame_strays b
+tame_by_class b doubles op [] ys = tame_strays b
+tame_by_class b doubles op (h ∷ []) ys = tame_strays b
+tame_by_class b doubles op (h ∷ l ∷ []) [] = tame_strays b
+tame_by_class b doubles op (h ∷ l ∷ []) (k ∷ []) = tame_strays b
+tame_by_class b doubles op (h ∷ l ∷ []) (k ∷ m ∷ []) = tame_doubles b op (double h l) (double k m)
+tame_by_class b doubles op (h ∷ l ∷ []) (k ∷ m ∷ z ∷ ys) = tame_strays b
+tame_by_class b doubles op (h ∷ l ∷ w ∷ xs) ys = tame_strays b
+tame_by_class b mixed op xs ys = tame_strays b
+
+tame_bits : (b op : ℕ) (xs ys : List ℕ) → Tame b (bits_done op xs ys) (bits_done op xs ys)
+tame_bits b op [] ys = tame_strays b
+tame_bits b op (x ∷ []) [] = tame_strays b
+tame_bits b op (x ∷ []) (y ∷ []) = tame_done b _
+tame_bits b op (x ∷ []) (y ∷ z ∷ ys) = tame_strays b
+tame_bits b op (x ∷ w ∷ xs) ys = tame_strays b
+
+pub tame_joined : (b op : ℕ) (l r : Operand) (xs ys : List ℕ) → Tame b (joined op l r xs ys) (joined op l r xs ys)
+tame_joined b op l r xs ys = tame_if (nat_lt op 5) (tame_bits b op xs ys) (tame_by_class b (class_of l r) op xs ys)
+
+tame_minus : (b : ℕ) (k : Operand) (vs : List ℕ) → Tame b (minus_done k vs) (minus_done k vs)
+tame_minus b (of kind.Integer) [] = tame_strays b
+tame_minus b (of kind.Integer) (a ∷ []) = tame_word_done b (negated a)
+tame_minus b (of kind.Integer) (a ∷ c ∷ vs) = tame_strays b
+tame_minus b const [] = tame_strays b
+tame_minus b const (a ∷ []) = tame_word_done b (negated a)
+tame_minus b const (a ∷ c ∷ vs) = tame_strays b
+tame_minus b (of kind.Logical) [] = tame_strays b
+tame_minus b (of kind.Logical) (a ∷ []) = tame_done b ((logically_subtracted 0 a).value ∷ [])
+tame_minus b (of kind.Logical) (a ∷ c ∷ vs) = tame_strays b
+tame_minus b (of kind.Byte) [] = tame_strays b
+tame_minus b (of kind.Byte) (a ∷ []) = tame_done b ((logically_subtracted 0 a).value ∷ [])
+tame_minus b (of kind.Byte) (a ∷ c ∷ vs) = tame_strays b
+tame_minus b (of kind.Double) [] = tame_strays b
+tame_minus b (of kind.Double) (h ∷ []) = tame_strays b
+tame_minus b (of kind.Double) (h ∷ l ∷ []) = tame_double_done b (double_negated (double h l))
+tame_minus b (of kind.Double) (h ∷ l ∷ c ∷ vs) = tame_strays b
+tame_minus b unknown vs = tame_strays b
+
+tame_not : (b : ℕ) (vs : List ℕ) → Tame b (not_done vs) (not_done vs)
+tame_not b [] = tame_strays b
+tame_not b (a ∷ []) = tame_done b ((65535 - a) ∷ [])
+tame_not b (a ∷ c ∷ vs) = tame_strays b
+
+pub tame_signed : (b op : ℕ) (k : Operand) (vs : List ℕ) → Tame b (signed_done op k vs) (signed_done op k vs)
+tame_signed b op k vs = tame_if (op == 0) (tame_done b vs) (tame_if (op == 1) (tame_minus b k vs) (tame_not b vs))
+
+pub tame_shift : (b op count : ℕ) (vs : List ℕ) → Tame b (shift_done op count vs) (shift_done op count vs)
+tame_shift b op count [] = tame_strays b
+tame_shift b op count (w ∷ []) = tame_done b _
+tame_shift b op count (w ∷ v ∷ vs) = tame_strays b
+
+pub tame_field : (b start size : ℕ) (vs : List ℕ) → Tame b (field_done start size vs) (field_done start size vs)
+tame_field b start size [] = tame_strays b
+tame_field b start size (w ∷ []) = tame_done b _
+tame_field b start size (w ∷ v ∷ vs) = tame_strays b

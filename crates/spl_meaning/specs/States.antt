@@ -1,0 +1,103 @@
+-- What a run has, and what comes of its parts.
+use Rattle.std.specs.Prelude.{ℕ, zero, suc, ◌+◌, ℤ, List, [], ◌∷◌, ◌++◌, length, Option, None, Some}
+use Rattle.hp_word.specs.declared.arithmetic.Code.{Code}
+use Rattle.hp_word.specs.declared.endings.Trap.{Trap}
+use Rattle.spl_tree.specs.declared.names_and_places.At.{At}
+
+-- What a run works on. The data words are those of globals and OWN items, of arrays and cells, and of the live calls: their results,
+-- parameters and locals.
+pub record Data : Type 0 where
+  -- the data words by their addresses
+  pub mem : ℕ → Option ℕ
+  -- the first address above the live frame
+  pub top : ℕ
+  -- the address of the last word of its marker
+  pub base : ℕ
+  -- the address of the return word of the live subroutine, where one is live
+  pub inner : ℕ
+  -- the words of the extra segment
+  pub extra : List ℕ
+  -- the terminal lines, and how many of them were taken
+  pub lines : List (List ℕ)
+  pub taken : ℕ
+  -- what was printed, each print by itself
+  pub printed : List (List ℕ)
+  -- the condition code, where the statement just done has set one
+  pub code : Option Code
+  -- STACK and the print room, which no step changes
+  pub stack : ℕ
+  pub room : ℕ
+
+-- a statement that has begun: its place, and what the run had there
+pub record Begun : Type 0 where
+  pub at : At
+  pub data' : Data
+
+-- a run: its data, the steps that are left of its budget, and the statements begun so far
+pub record State : Type 0 where
+  pub now : Data
+  pub left : ℕ
+  pub begun : List Begun
+
+-- how a run ends
+pub data End : Type 0 where
+  terminated : End
+  quit : ℤ → End
+  trapped : Trap → End
+
+-- a way out of a statement: to a label, or back to the caller
+pub data Exit : Type 0 where
+  to_label : List ℕ → Exit
+  back : Exit
+
+-- What comes of a part: it is done with a value, it is left, its steps are spent, the run ends, or it makes a stray reference.
+pub data Outcome (A : Type 0) : Type 0 where
+  done : A → State → Outcome A
+  leaves : Exit → State → Outcome A
+  spent : State → Outcome A
+  ends : End → State → Outcome A
+  strays : State → Outcome A
+
+-- a part, and then what follows from its value; every other outcome is that of both
+abbrev pub then_go : {A B : Type 0} → Outcome A → (A → State → Outcome B) → Outcome B
+then_go (done a s) go = go a s
+then_go (leaves x s) go = leaves x s
+then_go (spent s) go = spent s
+then_go (ends e s) go = ends e s
+then_go (strays s) go = strays s
+
+-- one step of the budget, and then on; where none is left the steps are spent
+abbrev pub step_of : {A : Type 0} → ℕ → State → (State → Outcome A) → Outcome A
+step_of zero s go = spent s
+step_of (suc n) s go = go (record s { left = n })
+
+-- a step of what is left
+abbrev pub stepping : {A : Type 0} → State → (State → Outcome A) → Outcome A
+stepping s go = step_of s.left s go
+
+-- no condition code is known
+abbrev pub without_code : State → State
+without_code s = record s { now = record s.now { code = None } }
+
+-- a statement that can be stopped at is noted as it begins
+abbrev pub noted : Option At → State → State
+noted None s = s
+noted (Some at) s = record s { begun = s.begun ++ record { at = at; data' = s.now } ∷ [] }
+
+-- A statement begins: one step, and it is noted. What is known of the condition code is for a test of it alone.
+abbrev pub beginning : {A : Type 0} → Option At → State → (State → Outcome A) → Outcome A
+beginning at s go = stepping s (λ s1. go (without_code (noted at s1)))
+
+-- what a part comes to, without the condition code
+abbrev pub code_dropped : {A : Type 0} → Outcome A → Outcome A
+code_dropped o = then_go o (λ a s. done a (without_code s))
+
+-- how many bytes were printed
+abbrev pub printed_size : List (List ℕ) → ℕ
+printed_size [] = 0
+printed_size (p ∷ ps) = length p + printed_size ps
+
+-- all that was printed
+abbrev pub all_printed : List (List ℕ) → List ℕ
+all_printed [] = []
+all_printed (p ∷ ps) = p ++ all_printed ps

@@ -1,0 +1,27 @@
+//! Laws of runs and rules, each as the contract of a function that does nothing.
+ghost use Rattle.spl_meaning.specs.Laws.{EndedRunsStay, PrintsOnlyGrow, LogsOnlyGrow, FirstRulesAreBroken, SoundUnitsBreakNone};
+
+/// A run that has ended, or strayed, stays as it is.
+pub fn ended_runs_stay()
+    ensures { EndedRunsStay }
+{}
+
+/// What was printed stays, and more is only printed behind it.
+pub fn prints_only_grow()
+    ensures { PrintsOnlyGrow }
+{}
+
+/// So do the statements begun.
+pub fn logs_only_grow()
+    ensures { LogsOnlyGrow }
+{}
+
+/// The first rule that units break is broken at its place, and no other comes before it.
+pub fn first_rules_are_broken()
+    ensures { FirstRulesAreBroken }
+{}
+
+/// Units are sound exactly where there is no first rule that they break.
+pub fn sound_units_break_none()
+    ensures { SoundUnitsBreakNone }
+{}

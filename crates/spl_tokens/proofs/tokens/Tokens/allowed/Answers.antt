@@ -1,0 +1,9 @@
+use Rattle.std.proofs.Common.{arith}
+use Rattle.spl_grammar.specs.Readers.{allowed}
+use Rattle.spl_tokens.proofs.Steps.{steps}
+use Rattle.spl_tokens.proofs.tokens.Tokens.allowed.Goals as goal
+
+-- one more may not be open
+pub returns-in_ok-peek-clause-read : goal.returns-in_ok-peek-clause-read
+unfolding allowed
+returns-in_ok-peek-clause-read c = rw c.if-fits.false (grind (arith, steps))
