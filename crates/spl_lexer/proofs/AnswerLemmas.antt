@@ -13,6 +13,8 @@ use Rattle.spl_cuts.proofs.TextReads.{cuts_read, fault_is_read}
 use Rattle.spl_cuts.proofs.TextCuts.{texts_cut, faults_first}
 use Rattle.spl_lexer.specs.TokenViews.{listed_of}
 use Rattle.spl_lexer.specs.ReaderViews.{Answers, Faults, Gives, Refuses}
+use Rattle.spl_lexer.specs.Whole.{IsWhole}
+use Rattle.spl_lexer.proofs.WholeLemmas.{cut_whole}
 
 -- a fault of another kind than memory is the one that is read
 fault_is : (answer : Result Listed (LexKind × At)) (kind : LexKind) (at : At) → Faults answer kind at → kind ≢ k.NoMemory → answer ≡ Err (kind, at)
@@ -41,6 +43,10 @@ no_fault x k.NoMemory at e = refl
 pub cut_is : (unit : ℕ) (text : List ℕ) (r : Result Lexed LexFault) → Answers (read_text unit 262144 text) r → IfOk r (λ x. CutsWithin unit 262144 text (listed_of x))
 cut_is unit text (Ok x) a = texts_cut unit 262144 text (listed_of x) a
 cut_is unit text (Err f) a = tt
+
+pub cut_ends : (unit : ℕ) (text : List ℕ) (r : Result Lexed LexFault) → Answers (read_text unit 262144 text) r → IfOk r (λ x. IsWhole unit 262144 (listed_of x))
+cut_ends unit text (Ok x) a = cut_whole unit 262144 text (listed_of x) (texts_cut unit 262144 text (listed_of x) a)
+cut_ends unit text (Err f) a = tt
 
 pub fault_first : (unit : ℕ) (text : List ℕ) (r : Result Lexed LexFault) → Answers (read_text unit 262144 text) r
     → IfErr r (λ f. f.kind ≢ k.NoMemory → FirstFault unit 262144 text f.kind f.at)

@@ -4,4 +4,5 @@ pub mod UseLemmas
 pub mod PhaseLemmas
 pub mod SettingLemmas
 pub mod StepLemmas
+pub mod WholeLemmas
 pub mod AnswerLemmas

@@ -2,3 +2,4 @@ pub mod TokenViews
 pub mod DefineViews
 pub mod StateViews
 pub mod ReaderViews
+pub mod Whole

@@ -8,6 +8,7 @@ ghost use Rattle.spl_cuts.specs.Cutting.{CutsWithin, FirstFault};
 ghost use Rattle.spl_cuts.specs.declared.faults.LexKind as kinds;
 ghost use Rattle.spl_lexer.specs.TokenViews.{listed_of};
 ghost use Rattle.spl_lexer.specs.ReaderViews.{Answers, Gives, Refuses};
+ghost use Rattle.spl_lexer.specs.Whole.{IsWhole};
 
 use crate::reader::{Here, Reader};
 use crate::state::State;
@@ -100,6 +101,7 @@ fn read_all(alloc: Global, text: &[u8], unit: u8) -> Result<Lexed, LexFault>
 pub fn tokens(alloc: Global, text: &[u8], unit: u8) -> Result<Lexed, LexFault>
     requires { length text.now ≤ 1048576 }
     ensures cut { IfOk result (λ x. CutsWithin unit 262144 text.now (listed_of x)) }
+    ensures whole { IfOk result (λ x. IsWhole unit 262144 (listed_of x)) }
     ensures fault { IfErr result (λ f. f.kind ≢ LexKind.NoMemory → FirstFault unit 262144 text.now f.kind f.at) }
 
     // A text that is cut has its list as the answer, and one that has a fault that fault.

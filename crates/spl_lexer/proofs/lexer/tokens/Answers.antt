@@ -1,5 +1,5 @@
 -- What is read is what the text is cut into, or its first fault.
-use Rattle.spl_lexer.proofs.AnswerLemmas.{cut_is, fault_first, cuts_give, faults_refuse}
+use Rattle.spl_lexer.proofs.AnswerLemmas.{cut_is, cut_ends, fault_first, cuts_give, faults_refuse}
 use Rattle.spl_lexer.proofs.lexer.tokens.Goals as goal
 
 pub returns : goal.returns
@@ -8,6 +8,7 @@ returns c =
     let r = c.read_all.result in
     record {
       cut = cut_is c.args.unit text r c.read_all.ensures;
+      whole = cut_ends c.args.unit text r c.read_all.ensures;
       fault = fault_first c.args.unit text r c.read_all.ensures;
       cuts = cuts_give c.args.unit text r c.read_all.ensures;
       faults = faults_refuse c.args.unit text r c.read_all.ensures;
