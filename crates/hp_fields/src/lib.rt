@@ -9,3 +9,6 @@ mod numbers;
 mod shifts;
 
 pub use instructions::field_op;
+
+#[cfg(test)]
+mod tests;

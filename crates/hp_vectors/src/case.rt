@@ -163,21 +163,21 @@ impl Case {
     }
 
     /// Makes the step of the flat machine, and compares what it leaves with what must follow.
-    fn judge_flat(&mut self, alloc: Global, wanted: &State) -> Result<Verdict, AllocError> {
+    fn judge_flat(
+        &mut self,
+        alloc: Global,
+        program: &Program,
+        wanted: &State,
+    ) -> Result<Verdict, AllocError> {
         let Some(mut flat) = self.session(alloc)? else {
             return Ok(Verdict::Differs(self.number, "BEFORE"));
-        };
-        let segments = std::mem::replace(&mut self.segments, Vec::new(alloc));
-        let (main, entry) = start(&segments);
-        let Ok(program) = Program::new(segments, main, entry, Vec::new(alloc)) else {
-            return Ok(Verdict::Differs(self.number, "SEGMENT"));
         };
         if flat.regs.seg as usize >= program.segments.len()
             || flat.ending != hp_word::Ending::Running
         {
             return Ok(Verdict::Differs(self.number, "BEFORE"));
         }
-        flat.step(&program);
+        flat.step(program);
         Ok(self.verdict(difference(&flat, wanted)))
     }
 
@@ -185,18 +185,13 @@ impl Case {
     fn judge_registers(
         &self,
         alloc: Global,
+        program: &Program,
         wanted: &State,
     ) -> Result<Option<Verdict>, AllocError> {
         let Some(before) = &self.before else {
             return Ok(None);
         };
-        let Some(segment) = self.segments.get(before.regs.seg as usize) else {
-            return Ok(None);
-        };
-        let Some(word) = segment.get(before.regs.p as usize) else {
-            return Ok(None);
-        };
-        let found = registers::step(alloc, *word, self.stack_limit, before, wanted)?;
+        let found = registers::step(alloc, program, self.stack_limit, before, wanted)?;
         Ok(found.map(|difference| self.verdict(difference)))
     }
 
@@ -210,9 +205,17 @@ impl Case {
 
     /// Makes the step both ways.
     fn judge(&mut self, alloc: Global, wanted: &State) -> Result<Judged, AllocError> {
-        let registers = self.judge_registers(alloc, wanted)?;
+        let segments = std::mem::replace(&mut self.segments, Vec::new(alloc));
+        let (main, entry) = start(&segments);
+        let Ok(program) = Program::new(segments, main, entry, Vec::new(alloc)) else {
+            return Ok(Judged {
+                flat: Verdict::Differs(self.number, "SEGMENT"),
+                registers: None,
+            });
+        };
+        let registers = self.judge_registers(alloc, &program, wanted)?;
         Ok(Judged {
-            flat: self.judge_flat(alloc, wanted)?,
+            flat: self.judge_flat(alloc, &program, wanted)?,
             registers,
         })
     }

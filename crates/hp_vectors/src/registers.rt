@@ -2,8 +2,9 @@
 
 use crate::fields::State;
 use hp_fields::field_op;
-use hp_flat::Regs;
+use hp_flat::{CodeStore, Fetched, Program, Regs};
 use hp_instr::{Group, Instr, Op, decode, group_of};
+use hp_memref::memory_op;
 use hp_stackops::stack_op;
 use hp_tos::Stack;
 use hp_word::{Ending, Trap};
@@ -53,14 +54,18 @@ fn pair(left: Op, right: Op, regs: &mut Regs, stack: &mut Stack) -> Result<(), T
     Ok(())
 }
 
-/// What a word does; none where its instruction has no call over registers.
-fn perform(word: u16, regs: &mut Regs, stack: &mut Stack) -> Option<Result<(), Trap>> {
+/// What the word at P does; none where there is none, or its instruction has no call over registers.
+fn perform(regs: &mut Regs, stack: &mut Stack, program: &Program) -> Option<Result<(), Trap>> {
+    let Fetched::Word(word) = program.fetch(regs.seg, regs.p) else {
+        return None;
+    };
     let instruction = decode(word);
     if let Instr::Pair { left, right } = instruction {
         return Some(pair(left, right, regs, stack));
     }
     match group_of(instruction) {
         Group::Field => Some(field_op(instruction, regs, stack)),
+        Group::Reference => Some(memory_op(instruction, regs, stack, program)),
         _ => None,
     }
 }
@@ -131,11 +136,11 @@ fn difference(
     None
 }
 
-/// Makes the step of a word over registers, and answers the first field that differs from what must follow, if any does.
+/// Makes the step over registers, and answers the first field that differs from what must follow, if any does.
 /// The outer answer is none where the instruction has no call there.
 pub fn step(
     alloc: Global,
-    word: u16,
+    program: &Program,
     limit: u16,
     before: &State,
     wanted: &State,
@@ -144,7 +149,7 @@ pub fn step(
         return Ok(Some(Some("BEFORE")));
     };
     let mut regs = before.regs;
-    let Some(answer) = perform(word, &mut regs, &mut stack) else {
+    let Some(answer) = perform(&mut regs, &mut stack, program) else {
         return Ok(None);
     };
     Ok(Some(difference(&regs, &mut stack, ending(answer), wanted)))
