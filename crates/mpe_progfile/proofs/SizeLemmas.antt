@@ -11,27 +11,27 @@ use Rattle.mpe_progfile.specs.Reading.{Cursor, word, word_in, with_read, tested,
 
 -- ---- what was read was read in parts
 
-with_ok : {A B : Type 0} (r : Result (A × Cursor) FileFault) (go : A → Cursor → Result (B × Cursor) FileFault) (x : B × Cursor)
+pub with_ok : {A B : Type 0} (r : Result (A × Cursor) FileFault) (go : A → Cursor → Result (B × Cursor) FileFault) (x : B × Cursor)
     → with_read r go ≡ Ok x → (a : A) × (next : Cursor) × (r ≡ Ok (a, next)) × (go a next ≡ Ok x)
 unfolding with_read
 with_ok (Ok r) go x e = (r.0, r.1, refl, e)
 with_ok (Err f) go x e = cc
 
-tested_ok : {A : Type 0} (b : Bool) (f : FileFault) (a x : A) → tested b f a ≡ Ok x → (b ≡ true) × (a ≡ x)
+pub tested_ok : {A : Type 0} (b : Bool) (f : FileFault) (a x : A) → tested b f a ≡ Ok x → (b ≡ true) × (a ≡ x)
 unfolding tested
 tested_ok true f a x e = (refl, cc)
 tested_ok false f a x e = cc
 
-both : (a b : Bool) → (a && b) ≡ true → (a ≡ true) × (b ≡ true)
+pub both : (a b : Bool) → (a && b) ≡ true → (a ≡ true) × (b ≡ true)
 both true b e = (refl, e)
 both false b e = cc
 
-all_of : (a b : Bool) → a ≡ true → b ≡ true → (a && b) ≡ true
+pub all_of : (a b : Bool) → a ≡ true → b ≡ true → (a && b) ≡ true
 all_of true b e f = f
 all_of false b e f = cc
 
 -- as many as were asked for
-times_length : {A : Type 0} (read : Cursor → Result (A × Cursor) FileFault) (n : ℕ) (c : Cursor) (x : List A × Cursor) → times read n c ≡ Ok x
+pub times_length : {A : Type 0} (read : Cursor → Result (A × Cursor) FileFault) (n : ℕ) (c : Cursor) (x : List A × Cursor) → times read n c ≡ Ok x
     → length x.0 ≡ n
 unfolding times
 times_length read zero c x e = let p : ([], c) ≡ x = cc in ap (λ y. length y.0) (sym p)
@@ -82,7 +82,7 @@ segments_sized (suc n) s c x e =
     ∙ one_sized s i.0 j.0 (segment_sized c (i.0, i.1) i.2) (segments_sized n (s + 1) i.1 (j.0, j.1) j.2)
 
 -- segments that are well sized have at most 16,383 words
-first_sized : (s : ℕ) (w : List ℕ) (ws : List (List ℕ)) → bad_segment s (w ∷ ws) ≡ None → (is_well_sized w ≡ true) × (bad_segment (s + 1) ws ≡ None)
+pub first_sized : (s : ℕ) (w : List ℕ) (ws : List (List ℕ)) → bad_segment s (w ∷ ws) ≡ None → (is_well_sized w ≡ true) × (bad_segment (s + 1) ws ≡ None)
 unfolding bad_segment
 first_sized s w ws e = by s ws (is_well_sized w) refl e
   where

@@ -1,7 +1,7 @@
 //! A program file: its parts, and the program that they make.
-ghost use Rattle.std.specs.Prelude.{◌≡◌, ◌≤◌, ◌+◌, ◌*◌, map, length, IfOk, None, true};
+ghost use Rattle.std.specs.Prelude.{◌≡◌, ◌≤◌, ◌+◌, ◌*◌, ◌-◌, map, length, slice_index, IfOk, None, true};
 ghost use Rattle.hp_program.specs.Valid.{is_head, bad_segment};
-ghost use Rattle.mpe_progfile.specs.Reading as read;
+ghost use Rattle.mpe_progfile.specs.Reading as format;
 ghost use Rattle.mpe_progfile.specs.Views.{cursor_of, Gives, Answers, parts_of};
 
 use crate::faults::FileFault;
@@ -22,7 +22,7 @@ pub(crate) struct Parts {
 #[tactic(auto, unfolding(crate::specs::Reading::parts, crate::specs::Reading::body, crate::specs::Reading::with_read))]
 fn read_parts(alloc: Global, reader: &mut Reader<'_>) -> Result<Parts, FileFault>
     requires { reader.old.at ≡ 0 }
-    ensures { Gives parts_of result (cursor_of reader.new) (read.parts (cursor_of reader.old)) }
+    ensures { Gives parts_of result (cursor_of reader.new) (format.parts (cursor_of reader.old)) }
 {
     reader.magic()?;
     reader.head_word(1, 1)?;
@@ -45,7 +45,7 @@ fn read_parts(alloc: Global, reader: &mut Reader<'_>) -> Result<Parts, FileFault
 fn count_bytes(alloc: Global, from: u32, segments: &[Vec<u16>]) -> Result<Vec<u32>, AllocError>
     requires small { from + 32768 * length segments.now ≤ 4000000 }
     requires sized { bad_segment 0 (map (λ s. s.items) segments.now) ≡ None }
-    ensures { IfOk result (λ v. v.items ≡ read.count_bytes from (map (λ s. s.items) segments.now)) }
+    ensures { IfOk result (λ v. v.items ≡ format.count_bytes from (map (λ s. s.items) segments.now)) }
 {
     let mut bytes = Vec::with_capacity(alloc, segments.len())?;
     let mut at = from;
@@ -55,4 +55,49 @@ fn count_bytes(alloc: Global, from: u32, segments: &[Vec<u16>]) -> Result<Vec<u3
         at = count + 2;
     }
     Ok(bytes)
+}
+
+/// The byte of a segment's label.
+fn label_byte(counts: &[u32], seg: u8, entry: u8) -> u32
+    ensures { result ≡ slice_index counts.now seg - 2 * entry }
+{
+    let count = counts.get(seg as usize).copied().unwrap_or(0);
+    count.saturating_sub(2 * entry as u32)
+}
+
+/// The program of parts that are well sized, or the fault of its first label that leads nowhere.
+#[tactic(auto, using(crate::proofs::LabelLemmas::labels))]
+fn labelled(alloc: Global, parts: Parts) -> Result<Program, FileFault>
+    requires head { is_head (map (λ s. s.items) parts.segments.items) parts.main parts.globals.items ≡ true }
+    requires sized { bad_segment 0 (map (λ s. s.items) parts.segments.items) ≡ None }
+    ensures { Answers result (format.labelled (parts_of parts)) }
+{
+    let Parts {
+        main,
+        entry,
+        globals,
+        segments,
+    } = parts;
+    let counts = count_bytes(alloc, 14 + 2 * globals.len() as u32, &segments)?;
+    if 255 < entry {
+        return Err(FileFault::BadLabel(10));
+    }
+    match Program::new(segments, main as u8, entry as u8, globals) {
+        Ok(program) => Ok(program),
+        Err(Defect::Label { seg, entry }) => Err(FileFault::BadLabel(label_byte(&counts, seg, entry))),
+        Err(_) => Err(FileFault::BadLabel(10)),
+    }
+}
+
+/// What a file is read as.
+#[tactic(auto, using(crate::proofs::PartLemmas::parts_right), unfolding(crate::specs::Reading::read_file, crate::specs::Reading::all_labelled, crate::specs::Reading::ended, crate::specs::Reading::tested))]
+fn read_program(alloc: Global, bytes: &[u8]) -> Result<Program, FileFault>
+    ensures { Answers result (format.read_file bytes.now) }
+{
+    let mut reader = Reader { at: 0, left: bytes };
+    let parts = read_parts(alloc, &mut reader)?;
+    if !reader.left.is_empty() {
+        return Err(FileFault::Trailing(reader.at));
+    }
+    labelled(alloc, parts)
 }

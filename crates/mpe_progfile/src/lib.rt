@@ -4,5 +4,7 @@
 mod faults;
 mod file;
 mod reader;
+mod writer;
 
 pub use faults::FileFault;
+pub use writer::write;
