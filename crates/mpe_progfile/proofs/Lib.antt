@@ -4,3 +4,4 @@ pub mod CountLemmas
 pub mod LabelLemmas
 pub mod PartLemmas
 pub mod WriteLemmas
+pub mod SpellLemmas

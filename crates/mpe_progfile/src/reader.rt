@@ -1,6 +1,7 @@
 //! A file read from its front.
-ghost use Rattle.std.specs.Prelude.{◌≡◌, ◌≤◌, ◌+◌, ◌*◌, ◌==◌, length, map, ℕ, List, Bool, true, IfOk};
+ghost use Rattle.std.specs.Prelude.{◌≡◌, ◌≤◌, ◌+◌, ◌*◌, ◌++◌, ◌==◌, length, map, ℕ, List, Bool, true, IfOk};
 ghost use Rattle.mpe_progfile.specs.Reading as read;
+ghost use Rattle.mpe_progfile.specs.Files.{magic, word_bytes, words_bytes, segment_bytes, segments_bytes};
 ghost use Rattle.mpe_progfile.specs.Views.{cursor_of, Gives};
 
 use crate::faults::FileFault;
@@ -24,11 +25,12 @@ fn has_table(words: &[u16]) -> bool
 
 impl<'a> Reader<'a> {
     /// The next word.
-    #[tactic(auto, unfolding(crate::specs::Reading::word))]
+    #[tactic(auto, using(crate::proofs::SpellLemmas::halves), unfolding(crate::specs::Reading::word))]
     pub(crate) fn word(&mut self) -> Result<u16, FileFault>
         requires { self.old.at ≤ 4000000 }
         ensures read { Gives (λ w. w) result (cursor_of self.new) (read.word (cursor_of self.old)) }
         ensures place { IfOk result (λ _. self.new.at ≡ self.old.at + 2) }
+        ensures spelled { IfOk result (λ w. self.old.left.now ≡ word_bytes w ++ self.new.left.now) }
     {
         match self.left {
             [high, low, rest @ ..] => {
@@ -47,6 +49,7 @@ impl<'a> Reader<'a> {
         requires { self.old.at ≤ 4000000 }
         ensures read { Gives (λ u. true) result (cursor_of self.new) (read.magic_read (cursor_of self.old)) }
         ensures place { IfOk result (λ _. self.new.at ≡ self.old.at + 4) }
+        ensures spelled { IfOk result (λ _. self.old.left.now ≡ magic ++ self.new.left.now) }
     {
         let at = self.at;
         match self.left {
@@ -70,6 +73,7 @@ impl<'a> Reader<'a> {
         ensures read { Gives (λ w. w) result (cursor_of self.new) (read.head_word (read.is_between low high) (cursor_of self.old)) }
         ensures place { IfOk result (λ _. self.new.at ≡ self.old.at + 2) }
         ensures inside { IfOk result (λ w. (low ≤ w) × (w ≤ high)) }
+        ensures spelled { IfOk result (λ w. self.old.left.now ≡ word_bytes w ++ self.new.left.now) }
     {
         let at = self.at;
         let word = self.word()?;
@@ -87,6 +91,7 @@ impl<'a> Reader<'a> {
         ensures read { Gives (λ ws. ws.items) result (cursor_of self.new) (read.words count (cursor_of self.old)) }
         ensures place { IfOk result (λ _. self.new.at ≡ self.old.at + 2 * count) }
         ensures size { IfOk result (λ ws. length ws.items ≡ count) }
+        ensures spelled { IfOk result (λ ws. self.old.left.now ≡ words_bytes ws.items ++ self.new.left.now) }
     {
         let mut words = Vec::with_capacity(alloc, count as usize)?;
         for _ in 0..count {
@@ -104,6 +109,7 @@ impl<'a> Reader<'a> {
         requires { self.old.at + 32768 ≤ 4000000 }
         ensures read { Gives (λ ws. ws.items) result (cursor_of self.new) (read.segment (cursor_of self.old)) }
         ensures place { IfOk result (λ _. self.new.at ≤ self.old.at + 32768) }
+        ensures spelled { IfOk result (λ ws. self.old.left.now ≡ segment_bytes ws.items ++ self.new.left.now) }
     {
         let at = self.at;
         let size = self.word()?;
@@ -121,7 +127,9 @@ impl<'a> Reader<'a> {
     /// So many segments.
     pub(crate) fn segments(&mut self, alloc: Global, count: u16) -> Result<Vec<Vec<u16>>, FileFault>
         requires { self.old.at + 32768 * count ≤ 4000000 }
-        ensures { Gives (λ ss. map (λ s. s.items) ss.items) result (cursor_of self.new) (read.segments count (cursor_of self.old)) }
+        ensures read { Gives (λ ss. map (λ s. s.items) ss.items) result (cursor_of self.new) (read.segments count (cursor_of self.old)) }
+        ensures spelled { IfOk result (λ ss. self.old.left.now ≡ segments_bytes (map (λ s. s.items) ss.items) ++ self.new.left.now) }
+        ensures size { IfOk result (λ ss. length ss.items ≡ count) }
     {
         let mut segments = Vec::with_capacity(alloc, count as usize)?;
         for _ in 0..count {

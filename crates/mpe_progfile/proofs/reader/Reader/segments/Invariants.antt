@@ -1,4 +1,5 @@
-use Rattle.std.proofs.Common.{◌≡◌, ◌≤◌, ◌+◌, ◌*◌, ◌-◌, map}
+use Rattle.std.proofs.Common.{◌≡◌, ◌≤◌, ◌+◌, ◌*◌, ◌-◌, ◌++◌, map, length}
+use Rattle.mpe_progfile.specs.Files.{segments_bytes}
 use Rattle.mpe_progfile.specs.Reading.{segment, times}
 use Rattle.mpe_progfile.specs.Views.{cursor_of}
 use Rattle.mpe_progfile.proofs.ReadLemmas.{behind}
@@ -9,3 +10,4 @@ abbrev pub invariant-loop : goal.invariant-loop
 invariant-loop l =
     (behind (map (λ s. s.items) l.segments.items) (times segment (l.count - l.counter) (cursor_of l.self)) ≡ times segment l.count (cursor_of l.initial.self))
     × (l.self.at ≤ l.initial.self.at + 32768 * l.counter)
+    × (l.initial.self.left.now ≡ segments_bytes (map (λ s. s.items) l.segments.items) ++ l.self.left.now) × (length l.segments.items ≡ l.counter)

@@ -2,6 +2,8 @@ use Rattle.std.proofs.Common.{rules, ◌≡◌, ◌+◌, ◌*◌, ◌-◌, List,
 use Rattle.mpe_progfile.specs.Reading as read
 use Rattle.mpe_progfile.specs.Views.{cursor_of, Fails}
 use Rattle.mpe_progfile.proofs.ReadLemmas.{behind, goes_on, fails_all, ends}
+use Rattle.mpe_progfile.proofs.SpellLemmas.{spell_word}
+use Rattle.mpe_progfile.specs.Files.{words_bytes}
 use Rattle.mpe_progfile.proofs.reader.Reader.words.Goals as goal
 
 -- a word that is missing
@@ -21,7 +23,9 @@ loop-preserved c =
           c.loop-test.true c.in_ok-word.ensures.read)
       ∙ c.loop.invariant.0,
       omega (arith, c.loop.invariant.1, c.in_ok-word.ensures.place),
-      search (rules, c.loop.invariant.2, e))
+      search (rules, c.loop.invariant.2, e),
+      spell_word _ c.loop.self.left.now c.word.new.self.left.now c.loop.words.items c.in_ok-word.word c.loop.invariant.3 c.in_ok-word.ensures.spelled
+        ∙ ap (λ xs. words_bytes xs ++ c.word.new.self.left.now) (sym e))
 
 -- all words
 pub returns-clause-read : goal.returns-clause-read
@@ -32,3 +36,6 @@ returns-clause-place c = omega (arith, c.loop.invariant.1, c.loop-test.false, c.
 
 pub returns-clause-size : goal.returns-clause-size
 returns-clause-size c = omega (arith, c.loop.invariant.2, c.loop-test.false, c.loop.auto.counter-end)
+
+pub returns-clause-spelled : goal.returns-clause-spelled
+returns-clause-spelled c = c.loop.invariant.3
