@@ -1,7 +1,8 @@
 //! A program file: its parts, and the program that they make.
-ghost use Rattle.std.specs.Prelude.{◌≡◌, ◌≤◌, ◌+◌, ◌*◌, ◌-◌, map, length, slice_index, IfOk, None, true};
+ghost use Rattle.std.specs.Prelude.{◌≡◌, ◌≤◌, ◌+◌, ◌*◌, ◌-◌, ◌++◌, map, length, slice_index, IfOk, None, true};
 ghost use Rattle.hp_program.specs.Valid.{is_head, bad_segment};
 ghost use Rattle.mpe_progfile.specs.Reading as format;
+ghost use Rattle.mpe_progfile.specs.Files.{file_of, IsFile};
 ghost use Rattle.mpe_progfile.specs.Views.{cursor_of, Gives, Answers, parts_of};
 
 use crate::faults::FileFault;
@@ -19,10 +20,11 @@ pub(crate) struct Parts {
 }
 
 /// The parts of a file, from its magic on.
-#[tactic(auto, unfolding(crate::specs::Reading::parts, crate::specs::Reading::body, crate::specs::Reading::with_read))]
+#[tactic(auto, using(crate::proofs::SpellLemmas::spell_file), unfolding(crate::specs::Reading::parts, crate::specs::Reading::body, crate::specs::Reading::with_read))]
 fn read_parts(alloc: Global, reader: &mut Reader<'_>) -> Result<Parts, FileFault>
     requires { reader.old.at ≡ 0 }
-    ensures { Gives parts_of result (cursor_of reader.new) (format.parts (cursor_of reader.old)) }
+    ensures read { Gives parts_of result (cursor_of reader.new) (format.parts (cursor_of reader.old)) }
+    ensures spelled { IfOk result (λ p. reader.old.left.now ≡ file_of (map (λ s. s.items) p.segments.items) p.main p.entry p.globals.items ++ reader.new.left.now) }
 {
     reader.magic()?;
     reader.head_word(1, 1)?;
