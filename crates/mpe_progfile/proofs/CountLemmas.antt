@@ -37,7 +37,7 @@ fronted (s ∷ ss) (suc i) w l e = fronted ss i w (omega (arith, l)) e
 -- one segment more
 pub count_on : (before : List ℕ) (at : ℕ) (segments : List (Vec ℕ Global)) (i : ℕ) (w : Vec ℕ Global) → i < length segments → w ≡ get_or segments i w
     → before ++ count_bytes at (items_of (drop i segments))
-      ≡ (before ++ (at + 2 * length w.items) ∷ []) ++ count_bytes (at + 2 * length w.items + 2) (items_of (drop (i + 1) segments))
+    ≡ (before ++ (at + 2 * length w.items) ∷ []) ++ count_bytes (at + 2 * length w.items + 2) (items_of (drop (i + 1) segments))
 count_on before at segments i w l e =
     let next : suc i ≡ i + 1 = omega arith in
     ap (λ (x : List (Vec ℕ Global)). before ++ count_bytes at (items_of x)) (fronted segments i w l e)

@@ -1,12 +1,11 @@
 -- The first label that leads nowhere, by the first defect of a program.
-use Rattle.std.proofs.Common.{ℕ, zero, suc, ◌≡◌, ◌+◌, ◌-◌, ◌*◌, ◌<◌, ◌≤◌, Bool, true, false, List, [], ◌∷◌, length, Option, Some, None, Vec, Global, refl, sym, ap, ◌∙◌, subst, arith}
-use Rattle.std.specs.Prelude.{Result, Ok, Err, ◌&&◌, ◌==◌, nat_le, not, if◌then◌else◌, slice_get, slice_index, map}
+use Rattle.std.proofs.Common.{ℕ, zero, suc, ◌≡◌, ◌+◌, ◌<◌, ◌≤◌, Bool, true, false, List, [], ◌∷◌, length, Option, Some, None, Vec, Global, refl, sym, ap, ◌∙◌, subst, arith}
+use Rattle.std.specs.Prelude.{Err, ◌&&◌, ◌==◌, nat_le, not, if◌then◌else◌, slice_get, map}
 use Rattle.std.proofs.lemmas.Bool.{leb-true, ltb-true, lt-leb}
 use Rattle.hp_program.specs.declared.program.Defect.{Defect}
 use Rattle.hp_program.specs.declared.program.Defect.TheVariants as defect
 use Rattle.hp_program.specs.Valid.{is_well_sized, bad_segment, bad_table, is_head, is_local, is_local_entry, entries_of, label_of, first_defect, or_else}
 use Rattle.hp_instr.specs.Labels.{label}
-use Rattle.mpe_progfile.specs.declared.faults.FileFault.{FileFault}
 use Rattle.mpe_progfile.specs.declared.faults.FileFault.TheVariants as fault
 use Rattle.mpe_progfile.specs.Reading.{Parts, table_read, labelled}
 use Rattle.mpe_progfile.proofs.SizeLemmas.{first_sized}
@@ -29,7 +28,7 @@ unfolding labelled first_defect
 labels_are p h s =
     by_local p (is_local_entry (slice_get p.segments p.main) p.entry)
     ∙ sym (ap (table_read p) (headed p (is_head p.segments p.main p.globals) (bad_segment 0 p.segments)
-        (if not (is_local_entry (slice_get p.segments p.main) p.entry) then Some defect.Main else bad_table p.segments 0 p.segments) h s))
+    (if not (is_local_entry (slice_get p.segments p.main) p.entry) then Some defect.Main else bad_table p.segments 0 p.segments) h s))
 
 both : (a b : Bool) → (a && b) ≡ true → (a ≡ true) × (b ≡ true)
 both true b e = (refl, e)
@@ -88,6 +87,6 @@ pub high_entry : (p : Parts) → bad_segment 0 p.segments ≡ None → 255 < p.e
 unfolding labelled
 high_entry p b l =
     ap (λ (x : Bool). if x then table_read p (bad_table p.segments 0 p.segments) else Err (fault.BadLabel 10))
-      (not_so_high (slice_get p.segments p.main) p.entry (λ w e. nth_few 0 p.segments p.main w b e) l)
+    (not_so_high (slice_get p.segments p.main) p.entry (λ w e. nth_few 0 p.segments p.main w b e) l)
 
 pub ruleset labels = (labels_are, head_count, head_main, head_globals, high_entry)

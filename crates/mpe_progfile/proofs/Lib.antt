@@ -5,3 +5,6 @@ pub mod LabelLemmas
 pub mod PartLemmas
 pub mod WriteLemmas
 pub mod SpellLemmas
+pub mod AgainLemmas
+pub mod FileLaws
+pub mod AnswerLemmas

@@ -1,13 +1,12 @@
 -- What was read of a file is well sized.
-use Rattle.std.proofs.Common.{ℕ, zero, suc, ◌≡◌, ◌+◌, ◌-◌, ◌*◌, ◌<◌, ◌≤◌, Bool, true, false, List, [], ◌∷◌, ◌++◌, length, Option, Some, None, refl, sym, ap, ◌∙◌, subst, arith}
-use Rattle.std.specs.Prelude.{Result, Ok, Err, ◌&&◌, ◌||◌, nat_le, not, if◌then◌else◌, get_or, map, drop}
+use Rattle.std.proofs.Common.{ℕ, zero, suc, ◌≡◌, ◌+◌, ◌-◌, ◌<◌, ◌≤◌, Bool, true, false, List, [], ◌∷◌, length, Some, None, refl, sym, ap, ◌∙◌, subst, arith}
+use Rattle.std.specs.Prelude.{Result, Ok, Err, ◌&&◌, nat_le, if◌then◌else◌, get_or}
 use Rattle.std.proofs.lemmas.Bool.{leb-true}
-use Rattle.hp_program.specs.declared.program.Defect.{Defect}
 use Rattle.hp_program.specs.declared.program.Defect.TheVariants as defect
-use Rattle.hp_program.specs.Valid.{is_well_sized, bad_segment, is_head, entries_of}
+use Rattle.hp_program.specs.Valid.{is_well_sized, bad_segment, entries_of}
 use Rattle.mpe_progfile.specs.declared.faults.FileFault.{FileFault}
 use Rattle.mpe_progfile.specs.declared.faults.FileFault.TheVariants as fault
-use Rattle.mpe_progfile.specs.Reading.{Cursor, word, word_in, with_read, tested, times, is_size, is_between, has_table, words, segment, segments}
+use Rattle.mpe_progfile.specs.Reading.{Cursor, word, with_read, tested, times, is_size, has_table, words, segment, segments}
 
 -- ---- what was read was read in parts
 
@@ -58,7 +57,7 @@ segment_sized c x e =
     let s = both (nat_le 2 (length k.0)) (nat_le (length k.0) 16383) size in
     let h = both (nat_le (entries_of k.0) 127) (nat_le (entries_of k.0) (length k.0 - 1)) u.0 in
     subst (λ (ws : List ℕ). is_well_sized ws ≡ true) (ap (λ p. p.0) u.1)
-      (all_of _ _ (all_of _ _ (all_of _ _ s.0 s.1) h.0) h.1)
+    (all_of _ _ (all_of _ _ (all_of _ _ s.0 s.1) h.0) h.1)
   where
     fault_at : Cursor → FileFault
     fault_at c = fault.BadSegment c.at

@@ -41,7 +41,7 @@ length_items [] = refl
 length_items (s ∷ ss) = ap suc (length_items ss)
 
 -- lists one behind the other, grouped to the left
-grouped : (c d e f g h z : List ℕ)
+pub grouped : (c d e f g h z : List ℕ)
     → magic ++ (word_bytes 1 ++ (c ++ (d ++ (e ++ (f ++ (g ++ (h ++ z))))))) ≡ (magic ++ word_bytes 1 ++ c ++ d ++ e ++ f ++ g ++ h) ++ z
 grouped c d e f g h z =
     sym (append_assoc magic (word_bytes 1) (c ++ (d ++ (e ++ (f ++ (g ++ (h ++ z)))))))
@@ -62,7 +62,7 @@ unfolding file_of
 spell_file b0 b1 b2 b3 b4 b5 b6 b7 b8 count main entry data' globals ss e0 e1 e2 e3 e4 e5 e6 e7 n m =
     let long : length (items_of ss) ≡ count = length_items ss ∙ n in
     e0 ∙ ap (λ x. magic ++ x) (e1 ∙ ap (λ x. word_bytes 1 ++ x) (e2 ∙ ap (λ x. word_bytes count ++ x) (e3 ∙ ap (λ x. word_bytes main ++ x)
-      (e4 ∙ ap (λ x. word_bytes entry ++ x) (e5 ∙ ap (λ x. word_bytes data' ++ x) (e6 ∙ ap (λ x. words_bytes globals ++ x) e7))))))
+    (e4 ∙ ap (λ x. word_bytes entry ++ x) (e5 ∙ ap (λ x. word_bytes data' ++ x) (e6 ∙ ap (λ x. words_bytes globals ++ x) e7))))))
     ∙ ap (λ k. magic ++ (word_bytes 1 ++ (word_bytes k ++ (word_bytes main ++ (word_bytes entry ++ (word_bytes data' ++ (words_bytes globals ++ (segments_bytes (items_of ss) ++ b8)))))))) (sym long)
     ∙ ap (λ k. magic ++ (word_bytes 1 ++ (word_bytes (length (items_of ss)) ++ (word_bytes main ++ (word_bytes entry ++ (word_bytes k ++ (words_bytes globals ++ (segments_bytes (items_of ss) ++ b8)))))))) (sym m)
     ∙ grouped (word_bytes (length (items_of ss))) (word_bytes main) (word_bytes entry) (word_bytes (length globals)) (words_bytes globals) (segments_bytes (items_of ss)) b8

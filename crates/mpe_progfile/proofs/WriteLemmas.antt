@@ -40,7 +40,7 @@ items_of segments = map (λ s. s.items) segments
 -- one segment more: its size, and then its words
 pub segment_on : (before : List ℕ) (ss : List (Vec ℕ Global)) (i : ℕ) (s : Vec ℕ Global) → i < length ss → s ≡ get_or ss i s
     → before ++ segments_bytes (items_of (drop i ss))
-      ≡ ((before ++ word_bytes (length s.items)) ++ words_bytes s.items) ++ segments_bytes (items_of (drop (i + 1) ss))
+    ≡ ((before ++ word_bytes (length s.items)) ++ words_bytes s.items) ++ segments_bytes (items_of (drop (i + 1) ss))
 segment_on before ss i s l e =
     ap (λ x. before ++ segments_bytes (items_of x)) (fronted ss i s l e)
     ∙ sym (append_assoc before (segment_bytes s.items) (segments_bytes (items_of (drop (i + 1) ss))))

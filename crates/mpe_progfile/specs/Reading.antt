@@ -1,5 +1,5 @@
 -- A program file read from its front.
-use Rattle.std.specs.Prelude.{ℕ, zero, suc, ◌+◌, ◌-◌, ◌*◌, ◌==◌, ◌&&◌, not, Bool, true, false, nat_lt, nat_le, if◌then◌else◌, List, [], ◌∷◌, ◌++◌, length, slice_get, slice_index, Option, Some, None, Result, Ok, Err}
+use Rattle.std.specs.Prelude.{ℕ, zero, suc, ◌+◌, ◌-◌, ◌*◌, ◌==◌, ◌&&◌, Bool, true, false, nat_le, if◌then◌else◌, List, [], ◌∷◌, length, slice_get, slice_index, Option, Some, None, Result, Ok, Err}
 use Rattle.hp_program.specs.Valid.{entries_of, is_local_entry, bad_table}
 use Rattle.hp_program.specs.declared.program.Defect.{Defect}
 use Rattle.hp_program.specs.declared.program.Defect.TheVariants as defect
@@ -85,7 +85,7 @@ unfoldable pub body : ℕ → ℕ → ℕ → Cursor → Result (Parts × Cursor
 body count main entry c =
     with_read (head_word (is_between 0 32000) c) (λ count_of next.
     with_read (words count_of next) (λ globals next. with_read (segments count next) (λ ss last.
-      Ok (record { main = main; entry = entry; globals = globals; segments = ss }, last))))
+    Ok (record { main = main; entry = entry; globals = globals; segments = ss }, last))))
 
 -- all parts, from the magic on: version 1, 1 to 62 segments, of which one is the main one
 unfoldable pub parts : Cursor → Result (Parts × Cursor) FileFault

@@ -1,5 +1,5 @@
 -- What the reader's answers say of the definition.
-use Rattle.std.specs.Prelude.{map, ℕ, ◌≡◌, List, Result, Ok, Err, MatchResult}
+use Rattle.std.specs.Prelude.{map, ◌≡◌, Result, Ok, Err, MatchResult}
 use Rattle.mpe_progfile.specs.declared.faults.FileFault.{FileFault}
 use Rattle.mpe_progfile.specs.declared.faults.FileFault.TheVariants as fault
 use Rattle.mpe_progfile.specs.declared.reader.Reader.{Reader}

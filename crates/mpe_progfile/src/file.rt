@@ -1,9 +1,12 @@
 //! A program file: its parts, and the program that they make.
-ghost use Rattle.std.specs.Prelude.{◌≡◌, ◌≤◌, ◌+◌, ◌*◌, ◌-◌, ◌++◌, map, length, slice_index, IfOk, None, true};
+ghost use Rattle.std.specs.Prelude.{◌≡◌, ◌≤◌, ◌+◌, ◌*◌, ◌-◌, ◌++◌, map, length, slice_index, IfOk, IfErr, Err, None, true};
 ghost use Rattle.hp_program.specs.Valid.{is_head, bad_segment};
 ghost use Rattle.mpe_progfile.specs.Reading as format;
 ghost use Rattle.mpe_progfile.specs.Files.{file_of, IsFile};
-ghost use Rattle.mpe_progfile.specs.Views.{cursor_of, Gives, Answers, parts_of};
+ghost use Rattle.mpe_progfile.specs.Views.{cursor_of, Gives, Answers, Fails, parts_of, program_parts};
+ghost use Rattle.mpe_progfile.specs.Laws.{GivesParts, GivesFault};
+ghost use Rattle.mpe_progfile.specs.declared.faults.FileFault as faults;
+ghost use Rattle.hp_program.specs.declared.program.Program.{Program};
 
 use crate::faults::FileFault;
 use crate::reader::Reader;
@@ -86,7 +89,9 @@ fn labelled(alloc: Global, parts: Parts) -> Result<Program, FileFault>
     }
     match Program::new(segments, main as u8, entry as u8, globals) {
         Ok(program) => Ok(program),
-        Err(Defect::Label { seg, entry }) => Err(FileFault::BadLabel(label_byte(&counts, seg, entry))),
+        Err(Defect::Label { seg, entry }) => Err(FileFault::BadLabel(label_byte(
+            &counts, seg, entry,
+        ))),
         Err(_) => Err(FileFault::BadLabel(10)),
     }
 }
@@ -94,7 +99,8 @@ fn labelled(alloc: Global, parts: Parts) -> Result<Program, FileFault>
 /// What a file is read as.
 #[tactic(auto, using(crate::proofs::PartLemmas::parts_right), unfolding(crate::specs::Reading::read_file, crate::specs::Reading::all_labelled, crate::specs::Reading::ended, crate::specs::Reading::tested))]
 fn read_program(alloc: Global, bytes: &[u8]) -> Result<Program, FileFault>
-    ensures { Answers result (format.read_file bytes.now) }
+    ensures read { Answers result (format.read_file bytes.now) }
+    ensures file { IfOk result (λ p. IsFile p bytes.now) }
 {
     let mut reader = Reader { at: 0, left: bytes };
     let parts = read_parts(alloc, &mut reader)?;
@@ -102,4 +108,16 @@ fn read_program(alloc: Global, bytes: &[u8]) -> Result<Program, FileFault>
         return Err(FileFault::Trailing(reader.at));
     }
     labelled(alloc, parts)
+}
+
+/// The program whose file these bytes are; or the first fault of the file, at its byte. Only memory may be wanting besides.
+pub fn read(alloc: Global, bytes: &[u8]) -> Result<Program, FileFault>
+    ensures ok { IfOk result (λ p. IsFile p bytes.now) }
+    ensures fault { IfErr result (λ f. Fails f (format.read_file bytes.now)) }
+
+    // A file of a program is read as that program, and a file that has a fault has that answer.
+    ensures files { (p : Program) → IsFile p bytes.now → GivesParts result (program_parts p) }
+    ensures faults { (f : faults.FileFault) → format.read_file bytes.now ≡ Err f → GivesFault result f }
+{
+    read_program(alloc, bytes)
 }
