@@ -5,6 +5,8 @@ mod faults;
 mod file;
 mod laws;
 mod reader;
+#[cfg(test)]
+mod tests;
 mod writer;
 
 pub use faults::FileFault;
