@@ -1,0 +1,10 @@
+pub mod ReadLemmas
+pub mod SizeLemmas
+pub mod CountLemmas
+pub mod LabelLemmas
+pub mod PartLemmas
+pub mod WriteLemmas
+pub mod SpellLemmas
+pub mod AgainLemmas
+pub mod FileLaws
+pub mod AnswerLemmas
