@@ -8,6 +8,7 @@ use Rattle.spl_tree.specs.declared.symbols.Symbol.TheVariants as s
 use Rattle.spl_tree.specs.declared.tokens.Token.{Token}
 use Rattle.spl_tree.specs.Symbols.{Lexeme, lexeme_of, symbol_of, letters_of}
 use Rattle.spl_grammar.specs.Readers.{Got, Bad, by_symbol, pure, refuse, take, at_place, same_symbol}
+use Rattle.spl_grammar.specs.ReadDeclarations.{next_segment}
 use Rattle.spl_grammar.proofs.SameSymbol.{same_is}
 use Rattle.spl_tokens.specs.declared.faults.Fault.{Fault}
 use Rattle.spl_tokens.specs.Cursor.{first_symbol, symbol_in}
@@ -89,3 +90,14 @@ pub taken_symbol : (ts : List Lexeme) (wanted k : Symbol) (r : Result (Bor Token
     → IfOk r (λ t. peeked ts ≡ Got (lexeme t.now).symbol ts) → IfOk r (λ t. (lexeme t.now).symbol ≡ wanted)
 taken_symbol ts wanted k (Ok t) e same h = let s = same_is k wanted same in cc
 taken_symbol ts wanted k (Err e) p same h = h
+
+-- where no token is left there is no segment
+pub segment_none : (ts : List Token) → length ts ≡ 0 → next_segment (map lexeme_of ts) ≡ Bad (map lexeme_of ts)
+unfolding next_segment
+segment_none [] e = refl
+segment_none (t ∷ ts) e = absurd (omega arith)
+
+-- and else it is that of the next
+pub segment_some : (ts : List Token) (t : Token) (rest : List Token) → ts ≡ t ∷ rest → next_segment (map lexeme_of ts) ≡ Got t.segment (map lexeme_of ts)
+unfolding next_segment
+segment_some ts t rest e = rw e refl

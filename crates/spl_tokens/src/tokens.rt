@@ -3,6 +3,7 @@ ghost use Rattle.std.specs.Prelude.{◌≡◌, ◌<◌, ◌^◌, ℕ, length, ma
 ghost use Rattle.spl_tree.specs.Symbols.{lexeme_of};
 ghost use Rattle.spl_tokens.specs.Cursor as cursor;
 ghost use Rattle.spl_grammar.specs.Readers as r;
+ghost use Rattle.spl_grammar.specs.ReadDeclarations.{next_segment};
 ghost use Rattle.spl_tokens.specs.Reads.{Reads, lexeme, shown, lent, same_as, peeked, named};
 
 use crate::faults::Fault;
@@ -77,6 +78,16 @@ impl<'a> Tokens<'a> {
         match self.rest.split_first() {
             None => Err(Fault::Syntax),
             Some((token, _)) => Ok(token.at),
+        }
+    }
+
+    /// The number of the segment in force at the next token. Err: `Syntax`, where none is left.
+    pub fn segment(&self) -> Result<u16, Fault>
+        ensures { Reads same_as (next_segment self.now) result self.now }
+    {
+        match self.rest.split_first() {
+            None => Err(Fault::Syntax),
+            Some((token, _)) => Ok(token.segment),
         }
     }
 

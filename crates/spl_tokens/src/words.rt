@@ -54,3 +54,10 @@ pub fn text(alloc: Global, token: &Token) -> Result<Chars, AllocError>
         }),
     }
 }
+
+/// A name, again.
+pub fn copied(name: &Name) -> Name
+    ensures { view.letters result ≡ view.letters name.now }
+{
+    name_of(name.text.as_slice())
+}

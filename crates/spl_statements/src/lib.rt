@@ -1,0 +1,10 @@
+//! Statements, read from the tokens of a unit.
+#![tactic(auto)]
+
+mod assignments;
+mod effects;
+mod references;
+mod statements;
+mod trees;
+
+pub use statements::{statement, statement_list};
