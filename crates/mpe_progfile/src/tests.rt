@@ -30,7 +30,9 @@ fn the_small_file_is_read_and_written_again(rt: HostRuntime) -> Result<(), Fail>
             assert_eq!(rt; program.entry, 1);
             assert_eq!(rt; program.globals.len(), 0);
             assert_eq!(rt; program.segments.len(), 1);
-            assert!(rt; matches!(write(alloc, &program), Ok(file) if file.as_slice() == SMALL.as_slice()));
+            assert!(rt;
+                matches!(write(alloc, &program), Ok(file) if file.as_slice() == SMALL.as_slice())
+            );
         }
         Err(_) => assert!(rt; false),
     }
@@ -41,7 +43,9 @@ fn the_small_file_is_read_and_written_again(rt: HostRuntime) -> Result<(), Fail>
 fn a_file_that_is_cut_is_truncated_at_its_end(rt: HostRuntime) -> Result<(), Fail> {
     let alloc = rt.alloc();
     for k in 0..24usize {
-        assert!(rt; matches!(read(alloc, &SMALL[..k]), Err(FileFault::Truncated(n)) if n as usize == k));
+        assert!(rt;
+            matches!(read(alloc, &SMALL[..k]), Err(FileFault::Truncated(n)) if n as usize == k)
+        );
     }
     Ok(())
 }
