@@ -1,0 +1,11 @@
+use Rattle.std.proofs.Common.{◌≡◌, ◌-◌}
+use Rattle.spl_grammar.specs.Readers.{turns, repeat}
+use Rattle.spl_parser.specs.Lists as lists
+use Rattle.spl_grammar.specs.ReadDeclarations as r
+use Rattle.spl_grammar.specs.ReadExpressions.{constant}
+use Rattle.spl_parser.proofs.items.more_constants.Given as goal
+
+-- the turns that are left read the rest
+abbrev pub invariant-loop-turn : goal.invariant-loop-turn
+invariant-loop-turn l = turns (r.more_parts constant) (l._turn-end - l._turn) (lists.constants l.read) l.tokens
+    ≡ repeat (r.more_parts constant) (lists.constants l.initial.read) l.initial.tokens

@@ -1,0 +1,5 @@
+pub mod Lists
+pub mod Headings
+pub mod Nests
+pub mod UnitParts
+pub mod Answers

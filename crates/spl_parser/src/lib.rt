@@ -1,0 +1,15 @@
+//! Units, read from the tokens of a text.
+#![tactic(auto)]
+
+mod declarations;
+mod equals;
+mod headings;
+mod items;
+mod names;
+mod options;
+mod parser;
+mod trees;
+mod units;
+
+pub use parser::parse;
+pub use spl_tokens::ParseFault;
