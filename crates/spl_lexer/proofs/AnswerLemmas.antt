@@ -17,7 +17,8 @@ use Rattle.spl_lexer.specs.Whole.{IsWhole}
 use Rattle.spl_lexer.proofs.WholeLemmas.{cut_whole}
 
 -- a fault of another kind than memory is the one that is read
-fault_is : (answer : Result Listed (LexKind × At)) (kind : LexKind) (at : At) → Faults answer kind at → kind ≢ k.NoMemory → answer ≡ Err (kind, at)
+fault_is : (answer : Result Listed (LexKind × At)) (kind : LexKind) (at : At) → Faults answer kind at
+    → kind ≢ k.NoMemory → answer ≡ Err (kind, at)
 fault_is answer k.BadByte at e n = e
 fault_is answer k.BadCommand at e n = e
 fault_is answer k.OpenString at e n = e
@@ -40,11 +41,13 @@ no_fault x k.BadDefine at e = cc
 no_fault x k.TooManyTokens at e = cc
 no_fault x k.NoMemory at e = refl
 
-pub cut_is : (unit : ℕ) (text : List ℕ) (r : Result Lexed LexFault) → Answers (read_text unit 262144 text) r → IfOk r (λ x. CutsWithin unit 262144 text (listed_of x))
+pub cut_is : (unit : ℕ) (text : List ℕ) (r : Result Lexed LexFault) → Answers (read_text unit 262144 text) r
+    → IfOk r (λ x. CutsWithin unit 262144 text (listed_of x))
 cut_is unit text (Ok x) a = texts_cut unit 262144 text (listed_of x) a
 cut_is unit text (Err f) a = tt
 
-pub cut_ends : (unit : ℕ) (text : List ℕ) (r : Result Lexed LexFault) → Answers (read_text unit 262144 text) r → IfOk r (λ x. IsWhole unit 262144 (listed_of x))
+pub cut_ends : (unit : ℕ) (text : List ℕ) (r : Result Lexed LexFault) → Answers (read_text unit 262144 text) r
+    → IfOk r (λ x. IsWhole unit 262144 (listed_of x))
 cut_ends unit text (Ok x) a = cut_whole unit 262144 text (listed_of x) (texts_cut unit 262144 text (listed_of x) a)
 cut_ends unit text (Err f) a = tt
 

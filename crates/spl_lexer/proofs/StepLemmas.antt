@@ -51,7 +51,8 @@ facts f text _ (t.Turned.goes {item} n front rest is e long v a) =
 facts f text _ (t.Turned.finds n good more rest b is e v a na) = tt
 facts f text _ (t.Turned.fails front rest is v) = tt
 
-pub goes_of : (f : Bool) (text : List ℕ) (item : Item) (n : ℕ) → 0 < length text → turn f text ≡ go item n → Goes f text item n
+pub goes_of : (f : Bool) (text : List ℕ) (item : Item) (n : ℕ) → 0 < length text → turn f text ≡ go item n
+    → Goes f text item n
 goes_of f [] item n l e = absurd (omega (arith, l))
 goes_of f (b ∷ bs) item n l e = subst (Facts f (b ∷ bs)) e (facts f (b ∷ bs) (turn f (b ∷ bs)) (turn_told f b bs))
 
@@ -86,12 +87,14 @@ adds_of h s s1 (token x) e = c.Adds.sign x s1 (takes_of s s1 (here h x) (fed s (
 past_bound : (at : At) (b : ℕ) → ((past at b).line ≤ at.line + 1) × ((past at b).column ≤ at.column + 1)
 past_bound at b = by (b == 10)
   where
-    by : (x : Bool) → ((if x then record at { line = at.line + 1; column = 1 } else record at { column = at.column + 1 }).line ≤ at.line + 1)
+    by : (x : Bool)
+        → ((if x then record at { line = at.line + 1; column = 1 } else record at { column = at.column + 1 }).line ≤ at.line + 1)
         × ((if x then record at { line = at.line + 1; column = 1 } else record at { column = at.column + 1 }).column ≤ at.column + 1)
     by true = (omega arith, omega arith)
     by false = (omega arith, omega arith)
 
-pub past_bounds : (at : At) (bs : List ℕ) → ((past_all at bs).line ≤ at.line + length bs) × ((past_all at bs).column ≤ at.column + length bs)
+pub past_bounds : (at : At) (bs : List ℕ)
+    → ((past_all at bs).line ≤ at.line + length bs) × ((past_all at bs).column ≤ at.column + length bs)
 past_bounds at [] = (omega arith, omega arith)
 past_bounds at (b ∷ bs) =
     let p = past_bound at b in
@@ -103,7 +106,8 @@ after_place h front nothing = refl
 after_place h front (token x) = refl
 after_place h front (settings os) = refl
 
-pub left_behind : (h : Here) (s s1 : State) (item : Item) (n : ℕ) (text blanks : List ℕ) → IsLeft h s text blanks → 0 < length text
+pub left_behind : (h : Here) (s s1 : State) (item : Item) (n : ℕ) (text blanks : List ℕ) → IsLeft h s text blanks
+    → 0 < length text
     → turn (begins_line h) text ≡ go item n → added 262144 h s item ≡ Ok s1 → IsKept s1
     → IsLeft (after h (take n text) item) s1 (drop n text) (drop n blanks)
 left_behind h s s1 item n text blanks v l e a kept =
@@ -128,16 +132,19 @@ left_behind h s s1 item n text blanks v l e a kept =
 
 -- ---- how it is read
 
-pub reads_on : (h : Here) (s s1 : State) (item : Item) (n : ℕ) (text : List ℕ) → 0 < n → 0 < length text → turn (begins_line h) text ≡ go item n
+pub reads_on : (h : Here) (s s1 : State) (item : Item) (n : ℕ) (text : List ℕ) → 0 < n → 0 < length text
+    → turn (begins_line h) text ≡ go item n
     → added 262144 h s item ≡ Ok s1 → reading (after h (take n text) item) s1 (drop n text) ≡ reading h s text
 reads_on h s s1 item n text m l e a = sym (read_goes 262144 n h s s1 item text (drop n text) m l e a refl)
 
 -- a fault in the piece
-failed : (h : Here) (s : State) (text : List ℕ) (kind : LexKind) (n : ℕ) (at : At) → 0 < length text → turn (begins_line h) text ≡ fault kind n
+failed : (h : Here) (s : State) (text : List ℕ) (kind : LexKind) (n : ℕ) (at : At) → 0 < length text
+    → turn (begins_line h) text ≡ fault kind n
     → at ≡ past_all h.at (take n text) → reading h s text ≡ Err (kind, at)
 failed h s text kind n at l e p = read_fails 262144 n h s kind text l e ∙ ap (λ (a : At). Err (kind, a)) (sym p)
 
-pub turn_fails : (h : Here) (s : State) (text : List ℕ) (kind : LexKind) (n : ℕ) (at : At) → 0 < length text → FailsAt (turn (begins_line h) text) kind n
+pub turn_fails : (h : Here) (s : State) (text : List ℕ) (kind : LexKind) (n : ℕ) (at : At) → 0 < length text
+    → FailsAt (turn (begins_line h) text) kind n
     → at ≡ past_all h.at (take n text) → Faults (reading h s text) kind at
 turn_fails h s text k.BadByte n at l e p = failed h s text k.BadByte n at l e p
 turn_fails h s text k.BadCommand n at l e p = failed h s text k.BadCommand n at l e p
@@ -150,7 +157,8 @@ turn_fails h s text k.TooManyTokens n at l e p = failed h s text k.TooManyTokens
 turn_fails h s text k.NoMemory n at l e p = tt
 
 -- a fault in what it gives
-pub add_fails : (h : Here) (s : State) (item : Item) (n : ℕ) (text : List ℕ) (kind : LexKind) → 0 < length text → turn (begins_line h) text ≡ go item n
+pub add_fails : (h : Here) (s : State) (item : Item) (n : ℕ) (text : List ℕ) (kind : LexKind) → 0 < length text
+    → turn (begins_line h) text ≡ go item n
     → FailsBy (added 262144 h s item) kind → Faults (reading h s text) kind h.at
 add_fails h s item n text k.BadByte l e a = read_stops 262144 n h s item k.BadByte text l e a
 add_fails h s item n text k.BadCommand l e a = read_stops 262144 n h s item k.BadCommand text l e a
@@ -164,7 +172,8 @@ add_fails h s item n text k.NoMemory l e a = tt
 
 -- ---- the same by other names
 
-pub left_same : {h there : Here} {s : State} {text rest blanks left : List ℕ} → there ≡ h → rest ≡ text → left ≡ blanks → IsLeft h s text blanks
+pub left_same : {h there : Here} {s : State} {text rest blanks left : List ℕ} → there ≡ h → rest ≡ text
+    → left ≡ blanks → IsLeft h s text blanks
     → IsLeft there s rest left
 left_same {h = h} {there = there} {s = s} {text = text} {rest = rest} {blanks = blanks} {left = left} e f g v =
     subst (λ (x : Here). IsLeft x s rest left) (sym e)
@@ -172,7 +181,8 @@ left_same {h = h} {there = there} {s = s} {text = text} {rest = rest} {blanks = 
 
 -- ---- the beginning and the end of a text
 
-pub left_first : (unit : ℕ) (text blanks : List ℕ) → blanks ≡ map blanked text → length text ≤ 1048576 → IsLeft (c.start unit) c.fresh text blanks
+pub left_first : (unit : ℕ) (text blanks : List ℕ) → blanks ≡ map blanked text → length text ≤ 1048576
+    → IsLeft (c.start unit) c.fresh text blanks
 left_first unit text blanks e l = record {
   blanked = e;
   kept = record { few = omega arith; new = tt };
@@ -182,7 +192,8 @@ left_first unit text blanks e l = record {
 }
 
 -- the beginning, by other names
-pub begins : (unit : ℕ) (h : Here) (s : State) (text blanks : List ℕ) → h ≡ c.start unit → s ≡ c.fresh → blanks ≡ map blanked text → length text ≤ 1048576
+pub begins : (unit : ℕ) (h : Here) (s : State) (text blanks : List ℕ) → h ≡ c.start unit → s ≡ c.fresh
+    → blanks ≡ map blanked text → length text ≤ 1048576
     → IsLeft h s text blanks × (reading h s text ≡ read_text unit 262144 text)
 unfolding read_text
 begins unit h s text blanks e f g l = (

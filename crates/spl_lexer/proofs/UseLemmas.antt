@@ -21,5 +21,7 @@ use_more t fs ws i w l =
     (sym (ap (at_use t) (map_more sign_of ws i w l) ∙ at_use-append t (map sign_of (take i ws)) (sign_of (get_or ws i w) ∷ [])))
 
 -- a token of a segment adds no other segment
-pub no_more_names : (fs : List Found) (f : Found) → with_name (with_names [] (fs ++ f ∷ [])) f.segment ≡ with_name (with_names [] fs) f.segment
-no_more_names fs f = ap (λ (ms : List (List ℕ)). with_name ms f.segment) (with_behind [] fs (f ∷ [])) ∙ with_again (with_names [] fs) f.segment
+pub no_more_names : (fs : List Found) (f : Found)
+    → with_name (with_names [] (fs ++ f ∷ [])) f.segment ≡ with_name (with_names [] fs) f.segment
+no_more_names fs f = ap (λ (ms : List (List ℕ)). with_name ms f.segment) (with_behind [] fs (f ∷ []))
+    ∙ with_again (with_names [] fs) f.segment

@@ -71,7 +71,8 @@ defined_plain : (n : List ℕ) (ds : List Define) (xs : List Sign) → NoEnds ds
 defined_plain n [] xs a e = cc
 defined_plain n (y ∷ ds) xs a e = by (pointwise nat_eq n y.name) e (defined_plain n ds xs a.1)
   where
-    by : (b : Bool) → (if b then Some y.signs else defined n ds) ≡ Some xs → (defined n ds ≡ Some xs → NoEnd xs) → NoEnd xs
+    by : (b : Bool) → (if b then Some y.signs else defined n ds) ≡ Some xs → (defined n ds ≡ Some xs → NoEnd xs)
+        → NoEnd xs
     by true e k = subst NoEnd (some_is e) a.0
     by false e k = k e
 
@@ -83,7 +84,8 @@ use_plain ds (chars cs) xs a e = cc
 use_plain ds (mark m) xs a e = cc
 use_plain ds stop xs a e = cc
 
-takes_plain : (u : ℕ) {s s1 : State} {t : Found} → Takes s t s1 → is_end t.what ≡ false → t.at.unit ≡ u → Keeps u s → Keeps u s1
+takes_plain : (u : ℕ) {s s1 : State} {t : Found} → Takes s t s1 → is_end t.what ≡ false → t.at.unit ≡ u → Keeps u s
+    → Keeps u s1
 takes_plain u {s = s} {t = t} (d.Takes.listed p a o) e f k =
     let l = k.few in
     let m = length-append s.found (t ∷ []) in
@@ -130,7 +132,8 @@ stands_plain (g.Stands.mark_two b a m rest h) = refl
 past_unit : (at : At) (b : ℕ) → (past at b).unit ≡ at.unit
 past_unit at b = by (b == 10)
   where
-    by : (x : Bool) → (if x then record at { line = at.line + 1; column = 1 } else record at { column = at.column + 1 }).unit ≡ at.unit
+    by : (x : Bool)
+        → (if x then record at { line = at.line + 1; column = 1 } else record at { column = at.column + 1 }).unit ≡ at.unit
     by true = refl
     by false = refl
 
@@ -143,13 +146,15 @@ after_unit h front nothing = past_all_unit h.at front
 after_unit h front (token x) = past_all_unit h.at front
 after_unit h front (settings os) = past_all_unit h.at front
 
-adds_plain : (u : ℕ) {h : Here} {s s1 : State} {item : Item} {front rest : List ℕ} → Stands (c.begins_line h) front item rest → Adds h s item s1 → h.at.unit ≡ u
+adds_plain : (u : ℕ) {h : Here} {s s1 : State} {item : Item} {front rest : List ℕ}
+    → Stands (c.begins_line h) front item rest → Adds h s item s1 → h.at.unit ≡ u
     → Keeps u s → Keeps u s1
 adds_plain u v c.Adds.none f k = k
 adds_plain u v c.Adds.command f k = k
 adds_plain u v (c.Adds.sign x s1 a) f k = takes_plain u a (stands_plain v) f k
 
-cut_plain : (u : ℕ) {h there : Here} {s s2 : State} {text left : List ℕ} → Cut h s text there s2 left → h.at.unit ≡ u → Keeps u s → Keeps u s2 × (there.at.unit ≡ u)
+cut_plain : (u : ℕ) {h there : Here} {s s2 : State} {text left : List ℕ} → Cut h s text there s2 left → h.at.unit ≡ u
+    → Keeps u s → Keeps u s2 × (there.at.unit ≡ u)
 cut_plain u c.Cut.done f k = (k, f)
 cut_plain u {h = h} (c.Cut.piece front rest left item v a b more) f k = cut_plain u more (after_unit h front item ∙ f) (adds_plain u v b f k)
 
@@ -159,7 +164,8 @@ has_append : (ms : List (List ℕ)) (m n : List ℕ) → has_name ms n ≡ true 
 has_append [] m n h = cc
 has_append (x ∷ ms) m n h = by (pointwise nat_eq n x) h (has_append ms m n)
   where
-    by : (b : Bool) → (b || has_name ms n) ≡ true → (has_name ms n ≡ true → has_name (ms ++ m ∷ []) n ≡ true) → (b || has_name (ms ++ m ∷ []) n) ≡ true
+    by : (b : Bool) → (b || has_name ms n) ≡ true → (has_name ms n ≡ true → has_name (ms ++ m ∷ []) n ≡ true)
+        → (b || has_name (ms ++ m ∷ []) n) ≡ true
     by true h k = refl
     by false h k = k h
 
@@ -170,7 +176,8 @@ has_stays ms m n h = by (has_name ms m)
     by true = h
     by false = has_append ms m n h
 
-has_grows : (fs : List Found) (ms : List (List ℕ)) (n : List ℕ) → has_name ms n ≡ true → has_name (with_names ms fs) n ≡ true
+has_grows : (fs : List Found) (ms : List (List ℕ)) (n : List ℕ) → has_name ms n ≡ true
+    → has_name (with_names ms fs) n ≡ true
 has_grows [] ms n h = h
 has_grows (f ∷ fs) ms n h = has_grows fs (with_name ms f.segment) n (has_stays ms f.segment n h)
 
@@ -186,12 +193,14 @@ all_named ms (f ∷ fs) =
 
 -- ---- the list
 
-ends_of : (u : ℕ) (ms : List (List ℕ)) (fs : List Found) (e : Found) → Plain u fs → e.what ≡ stop → e.at.unit ≡ u → Named ms (fs ++ e ∷ [])
+ends_of : (u : ℕ) (ms : List (List ℕ)) (fs : List Found) (e : Found) → Plain u fs → e.what ≡ stop → e.at.unit ≡ u
+    → Named ms (fs ++ e ∷ [])
     → Ends u (length ms) (map (placed ms) (fs ++ e ∷ []))
 ends_of u ms [] e p s f n = w.Ends.last s (record { unit = f; segment = n.0 })
 ends_of u ms (x ∷ fs) e p s f n = w.Ends.before p.0 (record { unit = p.1; segment = n.0 }) (ends_of u ms fs e p.2 s f n.1)
 
-whole_of : (u limit : ℕ) (there : Here) (s : State) → Keeps u s → there.at.unit ≡ u → s.count ≤ limit → IsWhole u limit (c.listed there s)
+whole_of : (u limit : ℕ) (there : Here) (s : State) → Keeps u s → there.at.unit ≡ u → s.count ≤ limit
+    → IsWhole u limit (c.listed there s)
 whole_of u limit there s k f l =
     let all = s.found ++ here there stop ∷ [] in
     let names = with_names [] all in
