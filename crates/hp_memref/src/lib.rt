@@ -9,3 +9,6 @@ mod wide;
 mod words;
 
 pub use instructions::memory_op;
+
+#[cfg(test)]
+mod tests;
