@@ -8,6 +8,8 @@ mod items;
 mod names;
 mod options;
 mod parser;
+#[cfg(test)]
+mod tests;
 mod trees;
 mod units;
 
