@@ -6,7 +6,7 @@ use Rattle.spl_tree.specs.declared.symbols.Symbol.TheVariants as s
 use Rattle.spl_tree.specs.Symbols.{Lexeme}
 use Rattle.spl_tree.specs.DeclarationTrees as decl
 use Rattle.spl_grammar.specs.ReadDeclarations as r
-use Rattle.spl_parser.specs.Lists.{untyped_spec}
+use Rattle.spl_items.specs.Lists.{untyped_spec}
 
 pub untyped : (ss : List decl.Spec) (k : Symbol) (ts : List Lexeme) → ((c : Kind) → k ≡ s.Type c → ⊥) → r.spec_by ss k ts ≡ untyped_spec ss ts
 unfolding r.spec_by

@@ -1,4 +1,3 @@
-pub mod Lists
 pub mod Headings
 pub mod Nests
 pub mod UnitParts

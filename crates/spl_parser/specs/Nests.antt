@@ -19,7 +19,7 @@ use Rattle.spl_grammar.specs.ReadDeclarations as r
 use Rattle.spl_grammar.specs.UnitLaws.{bodies}
 use Rattle.spl_tokens.specs.declared.faults.Fault.{Fault}
 use Rattle.spl_tokens.specs.Reads.{Reads}
-use Rattle.spl_parser.specs.Lists as lists
+use Rattle.spl_items.specs.Lists as lists
 
 pub record ReadsBodies (room : ℕ) (unit : Bool) (pre : Global → MutBor (List Lexeme) → ℕ → ℕ → Type 0)
     (post : Global → MutBor (List Lexeme) → ℕ → ℕ → Result (Vec Decl Global × Vec Stmt Global) Fault → MutBor (List Lexeme) → Type 0) : Type 0 where

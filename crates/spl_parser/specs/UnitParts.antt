@@ -9,7 +9,7 @@ use Rattle.spl_grammar.specs.ReadStatements as st
 use Rattle.spl_grammar.specs.ReadDeclarations as r
 use Rattle.spl_grammar.specs.UnitLaws.{bodies}
 use Rattle.spl_parser.specs.declared.units.UnitParts.{UnitParts}
-use Rattle.spl_parser.specs.Lists as lists
+use Rattle.spl_items.specs.Lists as lists
 
 abbrev pub parts : UnitParts → decl.UnitTree
 parts u = record { items = lists.declarations u.items; statements = lists.statements u.statements; segment = u.segment; at = u.at }

@@ -5,19 +5,17 @@ ghost use Rattle.spl_tree.specs.Spells as spells;
 ghost use Rattle.spl_grammar.specs.Readers as readers;
 ghost use Rattle.spl_grammar.specs.ReadDeclarations as spec;
 ghost use Rattle.spl_tokens.specs.Reads.{Reads, lexeme, paired};
-ghost use Rattle.spl_parser.specs.Lists as lists;
+ghost use Rattle.spl_items.specs.Lists as lists;
 ghost use Rattle.spl_parser.specs.Headings as headings;
 ghost use Rattle.spl_parser.specs.Nests.{ReadsBodies};
 ghost use Rattle.spl_parser.specs.Nests as nests;
 
-use crate::equals::equals;
 use crate::headings::{heading, with_split};
-use crate::items::{arrays, items, pointers};
-use crate::names::names;
 use crate::options::{Options, option_list};
 use crate::trees::{
     data, equate, external, forward, intrinsic, is_subroutine, label, procedure, subroutine,
 };
+use spl_items::{arrays, equals, items, names, pointers};
 use spl_statements::statement;
 use spl_tokens::{Fault, Tokens, same};
 use spl_tree::{Decl, Heading, Kind, Reserved, Stmt, Symbol};

@@ -6,10 +6,10 @@ ghost use Rattle.spl_tree.specs.Spells as spells;
 ghost use Rattle.spl_grammar.specs.Readers as readers;
 ghost use Rattle.spl_grammar.specs.ReadDeclarations as spec;
 ghost use Rattle.spl_tokens.specs.Reads.{Reads, lexeme, paired};
-ghost use Rattle.spl_parser.specs.Lists as lists;
+ghost use Rattle.spl_items.specs.Lists as lists;
 ghost use Rattle.spl_parser.specs.Headings as headings;
 
-use crate::names::{names, parameters};
+use spl_items::{names, parameters};
 use spl_tokens::{Fault, Tokens, name, same};
 use spl_tree::{At, Heading, Kind, Name, Reserved, Spec, Symbol, Token};
 use std::alloc::Global;

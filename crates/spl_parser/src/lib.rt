@@ -2,10 +2,7 @@
 #![tactic(auto)]
 
 mod declarations;
-mod equals;
 mod headings;
-mod items;
-mod names;
 mod options;
 mod parser;
 #[cfg(test)]

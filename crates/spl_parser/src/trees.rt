@@ -5,7 +5,7 @@ ghost use Rattle.spl_tree.specs.Declarations as dl;
 ghost use Rattle.spl_tree.specs.Views as view;
 ghost use Rattle.spl_tree.specs.Spells as spells;
 ghost use Rattle.spl_grammar.specs.ReadDeclarations as spec;
-ghost use Rattle.spl_parser.specs.Lists as lists;
+ghost use Rattle.spl_items.specs.Lists as lists;
 
 use spl_tree::{At, Body, Const, Decl, Heading, Item, Kind, Name, Stmt};
 use std::alloc::{AllocError, Global};

@@ -6,7 +6,7 @@ ghost use Rattle.spl_grammar.specs.Readers as readers;
 ghost use Rattle.spl_grammar.specs.ReadDeclarations as spec;
 ghost use Rattle.spl_grammar.specs.UnitLaws.{bodies};
 ghost use Rattle.spl_tokens.specs.Reads.{Reads};
-ghost use Rattle.spl_parser.specs.Lists as lists;
+ghost use Rattle.spl_items.specs.Lists as lists;
 ghost use Rattle.spl_parser.specs.UnitParts as parts;
 
 use crate::declarations::Declarations;

@@ -1,6 +1,6 @@
 use Rattle.spl_grammar.specs.ReadDeclarations.{more_specs}
 use Rattle.spl_tokens.proofs.Steps.{by_peek}
-use Rattle.spl_parser.specs.Lists as lists
+use Rattle.spl_items.specs.Lists as lists
 use Rattle.spl_parser.proofs.SpecLemmas.{untyped}
 use Rattle.spl_parser.proofs.headings.further_spec.Goals as goal
 

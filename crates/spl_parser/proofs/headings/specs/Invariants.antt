@@ -1,6 +1,6 @@
 use Rattle.std.proofs.Common.{◌≡◌, ◌-◌}
 use Rattle.spl_grammar.specs.Readers.{turns, repeat}
-use Rattle.spl_parser.specs.Lists as lists
+use Rattle.spl_items.specs.Lists as lists
 use Rattle.spl_grammar.specs.ReadDeclarations as r
 use Rattle.spl_parser.proofs.headings.specs.Given as goal
 

@@ -1,7 +1,7 @@
 use Rattle.std.proofs.Common.{◌≡◌, map}
 use Rattle.spl_tree.specs.Spells.{declaration}
 use Rattle.spl_grammar.specs.ReadDeclarations.{of_segment}
-use Rattle.spl_parser.specs.Lists as lists
+use Rattle.spl_items.specs.Lists as lists
 use Rattle.spl_parser.proofs.trees.all_in_segment.Given as goal
 
 -- the declarations so far, in the segment

@@ -1,6 +1,6 @@
 use Rattle.std.proofs.Common.{◌≡◌, ◌-◌}
 use Rattle.spl_grammar.specs.Readers.{turns, repeat}
-use Rattle.spl_parser.specs.Lists as lists
+use Rattle.spl_items.specs.Lists as lists
 use Rattle.spl_parser.specs.Nests as nests
 use Rattle.spl_parser.proofs.declarations.Declarations.list.Given as goal
 

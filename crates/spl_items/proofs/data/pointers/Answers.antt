@@ -1,8 +1,8 @@
 use Rattle.std.proofs.Common.{ap, map}
 use Rattle.spl_tree.specs.Spells.{placed, item_tree}
 use Rattle.spl_tokens.proofs.Steps.{pushed}
-use Rattle.spl_parser.proofs.TreeLemmas.{one_pointer}
-use Rattle.spl_parser.proofs.items.pointers.Goals as goal
+use Rattle.spl_items.proofs.ItemLemmas.{one_pointer}
+use Rattle.spl_items.proofs.data.pointers.Goals as goal
 
 -- one more name is one more pointer
 pub loop-name-preserved : goal.loop-name-preserved

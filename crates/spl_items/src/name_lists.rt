@@ -4,7 +4,7 @@ ghost use Rattle.spl_tree.specs.Spells as spells;
 ghost use Rattle.spl_grammar.specs.Readers as readers;
 ghost use Rattle.spl_grammar.specs.ReadDeclarations as spec;
 ghost use Rattle.spl_tokens.specs.Reads.{Reads, paired};
-ghost use Rattle.spl_parser.specs.Lists as lists;
+ghost use Rattle.spl_items.specs.Lists as lists;
 
 use spl_tokens::{Fault, Tokens, name, same};
 use spl_tree::{At, Name, Symbol};

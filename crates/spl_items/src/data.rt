@@ -9,7 +9,7 @@ ghost use Rattle.spl_grammar.specs.Readers as readers;
 ghost use Rattle.spl_grammar.specs.ReadExpressions as expressions;
 ghost use Rattle.spl_grammar.specs.ReadDeclarations as spec;
 ghost use Rattle.spl_tokens.specs.Reads.{Reads, lexeme, paired};
-ghost use Rattle.spl_parser.specs.Lists as lists;
+ghost use Rattle.spl_items.specs.Lists as lists;
 
 use spl_tokens::{Fault, Tokens, constant, name, operator_of, same};
 use spl_tree::{At, Const, Item, Name, Shape, Symbol, Token, binary};
@@ -266,7 +266,7 @@ fn pointer(alloc: Global, name: Name, at: At) -> Item
     }
 }
 
-#[tactic(auto, using(crate::proofs::TreeLemmas::one_pointer))]
+#[tactic(auto, using(crate::proofs::ItemLemmas::one_pointer))]
 /// Pointers with these names.
 pub fn pointers(alloc: Global, names: Vec<(Name, At)>) -> Result<Vec<Item>, AllocError>
     ensures { IfOk result (λ items. lists.items items ≡ decls.pointers (lists.names names)) }
