@@ -5,8 +5,6 @@ mod declarations;
 mod headings;
 mod options;
 mod parser;
-#[cfg(test)]
-mod tests;
 mod trees;
 mod units;
 
