@@ -1,2 +1,3 @@
 pub mod NestLemmas
 pub mod ViewLemmas
+pub mod TestLemmas

@@ -141,7 +141,7 @@ fn is_relation(op: u8) -> bool
 }
 
 /// What an IF tests: the condition code, where a relation stands alone.
-#[tactic(auto, /* [] */ using(spl_tokens::proofs::Steps::steps), unfolding(spl_grammar::specs::Readers::pure, spl_grammar::specs::Readers::refuse, spl_grammar::specs::Readers::followed, spl_grammar::specs::Readers::and_then, spl_grammar::specs::ReadStatements::test))]
+#[tactic(auto, using(spl_tokens::proofs::Steps::steps, crate::proofs::TestLemmas::tested), unfolding(spl_grammar::specs::Readers::pure, spl_grammar::specs::Readers::refuse, spl_grammar::specs::Readers::followed, spl_grammar::specs::Readers::and_then))]
 pub fn test(alloc: Global, tokens: &mut Tokens<'_>, room: u8) -> Result<Test, Fault>
     ensures { Reads view.test_tree (spec.test room tokens.old) result tokens.new }
 {
