@@ -1,4 +1,0 @@
-pub mod OptionLemmas
-pub mod ParseLemmas
-pub mod TreeLemmas
-pub mod SpecLemmas

@@ -1,3 +1,0 @@
-pub mod NestLemmas
-pub mod ViewLemmas
-pub mod TestLemmas
