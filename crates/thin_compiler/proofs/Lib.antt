@@ -3,3 +3,4 @@ pub mod CallLemmas
 pub mod NodeLemmas
 pub mod ProgramLemmas
 pub mod ProgramValid
+pub mod ShapeLemmas

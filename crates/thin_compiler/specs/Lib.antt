@@ -2,3 +2,4 @@ pub mod ThinCode
 pub mod OperandViews
 pub mod StepViews
 pub mod ProgramViews
+pub mod ThinLists

@@ -4,5 +4,7 @@
 mod program;
 mod statements;
 mod sums;
+mod thin;
 
 pub use program::make;
+pub use thin::is_thin;

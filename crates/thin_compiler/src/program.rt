@@ -1,7 +1,8 @@
 //! The program that is made of a thin unit.
-ghost use Rattle.std.specs.Prelude.{◌≡◌, ◌+◌, ◌≤◌, ◌++◌, nat_le, length, map, OnOk, IfOk, IfSome, option_map, option_and_then, slice_get};
+ghost use Rattle.std.specs.Prelude.{◌≡◌, ◌+◌, ◌≤◌, ◌++◌, nat_le, length, map, OnOk, IfOk, IfSome};
 ghost use Rattle.thin_compiler.specs.ThinCode.{spent, sum_nodes, statement_nodes, nodes, table, entries_of, segment_words};
-ghost use Rattle.thin_jobs.specs.ThinTrees.{names_of, sum_of, statement_of, statements_of, variables_of, thin_of};
+ghost use Rattle.thin_jobs.specs.ThinTrees.{names_of, sum_of, statement_of, statements_of};
+ghost use Rattle.thin_jobs.specs.ThinShapes.{thin_of};
 ghost use Rattle.thin_compiler.specs.StepViews.{entries_view};
 ghost use Rattle.thin_compiler.specs.ProgramViews.{IsMadeOf, Makes};
 
@@ -9,8 +10,9 @@ use crate::statements::{
     CALL, First, Step, all, depth, quits_anywhere, quits_at_first, step_of, terminate_entry,
 };
 use crate::sums::{Last, last_of};
+use crate::thin::declared_lists;
 use hp_program::Program;
-use spl_tree::{Decl, Expr, Item, Kind, SplUnit, Stmt};
+use spl_tree::{Expr, Item, SplUnit, Stmt};
 use std::alloc::{AllocError, Global};
 use thin_jobs::Unread;
 
@@ -125,33 +127,12 @@ fn program_of(alloc: Global, items: &[Item], statements: &[Stmt]) -> Result<Prog
     Ok(Program::new(segments, 0, 1, globals).unwrap())
 }
 
-/// The variables of a declaration of integers.
-fn variables(declaration: &Decl) -> Option<&[Item]>
-    ensures { option_map (λ items. names_of items.now) result ≡ variables_of declaration.entry.now }
-{
-    match declaration {
-        Decl::Data {
-            own: false,
-            kind: Kind::Integer,
-            items,
-        } => Some(items.as_slice()),
-        _ => None,
-    }
-}
-
-/// The variables of the first declaration, if it is one of integers.
-fn first_variables(declarations: &[Decl]) -> Option<&[Item]>
-    ensures { option_map (λ items. names_of items.now) result ≡ option_and_then variables_of (slice_get declarations.entry.now 0) }
-{
-    variables(declarations.first()?)
-}
-
 /// The program that is made of a thin unit, or `Later` where no segment can be made of it.
 pub fn make(alloc: Global, unit: &SplUnit) -> Result<Program, Unread>
     ensures { IfSome (thin_of unit.now) (λ u. Makes result u.names u.statements) }
 {
-    match first_variables(unit.items.as_slice()) {
+    match declared_lists(unit.items.as_slice()) {
         None => Err(Unread::Later),
-        Some(items) => program_of(alloc, items, unit.statements.as_slice()),
+        Some(lists) => program_of(alloc, lists.items, unit.statements.as_slice()),
     }
 }

@@ -59,8 +59,20 @@ fn call_of<'a>(name: &'a Name, args: &'a [Expr]) -> Step<'a>
     ensures { step_view result ≡ call name.entry.now.text.items args.entry.now }
 {
     match args {
-        [] if is_word(name, b"TERMINATE") => Step::Terminate,
-        [number] if is_word(name, b"QUIT") => Step::Quit(number),
+        [] => {
+            if is_word(name, b"TERMINATE") {
+                Step::Terminate
+            } else {
+                Step::Other
+            }
+        }
+        [number] => {
+            if is_word(name, b"QUIT") {
+                Step::Quit(number)
+            } else {
+                Step::Other
+            }
+        }
         _ => Step::Other,
     }
 }

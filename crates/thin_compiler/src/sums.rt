@@ -49,7 +49,7 @@ pub enum Operand<'a> {
 }
 
 /// The operand that an expression is.
-fn operand_of(expr: &Expr) -> Operand<'_>
+pub fn operand_of(expr: &Expr) -> Operand<'_>
     ensures { operand_view result ≡ atom_of expr.now }
 {
     match expr {

@@ -1,6 +1,5 @@
 pub mod NameLemmas
 pub mod TreeLemmas
-pub mod TextLemmas
 pub mod GivesLemmas
 pub mod JobLemmas
 pub mod LineLemmas

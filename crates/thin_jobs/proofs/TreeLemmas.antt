@@ -1,40 +1,36 @@
 -- The parts of a tree that are lists.
 use Rattle.std.proofs.lemmas.Bool.Decides.{nat_tests}
-use Rattle.std.proofs.Common.{◌≡◌, ℕ, List, [], ◌∷◌, refl, sym, ap, subst, arith, length, ◌<◌, ◌∙◌, Vec, Global}
+use Rattle.std.proofs.Common.{◌≡◌, ℕ, List, [], ◌∷◌, refl, sym, ap, subst, arith, length, ◌<◌, ◌∙◌, map, Vec, Global}
 use Rattle.std.specs.Prelude.{◌==◌, Bool, true, false}
-use mathlib.Core.Former.{Count}
 use Rattle.spl_tree.specs.declared.expressions.Expr as e
+use Rattle.spl_tree.specs.declared.expressions.Expr.{Expr}
+use Rattle.spl_tree.specs.declared.expressions.Expr.TheVariants.{rolls-Named}
+use Rattle.spl_tree.specs.declared.expressions.Expr.TheFolds.{fold-roll-Expr}
+use Rattle.spl_tree.specs.Trees as tree
+use Rattle.spl_tree.specs.Trees.{Tree, trees}
+use Rattle.spl_tree.specs.Views.{letters, expression, expression_step, reference_step}
 use Rattle.spl_tree.specs.declared.names_and_places.Name.{Name}
 use Rattle.spl_tree.specs.declared.names_and_places.At.{At}
 use Rattle.thin_jobs.specs.ThinUnits as u
-use Rattle.thin_jobs.specs.ThinTrees.{plain_variable, atom_of, sum_of}
+use Rattle.thin_jobs.specs.ThinTrees.{tree_atom, atom_of}
 
-abbrev row_of : e.Expr → (n : Count) × e.Row_of-Expr n
-row_of (e.Named' name shape row at) = (_, row)
-row_of _ = (_, e.end_of-Expr)
+-- a name with arguments, as the grammar sees it
+named_tree : (name : Name) (args : Vec Expr Global) (at : At)
+    → expression (e.Named name args at) ≡ tree.Tree.named (letters name) (trees (map expression args.items)) at
+named_tree name args at = ap expression (sym (rolls-Named name args at)) ∙ fold-roll-Expr Tree Tree expression_step reference_step _
 
 -- a name with no arguments is a variable
-empty_row : (name : Name) (n : Count) (row : e.Row_of-Expr n) → e.items-the_row-Expr n row ≡ [] → plain_variable name row ≡ u.variable name.text.items
-empty_row name n e.end_of-Expr h = refl
-empty_row name n (e.more_of-Expr x row) h = cc
-
-pub named_atom : (name : Name) (args : Vec e.Expr Global) (at : At) → args.items ≡ [] → atom_of (e.Named name args at) ≡ u.variable name.text.items
+pub named_atom : (name : Name) (args : Vec Expr Global) (at : At) → args.items ≡ [] → atom_of (e.Named name args at) ≡ u.variable name.text.items
 named_atom name args at h =
-    let row = row_of (e.Named name args at) in
-    empty_row name row.0 row.1 (e.items_hidden-the_row-Expr-0 args ∙ h)
+    ap tree_atom (named_tree name args at) ∙ ap (λ xs. tree_atom (tree.Tree.named (letters name) (trees (map expression xs)) at)) h
 
 -- one with arguments is none
-full_row : (name : Name) (n : Count) (row : e.Row_of-Expr n) → 0 < length (e.items-the_row-Expr n row) → plain_variable name row ≡ u.no_atom
-full_row name n e.end_of-Expr h = absurd (omega arith)
-full_row name n (e.more_of-Expr x row) h = refl
-
-pub named_other : (name : Name) (args : Vec e.Expr Global) (at : At) → 0 < length args.items → atom_of (e.Named name args at) ≡ u.no_atom
-named_other name args at h =
-    let row = row_of (e.Named name args at) in
-    full_row name row.0 row.1 (subst (λ (xs : List e.Expr). 0 < length xs) (sym (e.items_hidden-the_row-Expr-0 args)) h)
-
-pub named_sum : (name : Name) (args : Vec e.Expr Global) (at : At) → args.items ≡ [] → sum_of (e.Named name args at) ≡ u.one (u.variable name.text.items)
-named_sum name args at h = ap u.one (named_atom name args at h)
+pub named_other : (name : Name) (args : Vec Expr Global) (at : At) → 0 < length args.items → atom_of (e.Named name args at) ≡ u.no_atom
+named_other name args at h = ap tree_atom (named_tree name args at) ∙ by args.items h
+  where
+    by : (xs : List Expr) → 0 < length xs → tree_atom (tree.Tree.named (letters name) (trees (map expression xs)) at) ≡ u.no_atom
+    by [] h = absurd (omega (arith, h))
+    by (x ∷ xs) h = refl
 
 -- a list of no length is empty
 pub no_items : {X : Type 0} (xs : List X) → length xs ≡ 0 → xs ≡ []

@@ -1,13 +1,8 @@
 pub mod Gives
-pub mod ThinTokens
+pub mod Bytes
 pub mod ThinUnits
-pub mod ThinReading
-pub mod ThinTexts
 pub mod ThinJobs
 pub mod ThinTrees
-pub mod TokenViews
-pub mod PieceViews
+pub mod ThinShapes
 pub mod CommandViews
 pub mod JobViews
-pub mod ThinViews
-pub mod UnitViews

@@ -4,9 +4,8 @@ use Rattle.std.specs.Char.{to_ascii_uppercase}
 use Rattle.std.specs.List.{slice_split, list_all}
 use Rattle.bstr.specs.Text.{lines_of, without_terminator}
 use Prim.Native.String.{String}
-use Rattle.thin_jobs.specs.ThinTokens.{is_capital, is_digit, is_name_byte, begins_with}
+use Rattle.thin_jobs.specs.Bytes.{is_capital, is_digit, is_name_byte, begins_with}
 use Rattle.thin_jobs.specs.ThinUnits as u
-use Rattle.thin_jobs.specs.ThinTexts.{unit_in}
 
 -- the lines of an input, each without its line feed and one carriage return before that
 abbrev pub job_lines : List ℕ → List (List ℕ)
@@ -133,10 +132,16 @@ pub record Job : Type 0 where
   pub name : List ℕ
   pub unit : u.Unit
 
--- the job that all lines are, with the unit of its text
-unfoldable pub job_of : State → Option Job
-job_of s = if is_whole s.place then option_map (λ unit. record { quantum = s.quantum; name = s.name; unit = unit }) (unit_in s.text) else None
+-- what the lines of a job say: the quantum, the program's name, and the unit's text
+pub record Frame : Type 0 where
+  pub quantum : ℕ
+  pub name : List ℕ
+  pub text : List ℕ
 
--- the thin job that an input is, if it is one
-unfoldable pub thin_job : List ℕ → Option Job
-thin_job bytes = option_and_then job_of (fed_all (job_lines bytes) start)
+-- what all the lines say, where they are whole
+unfoldable pub frame_of : State → Option Frame
+frame_of s = if is_whole s.place then Some (record { quantum = s.quantum; name = s.name; text = s.text }) else None
+
+-- what the lines of an input say, if they are those of a job
+unfoldable pub frame_in : List ℕ → Option Frame
+frame_in bytes = option_and_then frame_of (fed_all (job_lines bytes) start)

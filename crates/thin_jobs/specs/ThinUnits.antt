@@ -1,8 +1,7 @@
 -- Thin units: integer variables, assignments of sums, QUIT and TERMINATE.
-use Rattle.std.specs.Prelude.{ℕ, ◌+◌, Bool, true, false, ◌&&◌, not, List, [], ◌∷◌, ◌++◌, map, codes, nat_eq}
+use Rattle.std.specs.Prelude.{ℕ, ◌+◌, Bool, true, false, List, nat_eq}
 use Rattle.std.specs.List.{list_any}
 use lib.Pointwise.{pointwise}
-use Rattle.thin_jobs.specs.declared.reserved.TheConstants.{RESERVED}
 
 -- a variable by its name, or a number; `no_atom` stands for any other operand
 pub data Atom : Type 0 where
@@ -35,21 +34,12 @@ pub record Unit : Type 0 where
   pub gates : List Gate
   pub statements : List Statement
 
--- What a thin unit keeps beside its grammar, which thin_grammar tells.
-
 -- two names are equal
 abbrev pub same_name : List ℕ → List ℕ → Bool
 same_name a b = pointwise nat_eq a b
 
 abbrev pub is_declared : List (List ℕ) → List ℕ → Bool
 is_declared names name = list_any (λ n. same_name n name) names
-
-abbrev pub is_reserved : List ℕ → Bool
-is_reserved name = list_any (λ r. same_name r.now name) RESERVED
-
--- a name that a variable may have: no reserved word and no intrinsic
-abbrev pub is_free_name : List ℕ → Bool
-is_free_name name = not (is_reserved name) && not (same_name (codes "QUIT") name) && not (same_name (codes "TERMINATE") name)
 
 abbrev pub same_gate : Gate → Gate → Bool
 same_gate quit_gate quit_gate = true

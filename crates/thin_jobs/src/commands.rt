@@ -3,17 +3,14 @@ ghost use Rattle.std.specs.Prelude.{◌≡◌, ◌<◌, ◌≤◌, ◌+◌, ◌-
 ghost use Rattle.std.specs.Bool.{OnTrue};
 ghost use Rattle.std.specs.List.{slice_split, list_all};
 ghost use Rattle.thin_jobs.specs.Gives.{Gives};
-ghost use Rattle.thin_jobs.specs.ThinTokens.{begins_with, is_name_byte};
+ghost use Rattle.thin_jobs.specs.Bytes.{begins_with, is_name_byte};
 ghost use Rattle.thin_jobs.specs.ThinJobs.{job_lines, is_blank, words, digits_after, quantum_in, is_program_name, name_in, is_text, command_of_one, command_of_two, command_of_words, command_of};
 ghost use Rattle.thin_jobs.specs.CommandViews.{command_view};
 
-use crate::names::{is_word, same};
-use crate::reader::name_of;
-use crate::tokens::{capital, digit, name_byte};
-use crate::unit::read_unit;
-use crate::unread::Unread;
+use crate::bytes::{capital, digit, name_byte};
+use crate::names::{name_of, same};
 use bstr::ByteSlice;
-use spl_tree::{Name, SplUnit};
+use spl_tree::Name;
 use std::alloc::{AllocError, Global};
 
 /// A command of a thin job.

@@ -5,8 +5,7 @@ ghost use Rattle.thin_jobs.specs.ThinJobs.{is_in_unit, is_whole, fed_all, start}
 ghost use Rattle.thin_jobs.specs.JobViews.{job_state, place_of};
 
 use crate::commands::{Command, command_in, lines};
-use crate::names::same;
-use crate::reader::name_of;
+use crate::names::{name_of, same};
 use crate::unread::Unread;
 use spl_tree::Name;
 use std::alloc::{AllocError, Global};

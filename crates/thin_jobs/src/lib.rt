@@ -1,19 +1,16 @@
-//! Thin jobs read from their bytes: the lines of a job, and the unit in it as a tree.
+//! Thin jobs: the lines of a job, and which trees are those of thin units.
 #![tactic(auto)]
 
+mod bytes;
 mod commands;
 mod job;
 mod names;
-mod reader;
-mod reserved;
 #[cfg(test)]
 mod tests;
-mod tokens;
-mod unit;
 mod unread;
 
+pub use bytes::name_byte;
 pub use commands::lines;
 pub use job::{Due, JobReading, read_lines, whole};
-pub use names::{is_named, is_word};
-pub use unit::read_unit;
+pub use names::{declared, is_named, is_word, quit_declared, terminate_declared};
 pub use unread::Unread;

@@ -1,10 +1,10 @@
-//! Tests of names.
-ghost use Rattle.std.specs.Prelude.{◌≡◌, not, codes};
+//! Names, and tests of them.
+ghost use Rattle.std.specs.Prelude.{◌≡◌, ◌≤◌, not, codes, length};
 ghost use Rattle.std.specs.List.{list_any};
-ghost use Rattle.thin_jobs.specs.ThinUnits.{same_name, is_declared, is_reserved, is_free_name, has_gate, quit_gate, terminate_gate};
+ghost use Rattle.thin_jobs.specs.ThinUnits.{same_name, is_declared, has_gate, quit_gate, terminate_gate};
 ghost use Rattle.thin_jobs.specs.ThinTrees.{names_of, gates_of};
 
-use crate::reserved::RESERVED;
+use arrayvec::ArrayVec;
 use spl_tree::{At, Item, Name};
 
 /// Two names are equal.
@@ -43,27 +43,6 @@ pub fn declared(items: &[Item], name: &[u8]) -> bool
     any_named(items, name)
 }
 
-/// The name is one of these words.
-fn among(words: &[&str], name: &[u8]) -> bool
-    ensures { result ≡ list_any (λ r. same_name r.now name.now) words.now }
-{
-    words.iter().any(|word| same(word.as_bytes(), name))
-}
-
-/// The name is a reserved word.
-pub fn reserved(name: &[u8]) -> bool
-    ensures { result ≡ is_reserved name.now }
-{
-    among(&RESERVED, name)
-}
-
-/// A variable may have the name.
-pub fn free_name(name: &[u8]) -> bool
-    ensures { result ≡ is_free_name name.now }
-{
-    !reserved(name) && !same(b"QUIT", name) && !same(b"TERMINATE", name)
-}
-
 /// The intrinsic's name is QUIT.
 fn is_quit(gate: &(Name, At)) -> bool
     ensures { result ≡ same_name (codes "QUIT") gate.now.0.text.items }
@@ -99,4 +78,14 @@ pub fn terminate_declared(gates: &[(Name, At)]) -> bool
     ensures { result ≡ has_gate (gates_of gates.now) terminate_gate }
 {
     any_other(gates)
+}
+
+/// A name of these bytes, at most 15.
+pub fn name_of(bytes: &[u8]) -> Name
+    requires { length bytes.now ≤ 15 }
+    ensures { result.text.items ≡ bytes.now }
+{
+    let mut text = ArrayVec::new();
+    text.try_extend_from_slice(bytes).unwrap();
+    Name { text }
 }

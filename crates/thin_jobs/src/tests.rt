@@ -1,4 +1,4 @@
-//! Lines, jobs and units worked by hand.
+//! Lines and jobs worked by hand.
 
 use super::*;
 use std::alloc::Global;
@@ -52,41 +52,6 @@ fn jobs_that_are_not_thin(rt: HostRuntime) -> Result<(), Fail> {
     ];
     for job in cases {
         assert!(rt; read_lines(alloc, &lines(alloc, job)?).is_err());
-    }
-    Ok(())
-}
-
-#[test]
-fn units_and_their_sizes(rt: HostRuntime) -> Result<(), Fail> {
-    let alloc = rt.alloc();
-    let cases: [(&[u8], usize, usize); 3] = [
-        (b"BEGIN INTEGER I;INTRINSIC QUIT;QUIT(I)END.", 2, 1),
-        (
-            b"BEGIN INTEGER I,J;INTRINSIC QUIT;I:=2;J:=I-3;QUIT(J)END.",
-            2,
-            3,
-        ),
-        (
-            b"BEGIN INTEGER I;INTRINSIC TERMINATE,QUIT;QUIT(I);TERMINATE END.\n",
-            2,
-            2,
-        ),
-    ];
-    for (text, declarations, statements) in cases {
-        let unit = read_unit(alloc, text)?;
-        assert_eq!(rt;
-            (unit.items.len(), unit.statements.len()),
-            (declarations, statements)
-        );
-    }
-    let others: [&[u8]; 4] = [
-        b"",
-        b"BEGIN INTEGER I;INTRINSIC QUIT;QUIT(J)END.",
-        b"BEGIN INTEGER I;INTRINSIC QUIT;QUIT(I)END",
-        b"BEGIN INTEGER I;INTRINSIC QUIT;QUIT(I)END. ;",
-    ];
-    for text in others {
-        assert!(rt; read_unit(alloc, text).is_err());
     }
     Ok(())
 }
