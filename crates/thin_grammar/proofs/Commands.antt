@@ -5,11 +5,10 @@ use Rattle.std.specs.List.{list_all}
 use Rattle.std.specs.Char.{to_ascii_uppercase}
 use Rattle.std.proofs.lemmas.Bool.Decides.{nat_tests}
 use Prim.Native.String.{String}
-use Rattle.thin_jobs.specs.ThinTokens.{is_digit, begins_with}
+use Rattle.thin_jobs.specs.Bytes.{is_digit, begins_with}
 use Rattle.thin_jobs.specs.ThinJobs as j
 use Rattle.thin_jobs.specs.ThinJobs.{Command, words, digits_after, quantum_in, is_program_name, name_in, is_text, command_of_one, command_of_two, command_of_words, command_of}
-use Rattle.thin_grammar.specs.ThinCutting.{decimal_on, decimal}
-use Rattle.thin_grammar.specs.ThinLines.{Says, Quantum}
+use Rattle.thin_grammar.specs.ThinLines.{decimal_on, decimal, Says, Quantum}
 use Rattle.thin_grammar.proofs.NameFacts.{both, one_name, some_is}
 
 -- what a line says that is this command

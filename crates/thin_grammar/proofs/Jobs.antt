@@ -2,22 +2,14 @@
 use Rattle.std.proofs.Common.{ℕ, ◌≡◌, ◌≤◌, arith, length, Bool, true, false, not, List, [], ◌∷◌, ◌++◌, Some, refl, sym, ap, ◌∙◌, append_assoc}
 use Rattle.std.specs.Prelude.{◌&&◌, option_map, option_and_then, if◌then◌else◌}
 use Rattle.std.proofs.lemmas.Cmp.{nat_list_eq_equiv}
-use Rattle.thin_jobs.specs.ThinTokens.{begins_with}
-use Rattle.thin_jobs.specs.ThinTexts.{unit_in}
-use Rattle.thin_jobs.specs.ThinReading.{read_unit}
+use Rattle.thin_jobs.specs.Bytes.{begins_with}
 use Rattle.thin_jobs.specs.ThinJobs as j
-use Rattle.thin_jobs.specs.ThinJobs.{Job, Command, Place, State, start, with_command, with_line, is_in_unit, fed, fed_all, is_whole, job_of, job_lines, thin_job, command_of, is_program_name}
+use Rattle.thin_jobs.specs.ThinJobs.{Frame, Command, Place, State, start, with_command, with_line, is_in_unit, fed, fed_all, frame_of, frame_in, job_lines, command_of, is_program_name}
 use Rattle.thin_jobs.specs.ThinUnits as u
 use Rattle.thin_grammar.specs.ThinLines as t
-use Rattle.thin_grammar.specs.ThinLines.{Says, Quantum, Settings, Text, Unit_in, Job_of, Thin_job}
+use Rattle.thin_grammar.specs.ThinLines.{Says, Quantum, Settings, Text, Frame_of, Framed}
 use Rattle.thin_grammar.proofs.NameFacts.{some_is}
-use Rattle.thin_grammar.proofs.NameFacts.{few_names}
-use Rattle.thin_jobs.specs.ThinTokens.{Tok}
-use Rattle.thin_grammar.specs.ThinSpelling as g
-use Rattle.thin_grammar.specs.ThinSpelling.{Unit_of}
 use Rattle.thin_grammar.proofs.Commands.{Command_said, command_read}
-use Rattle.thin_grammar.proofs.Cutting.{cut_read}
-use Rattle.thin_grammar.proofs.ReadUnits.{unit_read}
 
 -- a state by its parts
 abbrev at : ℕ → List ℕ → List ℕ → Place → State
@@ -117,28 +109,13 @@ job_lines_read {first = first} {settings = settings} f t.Settings.unset p v n x 
 job_lines_read {quantum = quantum} {first = first} {settings = settings} f (t.Settings.quantum {w} {line} {rest} q k) p v n x s z =
     onward first start settings (job_line first f) ∙ onward line _ rest (quantum_line quantum w line q k) ∙ program_lines false p v n x s z
 
-unit_found : (x : u.Unit) (text : List ℕ) → Unit_in x text → unit_in text ≡ Some x
-unfolding unit_in
-unit_found x text v = ap (option_and_then read_unit) (cut_read v.cut) ∙ unit_read x v.tokens v.spelled
+frame_found : (f : Frame) (ls : List (List ℕ)) → Frame_of f ls → option_and_then frame_of (fed_all ls start) ≡ Some f
+unfolding frame_of
+frame_found _ _ (t.Frame_of.frame f q p v n l s z) = ap (option_and_then frame_of) (job_lines_read f q p v n l s z)
 
-job_found : (job : Job) (ls : List (List ℕ)) → Job_of job ls → option_and_then job_of (fed_all ls start) ≡ Some job
-unfolding job_of
-job_found _ _ (t.Job_of.job {quantum} {name} {text} {x} f q p v n l i s z) =
-    ap (option_and_then job_of) (job_lines_read f q p v n l s z)
-    ∙ ap (option_map (λ (unit : u.Unit). record { quantum = quantum; name = name; unit = unit })) (unit_found x text i)
+pub frame_read : (f : Frame) (bytes : List ℕ) → Framed f bytes → frame_in bytes ≡ Some f
+unfolding frame_in
+frame_read f bytes v = frame_found f (job_lines bytes) v
 
-pub job_read : (job : Job) (bytes : List ℕ) → Thin_job job bytes → thin_job bytes ≡ Some job
-unfolding thin_job
-job_read job bytes v = job_found job (job_lines bytes) v
-
-pub job_unique : (a b : Job) (bytes : List ℕ) → Thin_job a bytes → Thin_job b bytes → a ≡ b
-job_unique a b bytes v w = some_is (sym (job_read a bytes v) ∙ job_read b bytes w)
-
-few_in_unit : {x : u.Unit} {ts : List Tok} → Unit_of x ts → length x.names ≤ 100
-few_in_unit (g.Unit_of.unit a b c) = let l = few_names a in omega (arith, l)
-
-few_in_job : (job : Job) (ls : List (List ℕ)) → Job_of job ls → length job.unit.names ≤ 100
-few_in_job _ _ (t.Job_of.job f q p v n l i s z) = few_in_unit i.spelled
-
-pub few_declared : (job : Job) (bytes : List ℕ) → Thin_job job bytes → length job.unit.names ≤ 100
-few_declared job bytes v = few_in_job job (job_lines bytes) v
+pub frame_unique : (f g : Frame) (bytes : List ℕ) → Framed f bytes → Framed g bytes → f ≡ g
+frame_unique f g bytes v w = some_is (sym (frame_read f bytes v) ∙ frame_read g bytes w)

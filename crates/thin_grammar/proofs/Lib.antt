@@ -1,8 +1,6 @@
-pub mod NameFacts
-pub mod ReadUnits
-pub mod SpellUnits
-pub mod Cutting
-pub mod Commands
-pub mod Jobs
-pub mod SpellJobs
-pub mod KnownJobs
+mod NameFacts
+mod Commands
+mod Jobs
+mod SpellJobs
+mod Lengths
+mod KnownJobs

@@ -1,18 +1,14 @@
 -- What is read as a thin job is spelled so: at each place, what the rest of the lines must be.
 use Rattle.std.proofs.Common.{ℕ, ◌≡◌, ◌⊎◌, inl, inr, Bool, true, false, not, List, [], ◌∷◌, ◌++◌, Option, Some, None, refl, sym, ap, subst, ◌∙◌, append_assoc}
 use Rattle.std.specs.Prelude.{◌&&◌, option_map, option_and_then, if◌then◌else◌}
-use Rattle.thin_jobs.specs.ThinTokens.{Tok, begins_with}
-use Rattle.thin_jobs.specs.ThinTexts.{cut, unit_in}
-use Rattle.thin_jobs.specs.ThinReading.{read_unit}
+use Rattle.thin_jobs.specs.Bytes.{begins_with}
 use Rattle.thin_jobs.specs.ThinJobs as j
-use Rattle.thin_jobs.specs.ThinJobs.{Job, Command, Place, State, start, with_command, with_line, is_in_unit, fed, fed_all, is_whole, job_of, job_lines, thin_job, command_of, is_program_name}
+use Rattle.thin_jobs.specs.ThinJobs.{Frame, Command, Place, State, start, with_command, with_line, is_in_unit, fed, fed_all, is_whole, frame_of, frame_in, job_lines, command_of, is_program_name}
 use Rattle.thin_jobs.specs.ThinUnits as u
 use Rattle.thin_grammar.specs.ThinLines as t
-use Rattle.thin_grammar.specs.ThinLines.{Says, Quantum, Settings, Text, Unit_in, Job_of, Thin_job}
+use Rattle.thin_grammar.specs.ThinLines.{Says, Quantum, Settings, Text, Frame_of, Framed}
 use Rattle.thin_grammar.proofs.NameFacts.{one_name, some_is}
 use Rattle.thin_grammar.proofs.Commands.{Command_said, command_said}
-use Rattle.thin_grammar.proofs.Cutting.{text_cut, mapped}
-use Rattle.thin_grammar.proofs.SpellUnits.{unit_spelled}
 
 -- the last line, where quantum, name and text are what was said so far
 record End_follows (e : State) (quantum : ℕ) (name text : List ℕ) (ls : List (List ℕ)) : Type 0 where
@@ -214,56 +210,45 @@ lines_left (l ∷ ls) s e q w = by (fed l s) refl q (λ s1 k. lines_left ls s1 e
     by None f k l1 = cc
 
 -- the job of lines that are left at the start
-program_of : (e : State) (quantum : ℕ) (x : u.Unit) (first : List ℕ) (settings rest : List (List ℕ)) → Says "!JOB" [] first → Unit_in x e.text
+program_of : (e : State) (quantum : ℕ) (first : List ℕ) (settings rest : List (List ℕ)) → Says "!JOB" [] first
     → Settings e.quantum settings rest → Program_follows e quantum [] rest
-    → Job_of (record { quantum = e.quantum; name = e.name; unit = x }) (first ∷ settings)
-program_of e quantum x first settings rest f i q v =
+    → Frame_of (record { quantum = e.quantum; name = e.name; text = e.text }) (first ∷ settings)
+program_of e quantum first settings rest f q v =
     let unit = v.on in
     let lines = unit.on in
     let texts = sym lines.same_text in
-    t.Job_of.job f (subst (λ (ls : List (List ℕ)). Settings e.quantum settings ls) (v.is ∙ ap (λ (ls : List (List ℕ)). v.line ∷ ls) unit.is) q)
+    t.Frame_of.frame f (subst (λ (ls : List (List ℕ)). Settings e.quantum settings ls) (v.is ∙ ap (λ (ls : List (List ℕ)). v.line ∷ ls) unit.is) q)
     (subst (λ (name : List ℕ). Says "!PROGRAM" (name ∷ []) v.line) (sym lines.same_name) v.says)
     (subst (λ (name : List ℕ). is_program_name name ≡ true) (sym lines.same_name) v.valid)
     unit.says
-    (subst (λ (text : List ℕ). Text text unit.rest (lines.session ∷ lines.last ∷ [])) texts lines.lines) i
+    (subst (λ (text : List ℕ). Text text unit.rest (lines.session ∷ lines.last ∷ [])) texts lines.lines)
     lines.says lines.ends
 
-settings_of : (e : State) (x : u.Unit) (first : List ℕ) (ls : List (List ℕ)) → Says "!JOB" [] first → Unit_in x e.text → Settings_follow e 100 [] ls
-    → Job_of (record { quantum = e.quantum; name = e.name; unit = x }) (first ∷ ls)
-settings_of e x first ls f i (Settings_follow.unset v) =
-    program_of e 100 x first ls ls f i (subst (λ (n : ℕ). Settings n ls ls) (sym v.on.on.same_quantum) t.Settings.unset) v
-settings_of e x first _ f i (Settings_follow.set {n} {line} {rest} says q v) =
-    program_of e n x first (line ∷ rest) rest f i (subst (λ (n : ℕ). Settings n (line ∷ rest) rest) (sym v.on.on.same_quantum) (t.Settings.quantum says q)) v
+settings_of : (e : State) (first : List ℕ) (ls : List (List ℕ)) → Says "!JOB" [] first → Settings_follow e 100 [] ls
+    → Frame_of (record { quantum = e.quantum; name = e.name; text = e.text }) (first ∷ ls)
+settings_of e first ls f (Settings_follow.unset v) =
+    program_of e 100 first ls ls f (subst (λ (n : ℕ). Settings n ls ls) (sym v.on.on.same_quantum) t.Settings.unset) v
+settings_of e first _ f (Settings_follow.set {n} {line} {rest} says q v) =
+    program_of e n first (line ∷ rest) rest f (subst (λ (n : ℕ). Settings n (line ∷ rest) rest) (sym v.on.on.same_quantum) (t.Settings.quantum says q)) v
 
-job_of_left : (e : State) (x : u.Unit) (ls : List (List ℕ)) → Unit_in x e.text → Left_at e ls start
-    → Job_of (record { quantum = e.quantum; name = e.name; unit = x }) ls
-job_of_left e x ls i v =
-    subst (λ (ls : List (List ℕ)). Job_of (record { quantum = e.quantum; name = e.name; unit = x }) ls) (sym v.is)
-    (settings_of e x v.line v.rest v.says i v.on)
+frame_of_left : (e : State) (ls : List (List ℕ)) → Left_at e ls start → Frame_of (record { quantum = e.quantum; name = e.name; text = e.text }) ls
+frame_of_left e ls v =
+    subst (λ (ls : List (List ℕ)). Frame_of (record { quantum = e.quantum; name = e.name; text = e.text }) ls) (sym v.is)
+    (settings_of e v.line v.rest v.says v.on)
 
-unit_is_in : (text : List ℕ) (x : u.Unit) → unit_in text ≡ Some x → Unit_in x text
-unfolding unit_in
-unit_is_in text x q = by (cut 0 text) refl q
+frame_is : (e : State) (ls : List (List ℕ)) (f : Frame) → fed_all ls start ≡ Some e → frame_of e ≡ Some f → Frame_of f ls
+unfolding frame_of
+frame_is e ls f q k = by (is_whole e.place) refl k
   where
-    by : (o : Option (List Tok)) → cut 0 text ≡ o → option_and_then read_unit o ≡ Some x → Unit_in x text
-    by (Some ts) f k = record { tokens = ts; cut = text_cut text ts f; spelled = unit_spelled x ts k }
-    by None f k = cc
+    by : (b : Bool) → is_whole e.place ≡ b → (if b then Some (record { quantum = e.quantum; name = e.name; text = e.text }) else None) ≡ Some f
+        → Frame_of f ls
+    by true w k = subst (λ (f : Frame). Frame_of f ls) (some_is k) (frame_of_left e ls (lines_left ls start e q w))
+    by false w k = cc
 
-job_is : (e : State) (ls : List (List ℕ)) (job : Job) → fed_all ls start ≡ Some e → job_of e ≡ Some job → Job_of job ls
-unfolding job_of
-job_is e ls job q f = by (is_whole e.place) refl f
+pub frame_spelled : (f : Frame) (bytes : List ℕ) → frame_in bytes ≡ Some f → Framed f bytes
+unfolding frame_in
+frame_spelled f bytes q = by (fed_all (job_lines bytes) start) refl q
   where
-    by : (b : Bool) → is_whole e.place ≡ b
-        → (if b then option_map (λ (unit : u.Unit). record { quantum = e.quantum; name = e.name; unit = unit }) (unit_in e.text) else None) ≡ Some job → Job_of job ls
-    by true w f =
-        let m = mapped (λ (unit : u.Unit). record { quantum = e.quantum; name = e.name; unit = unit }) (unit_in e.text) job f in
-        subst (λ (job : Job). Job_of job ls) m.2 (job_of_left e m.0 ls (unit_is_in e.text m.0 m.1) (lines_left ls start e q w))
-    by false w f = cc
-
-pub job_spelled : (job : Job) (bytes : List ℕ) → thin_job bytes ≡ Some job → Thin_job job bytes
-unfolding thin_job
-job_spelled job bytes q = by (fed_all (job_lines bytes) start) refl q
-  where
-    by : (o : Option State) → fed_all (job_lines bytes) start ≡ o → option_and_then job_of o ≡ Some job → Job_of job (job_lines bytes)
-    by (Some e) f k = job_is e (job_lines bytes) job f k
-    by None f k = cc
+    by : (o : Option State) → fed_all (job_lines bytes) start ≡ o → option_and_then frame_of o ≡ Some f → Frame_of f (job_lines bytes)
+    by (Some e) g k = frame_is e (job_lines bytes) f g k
+    by None g k = cc

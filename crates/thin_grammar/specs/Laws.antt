@@ -1,41 +1,20 @@
--- The laws of the thin grammar: what thin_jobs reads is what is spelled by it.
+-- The laws of the lines of jobs: what thin_jobs reads is what is spelled.
 use Rattle.std.specs.Prelude.{ℕ, ◌≡◌, ◌≤◌, List, Some, length}
-use Rattle.thin_jobs.specs.ThinTokens.{Tok}
-use Rattle.thin_jobs.specs.ThinUnits as u
-use Rattle.thin_jobs.specs.ThinReading.{read_unit}
-use Rattle.thin_jobs.specs.ThinTexts.{cut}
-use Rattle.thin_jobs.specs.ThinJobs.{Job, thin_job}
-use Rattle.thin_grammar.specs.ThinSpelling.{Unit_of}
-use Rattle.thin_grammar.specs.ThinCutting.{Cut}
-use Rattle.thin_grammar.specs.ThinLines.{Thin_job}
+use Rattle.thin_jobs.specs.ThinJobs.{Frame, frame_in}
+use Rattle.thin_grammar.specs.ThinLines.{Framed}
 
--- what is spelled as a unit is read
-abbrev pub UnitsAreRead : Type 0
-UnitsAreRead = (x : u.Unit) (ts : List Tok) → Unit_of x ts → read_unit ts ≡ Some x
+-- lines that are spelled so are read so
+abbrev pub FramesAreRead : Type 0
+FramesAreRead = (f : Frame) (bytes : List ℕ) → Framed f bytes → frame_in bytes ≡ Some f
 
--- what is read as a unit is spelled so
-abbrev pub UnitsAreSpelled : Type 0
-UnitsAreSpelled = (x : u.Unit) (ts : List Tok) → read_unit ts ≡ Some x → Unit_of x ts
+-- and the other way round
+abbrev pub FramesAreSpelled : Type 0
+FramesAreSpelled = (f : Frame) (bytes : List ℕ) → frame_in bytes ≡ Some f → Framed f bytes
 
--- a text is cut into tokens exactly as it is read
-abbrev pub TextsAreCut : Type 0
-TextsAreCut = (text : List ℕ) (ts : List Tok) → cut 0 text ≡ Some ts → Cut text ts
+-- bytes are the lines of at most one job
+abbrev pub FramesAreUnique : Type 0
+FramesAreUnique = (f g : Frame) (bytes : List ℕ) → Framed f bytes → Framed g bytes → f ≡ g
 
-abbrev pub CutsAreRead : Type 0
-CutsAreRead = (text : List ℕ) (ts : List Tok) → Cut text ts → cut 0 text ≡ Some ts
-
--- what is spelled as a job is read
-abbrev pub JobsAreRead : Type 0
-JobsAreRead = (job : Job) (bytes : List ℕ) → Thin_job job bytes → thin_job bytes ≡ Some job
-
--- what is read as a job is spelled so
-abbrev pub JobsAreSpelled : Type 0
-JobsAreSpelled = (job : Job) (bytes : List ℕ) → thin_job bytes ≡ Some job → Thin_job job bytes
-
--- a text is at most one thin job
-abbrev pub JobsAreUnique : Type 0
-JobsAreUnique = (a b : Job) (bytes : List ℕ) → Thin_job a bytes → Thin_job b bytes → a ≡ b
-
--- a thin job declares at most 100 names
-abbrev pub JobsDeclareFew : Type 0
-JobsDeclareFew = (job : Job) (bytes : List ℕ) → Thin_job job bytes → length job.unit.names ≤ 100
+-- a unit has no more bytes than its job
+abbrev pub TextsAreShort : Type 0
+TextsAreShort = (f : Frame) (bytes : List ℕ) → Framed f bytes → length f.text ≤ length bytes

@@ -1,4 +1,2 @@
-pub mod ThinSpelling
-pub mod ThinCutting
 pub mod ThinLines
 pub mod Laws

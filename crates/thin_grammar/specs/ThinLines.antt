@@ -1,13 +1,19 @@
--- Thin jobs, line by line: the commands, the settings, the text of the unit, and the job that they make.
-use Rattle.std.specs.Prelude.{ℕ, ◌≡◌, ◌<◌, ◌≤◌, true, false, List, [], ◌∷◌, ◌++◌, length, map, codes}
+-- Jobs of one unit and one session, line by line: the commands, the settings, and the text of the unit.
+use Rattle.std.specs.Prelude.{ℕ, ◌≡◌, ◌<◌, ◌≤◌, ◌+◌, ◌-◌, ◌*◌, true, false, List, [], ◌∷◌, ◌++◌, length, map, codes}
 use Rattle.std.specs.Char.{to_ascii_uppercase}
 use Rattle.std.specs.List.{list_all}
 use Prim.Native.String.{String}
-use Rattle.thin_jobs.specs.ThinTokens.{Tok, is_digit, begins_with}
-use Rattle.thin_jobs.specs.ThinJobs.{Job, job_lines, words, is_program_name}
-use Rattle.thin_jobs.specs.ThinUnits as u
-use Rattle.thin_grammar.specs.ThinCutting.{Cut, decimal}
-use Rattle.thin_grammar.specs.ThinSpelling.{Unit_of}
+use Rattle.thin_jobs.specs.Bytes.{is_digit, begins_with}
+use Rattle.thin_jobs.specs.ThinJobs.{Frame, job_lines, words, is_program_name}
+
+-- n with these decimal digits behind it
+abbrev pub decimal_on : ℕ → List ℕ → ℕ
+decimal_on n [] = n
+decimal_on n (d ∷ ds) = decimal_on (10 * n + (d - 48)) ds
+
+-- the number that decimal digits are
+abbrev pub decimal : List ℕ → ℕ
+decimal ds = decimal_on 0 ds
 
 -- a line is a command: it begins with `!`, and its words, in capitals, are these
 pub record Says (first : String) (others : List (List ℕ)) (line : List ℕ) : Type 0 where
@@ -34,24 +40,18 @@ pub data Text : List ℕ → List (List ℕ) → List (List ℕ) → Type 0 wher
   more : {line text : List ℕ} {ls rest : List (List ℕ)} → begins_with 33 line ≡ false → Text text ls rest
       → Text ((line ++ 10 ∷ []) ++ text) (line ∷ ls) rest
 
--- the unit of a text: its tokens spell it
-pub record Unit_in (x : u.Unit) (text : List ℕ) : Type 0 where
-  pub tokens : List Tok
-  pub cut : Cut text tokens
-  pub spelled : Unit_of x tokens
-
 -- !JOB, settings, !PROGRAM name, !UNIT, the text, !SESSION with the same name, !EOJ, and nothing behind it
-pub data Job_of : Job → List (List ℕ) → Type 0 where
-  job : {quantum : ℕ} {name text : List ℕ} {x : u.Unit} {first program unit session last : List ℕ} {settings ls : List (List ℕ)}
+pub data Frame_of : Frame → List (List ℕ) → Type 0 where
+  frame : {quantum : ℕ} {name text : List ℕ} {first program unit session last : List ℕ} {settings ls : List (List ℕ)}
       → Says "!JOB" [] first
       → Settings quantum settings (program ∷ unit ∷ ls)
       → Says "!PROGRAM" (name ∷ []) program → is_program_name name ≡ true
       → Says "!UNIT" [] unit
-      → Text text ls (session ∷ last ∷ []) → Unit_in x text
+      → Text text ls (session ∷ last ∷ [])
       → Says "!SESSION" (name ∷ []) session
       → Says "!EOJ" [] last
-      → Job_of (record { quantum = quantum; name = name; unit = x }) (first ∷ settings)
+      → Frame_of (record { quantum = quantum; name = name; text = text }) (first ∷ settings)
 
--- the bytes are a thin job
-abbrev pub Thin_job : Job → List ℕ → Type 0
-Thin_job read bytes = Job_of read (job_lines bytes)
+-- the lines of the bytes are those of a job of one unit and one session
+abbrev pub Framed : Frame → List ℕ → Type 0
+Framed f bytes = Frame_of f (job_lines bytes)

@@ -1,9 +1,6 @@
-//! The grammar of thin jobs, and the laws that tie what thin_jobs reads to it.
+//! The lines of jobs of one unit and one session, and the laws that tie what thin_jobs reads to them.
 #![tactic(auto)]
 
 mod laws;
 
-pub use laws::{
-    cuts_are_read, jobs_are_read, jobs_are_spelled, jobs_are_unique, jobs_declare_few,
-    texts_are_cut, units_are_read, units_are_spelled,
-};
+pub use laws::{frames_are_read, frames_are_spelled, frames_are_unique, texts_are_short};
