@@ -1,3 +1,4 @@
 pub mod RunLemmas
 pub mod ClosedJobs
+pub mod JobLemmas
 pub mod AnswerLemmas

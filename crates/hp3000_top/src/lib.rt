@@ -2,11 +2,13 @@
 #![tactic(auto)]
 
 mod exit;
+mod job;
 mod report;
 mod session;
 #[cfg(test)]
 mod tests;
 mod top;
+mod unanswered;
 
 pub use exit::Exit;
 pub use top::hp3000_main;

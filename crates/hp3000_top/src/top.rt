@@ -1,24 +1,25 @@
 //! The top call.
-ghost use Rattle.std.specs.Prelude.{◌≡◌, ◌≢◌, ◌↔◌, ◌<◌, ◌≤◌, ◌⊎◌, map, length, IfSome, IsSomeAnd, IfOk, IfErr, ◌+◌, Option, None, Some, true, false, string_bytes, codes};
-ghost use Rattle.std.specs.Io.KnownBytes.{Appends};
+ghost use Rattle.std.specs.Prelude.{◌≡◌, ◌≢◌, ◌↔◌, ◌≤◌, ◌⊎◌, ℕ, List, map, length, IfOk, IfErr, ◌+◌, true, false, string_bytes};
 ghost use Rattle.hp_outside.specs.Faults.{Rose};
 ghost use Rattle.hp_outside.specs.Whole.{IsLongerThan};
-ghost use Rattle.thin_jobs.specs.Gives.{Gives};
-ghost use Rattle.thin_jobs.specs.declared.unread.Unread.TheVariants.{Later, NoMemory};
-ghost use Rattle.thin_jobs.specs.ThinJobs.{job_lines, fed_all, job_of, thin_job};
-ghost use Rattle.hp3000_top.specs.Answers.{is_run, IsJobOf, IsAnswered, IsWhole, IsSilent, Delivers, IsNotBuilt, IsAsAlone, IsBuilt, IsDone, FitsNot, report_of_run, later_line};
-ghost use Rattle.thin_jobs.specs.ThinTrees.{thin_of};
+ghost use Rattle.spl_tree.specs.declared.names_and_places.At as places;
+ghost use Rattle.spl_front.specs.declared.faults.Kind as kinds;
+ghost use Rattle.thin_jobs.specs.declared.unread.Unread.TheVariants.{NoMemory};
+ghost use Rattle.hp3000_top.specs.Answers.{is_run, IsAnswered, IsWhole, IsSilent, Delivers, Refuses, IsAsAlone, IsBuilt, IsDone, IsFaulty, IsRefused, report_of_run};
+ghost use Rattle.hp3000_top.specs.Refusals.{Excuses};
 ghost use Rattle.hp3000_top.specs.Runs.{run_of};
 
 use crate::exit::Exit;
+use crate::job::job_in;
 use crate::report::report;
 use crate::session::run;
+use crate::unanswered::{Unanswered, fault_line};
 use hp_flat::Program;
 use hp_outside::{ReadAll, Sink, Source, read_all, write_all};
-use spl_tree::{Name, SplUnit};
+use spl_tree::Name;
 use std::alloc::Global;
 use thin_compiler::make;
-use thin_jobs::{Unread, lines, read_lines, read_unit, whole};
+use thin_jobs::Unread;
 
 /// The greatest number of bytes of an input.
 const LIMIT: usize = 1_048_576;
@@ -34,32 +35,6 @@ fn runs(words: &[String]) -> bool
         [word] => word.as_str() == "run",
         _ => false,
     }
-}
-
-/// A thin job as it was read.
-#[derive(Drop)]
-struct ThinJob {
-    quantum: u32,
-    name: Name,
-    unit: SplUnit,
-}
-
-/// The thin job that an input is.
-fn job_in(alloc: Global, bytes: &[u8]) -> Result<ThinJob, Unread>
-    ensures ok { IfOk result (λ j. IsJobOf (thin_job bytes.now) j.quantum j.name.text.items (thin_of j.unit)) }
-    ensures later { IfErr result (λ e. e ≡ Later → thin_job bytes.now ≡ None) }
-{
-    let lines = lines(alloc, bytes)?;
-    let job = read_lines(alloc, &lines)?;
-    if !whole(job.due) {
-        return Err(Unread::Later);
-    }
-    let unit = read_unit(alloc, &job.text)?;
-    Ok(ThinJob {
-        quantum: job.quantum,
-        name: job.name,
-        unit,
-    })
 }
 
 /// The report of a program's session.
@@ -91,13 +66,20 @@ struct Answer {
 }
 
 /// The answer to the thin job that an input is.
-fn answer_of(alloc: Global, bytes: &[u8]) -> Result<Answer, Unread>
-    ensures ok { IfOk result (λ a. IsSomeAnd (thin_job bytes.now) (λ job. IsAnswered job a.made.items a.text.items)) }
-    ensures later { IfErr result (λ e. e ≡ Later → FitsNot (thin_job bytes.now)) }
+fn answer_of(alloc: Global, bytes: &[u8]) -> Result<Answer, Unanswered>
+    requires { length bytes.now ≤ 1048576 }
+    ensures ok { IfOk result (λ a. IsAnswered bytes.now a.made.items a.text.items) }
+    ensures err { IfErr result (λ e. Excuses bytes.now e) }
 {
     let job = job_in(alloc, bytes)?;
-    let program = make(alloc, &job.unit)?;
-    let text = session_report(alloc, &job.name, &program, job.quantum)?;
+    let program = match make(alloc, &job.unit) {
+        Ok(program) => program,
+        Err(Unread::Later) => return Err(Unanswered::Later),
+        Err(Unread::NoMemory) => return Err(Unanswered::NoMemory),
+    };
+    let Ok(text) = session_report(alloc, &job.name, &program, job.quantum) else {
+        return Err(Unanswered::NoMemory);
+    };
     let made = vec![in alloc; program]?;
     Ok(Answer { made, text })
 }
@@ -127,13 +109,13 @@ pub fn hp3000_main<I: Source, O: Sink>(
 
     // What was written.
     ensures silent { IsSilent result → output.new ≡ output.old }
-    ensures refused { result ≡ Exit.Refused → Appends (O.written output.old) (O.written output.new) later_line }
-    ensures later { result ≡ Exit.Refused → IsNotBuilt (I.left input.old) }
+    ensures refused { result ≡ Exit.Refused → Refuses (I.left input.old) (O.written output.old) (O.written output.new) }
     ensures done { result ≡ Exit.Done → Delivers (I.left input.old) made.new.items (O.written output.old) (O.written output.new) }
 
     // The headline: the session has printed and ended exactly as its source, run alone, has at some step. And when it is done.
     ensures headline { result ≡ Exit.Done → IsAsAlone (I.left input.old) (O.written output.old) (O.written output.new) }
     ensures complete { is_run (map (λ w. string_bytes w) words.now.items) ≡ true → IsBuilt (I.left input.old) → (Rose (I.faults input.old) (I.faults input.new) → ⊥) → (Rose (O.faults output.old) (O.faults output.new) → ⊥) → IsDone result }
+    ensures faulty { is_run (map (λ w. string_bytes w) words.now.items) ≡ true → (name : List ℕ) (kind : kinds.Kind) (at : places.At) → IsFaulty (I.left input.old) name kind at → (Rose (I.faults input.old) (I.faults input.new) → ⊥) → (Rose (O.faults output.old) (O.faults output.new) → ⊥) → IsRefused result (O.written output.old) (O.written output.new) name kind at }
     ensures kept { result ≢ Exit.Done → made.new ≡ made.old }
 {
     if !runs(words) {
@@ -157,12 +139,21 @@ pub fn hp3000_main<I: Source, O: Sink>(
             *made = programs;
             Exit::Done
         }
-        Err(Unread::Later) => {
+        Err(Unanswered::Later) => {
             if write_all(output, LATER).is_err() {
                 return Exit::WriteFault;
             }
             Exit::Refused
         }
-        Err(Unread::NoMemory) => Exit::NoMemory,
+        Err(Unanswered::Faulty { program, kind, at }) => {
+            let Ok(line) = fault_line(alloc, program, kind, at) else {
+                return Exit::NoMemory;
+            };
+            if write_all(output, &line).is_err() {
+                return Exit::WriteFault;
+            }
+            Exit::Refused
+        }
+        Err(Unanswered::NoMemory) => Exit::NoMemory,
     }
 }

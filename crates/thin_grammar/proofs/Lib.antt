@@ -1,6 +1,6 @@
-mod NameFacts
-mod Commands
-mod Jobs
-mod SpellJobs
-mod Lengths
-mod KnownJobs
+pub mod NameFacts
+pub mod Commands
+pub mod Jobs
+pub mod SpellJobs
+pub mod Lengths
+pub mod KnownJobs
