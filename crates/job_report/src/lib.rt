@@ -1,0 +1,17 @@
+//! What is reported of a job, why an input is refused, and the listing of a program, as texts.
+#![tactic(auto)]
+
+mod endings;
+mod lines;
+mod listings;
+mod numbers;
+mod point;
+mod refusals;
+mod reports;
+#[cfg(test)]
+mod tests;
+
+pub use listings::listing;
+pub use point::Point;
+pub use refusals::{FileRefusal, ModulesRefusal, Refusal, UnitRefusal, refusal_line};
+pub use reports::report;

@@ -1,0 +1,560 @@
+//! Reports, refusals and listings worked by hand.
+
+use super::*;
+use arrayvec::ArrayVec;
+use hp_program::Program;
+use hp_word::{Ending, Trap};
+use spl_tree::{At, Chars, Name};
+use std::alloc::{AllocError, Global};
+use std::process::Abort;
+use std::test::Fail;
+
+/// The name of a text, up to its fifteenth character.
+fn name(text: &str) -> Name {
+    let mut name = Name {
+        text: ArrayVec::new(),
+    };
+    for byte in text.as_bytes() {
+        let _ = name.text.try_push(*byte);
+    }
+    name
+}
+
+/// A session that was reported at this point.
+fn point(
+    alloc: Global,
+    program: &str,
+    printed: &[u8],
+    ending: Ending,
+) -> Result<Point, AllocError> {
+    Ok(Point {
+        name: name(program),
+        printed: Chars {
+            bytes: Vec::from_slice(alloc, printed)?,
+        },
+        ending,
+        steps: 12,
+        fills: 3,
+        spills: 0,
+    })
+}
+
+/// Sessions with each kind of ending, and with all that can stand at the end of what was printed.
+fn points(alloc: Global) -> Result<Vec<Point>, AllocError> {
+    let mut points = Vec::new(alloc);
+    points.push(point(alloc, "A", b"", Ending::Quit(5))?)?;
+    points.push(point(alloc, "A", b"HELLO\n", Ending::Terminated)?)?;
+    points.push(point(alloc, "PROG8888", b"HELLO", Ending::Running)?)?;
+    points.push(point(alloc, "B", b"\n", Ending::Quit(-32768))?)?;
+    points.push(point(alloc, "B", b"\n\nX", Ending::Trapped(Trap::OutputLimit))?)?;
+    points.push(point(alloc, "B", b"", Ending::Trapped(Trap::Mode))?)?;
+    Ok(points)
+}
+
+#[test]
+fn a_report_tells_each_session(rt: HostRuntime) -> Result<(), Fail> {
+    let alloc = rt.alloc();
+    let text = report(alloc, &points(alloc)?, None)?;
+    assert_eq!(rt;
+        text.as_slice(),
+        b"SESSION 1 A BYTES 0
+END 1 QUIT 5
+SESSION 2 A BYTES 6
+HELLO
+END 2 TERMINATED
+SESSION 3 PROG8888 BYTES 5
+HELLO
+END 3 RUNNING
+SESSION 4 B BYTES 1
+
+END 4 QUIT -32768
+SESSION 5 B BYTES 3
+
+
+X
+END 5 TRAP 9 OUTPUT LIMIT
+SESSION 6 B BYTES 0
+END 6 TRAP 10 MODE
+"
+            .as_slice()
+    );
+    Ok(())
+}
+
+#[test]
+fn with_statistics_each_session_has_its_counts(rt: HostRuntime) -> Result<(), Fail> {
+    let alloc = rt.alloc();
+    let mut points = Vec::new(alloc);
+    points.push(point(alloc, "A", b"X", Ending::Quit(0))?)?;
+    points.push(Point {
+        steps: 18446744073709551615,
+        ..point(alloc, "A", b"", Ending::Trapped(Trap::IntegerOverflow))?
+    })?;
+    let text = report(alloc, &points, Some((40, 1)))?;
+    assert_eq!(rt;
+        text.as_slice(),
+        b"SESSION 1 A BYTES 1
+X
+END 1 QUIT 0
+STATS 1 STEPS 12 FILLS 3 SPILLS 0
+SESSION 2 A BYTES 0
+END 2 TRAP 1 INTEGER OVERFLOW
+STATS 2 STEPS 18446744073709551615 FILLS 3 SPILLS 0
+STATS TURNS 40 LOADS 1
+"
+            .as_slice()
+    );
+    assert_eq!(rt;
+        report(alloc, &Vec::new(alloc), None)?.as_slice(),
+        b"".as_slice()
+    );
+    Ok(())
+}
+
+/// The place at which the units below are refused.
+fn place() -> At {
+    At {
+        unit: 2,
+        line: 30,
+        column: 400,
+    }
+}
+
+fn unit(fault: UnitRefusal) -> Refusal {
+    Refusal::Unit {
+        program: name("A"),
+        at: place(),
+        fault,
+    }
+}
+
+fn modules(fault: ModulesRefusal) -> Refusal {
+    Refusal::Modules {
+        program: name("AB"),
+        fault,
+    }
+}
+
+fn file(fault: FileRefusal, byte: u32) -> Refusal {
+    Refusal::File { fault, byte }
+}
+
+fn tells(rt: &impl Abort, alloc: Global, refusal: Refusal, want: &str) -> Result<(), Fail> {
+    let line = refusal_line(alloc, &refusal)?;
+    assert_eq!(rt; line.as_slice(), want.as_bytes());
+    Ok(())
+}
+
+#[test]
+fn a_unit_is_refused_at_its_place(rt: HostRuntime) -> Result<(), Fail> {
+    let alloc = rt.alloc();
+    let cases: [(UnitRefusal, &str); 12] = [
+        (
+            UnitRefusal::BadByte,
+            "REFUSED PROGRAM A UNIT 2 LINE 30 COLUMN 400 BADBYTE\n",
+        ),
+        (
+            UnitRefusal::BadCommand,
+            "REFUSED PROGRAM A UNIT 2 LINE 30 COLUMN 400 BADCOMMAND\n",
+        ),
+        (
+            UnitRefusal::OpenString,
+            "REFUSED PROGRAM A UNIT 2 LINE 30 COLUMN 400 OPENSTRING\n",
+        ),
+        (
+            UnitRefusal::OpenComment,
+            "REFUSED PROGRAM A UNIT 2 LINE 30 COLUMN 400 OPENCOMMENT\n",
+        ),
+        (
+            UnitRefusal::NameTooLong,
+            "REFUSED PROGRAM A UNIT 2 LINE 30 COLUMN 400 NAMETOOLONG\n",
+        ),
+        (
+            UnitRefusal::NumberTooLarge,
+            "REFUSED PROGRAM A UNIT 2 LINE 30 COLUMN 400 NUMBERTOOLARGE\n",
+        ),
+        (
+            UnitRefusal::BadDefine,
+            "REFUSED PROGRAM A UNIT 2 LINE 30 COLUMN 400 BADDEFINE\n",
+        ),
+        (
+            UnitRefusal::TooManyTokens,
+            "REFUSED PROGRAM A UNIT 2 LINE 30 COLUMN 400 TOOMANYTOKENS\n",
+        ),
+        (
+            UnitRefusal::Syntax,
+            "REFUSED PROGRAM A UNIT 2 LINE 30 COLUMN 400 SYNTAX\n",
+        ),
+        (
+            UnitRefusal::TooDeep,
+            "REFUSED PROGRAM A UNIT 2 LINE 30 COLUMN 400 TOODEEP\n",
+        ),
+        (
+            UnitRefusal::Rule(28),
+            "REFUSED PROGRAM A UNIT 2 LINE 30 COLUMN 400 RULE 28\n",
+        ),
+        (
+            UnitRefusal::Limit(5),
+            "REFUSED PROGRAM A UNIT 2 LINE 30 COLUMN 400 LIMIT 5\n",
+        ),
+    ];
+    for (fault, want) in cases {
+        tells(&rt, alloc, unit(fault), want)?;
+    }
+    Ok(())
+}
+
+#[test]
+fn modules_are_refused_by_name(rt: HostRuntime) -> Result<(), Fail> {
+    let alloc = rt.alloc();
+    tells(
+        &rt,
+        alloc,
+        modules(ModulesRefusal::NoMain),
+        "REFUSED PROGRAM AB SEGMENTER NOMAIN\n",
+    )?;
+    tells(
+        &rt,
+        alloc,
+        modules(ModulesRefusal::TwoMains),
+        "REFUSED PROGRAM AB SEGMENTER TWOMAINS\n",
+    )?;
+    tells(
+        &rt,
+        alloc,
+        modules(ModulesRefusal::Doubled(name("P'1"))),
+        "REFUSED PROGRAM AB SEGMENTER DOUBLED P'1\n",
+    )?;
+    tells(
+        &rt,
+        alloc,
+        modules(ModulesRefusal::Unresolved(name("P"))),
+        "REFUSED PROGRAM AB SEGMENTER UNRESOLVED P\n",
+    )?;
+    tells(
+        &rt,
+        alloc,
+        modules(ModulesRefusal::SegmentsFull),
+        "REFUSED PROGRAM AB SEGMENTER SEGMENTSFULL\n",
+    )?;
+    tells(
+        &rt,
+        alloc,
+        modules(ModulesRefusal::EntriesFull(name("ONE"))),
+        "REFUSED PROGRAM AB SEGMENTER ENTRIESFULL ONE\n",
+    )?;
+    tells(
+        &rt,
+        alloc,
+        modules(ModulesRefusal::SegmentFull(name("TWO"))),
+        "REFUSED PROGRAM AB SEGMENTER SEGMENTFULL TWO\n",
+    )
+}
+
+#[test]
+fn jobs_sizes_and_files_are_refused(rt: HostRuntime) -> Result<(), Fail> {
+    let alloc = rt.alloc();
+    tells(
+        &rt,
+        alloc,
+        Refusal::Job {
+            line: 1048577,
+            rule: 13,
+        },
+        "REFUSED JOB LINE 1048577 RULE 13\n",
+    )?;
+    tells(
+        &rt,
+        alloc,
+        Refusal::Stack {
+            session: 0,
+            need: 105,
+            given: 64,
+        },
+        "REFUSED STACK SESSION 1 NEED 105 GIVEN 64\n",
+    )?;
+    tells(
+        &rt,
+        alloc,
+        Refusal::Memory {
+            need: 1090,
+            given: 64,
+        },
+        "REFUSED MEMORY NEED 1090 GIVEN 64\n",
+    )?;
+    tells(
+        &rt,
+        alloc,
+        file(FileRefusal::Truncated, 0),
+        "REFUSED FILE TRUNCATED 0\n",
+    )?;
+    tells(
+        &rt,
+        alloc,
+        file(FileRefusal::Head, 12),
+        "REFUSED FILE HEAD 12\n",
+    )?;
+    tells(
+        &rt,
+        alloc,
+        file(FileRefusal::Segment, 22),
+        "REFUSED FILE SEGMENT 22\n",
+    )?;
+    tells(
+        &rt,
+        alloc,
+        file(FileRefusal::Trailing, 24),
+        "REFUSED FILE TRAILING 24\n",
+    )?;
+    tells(
+        &rt,
+        alloc,
+        file(FileRefusal::Label, 18),
+        "REFUSED FILE LABEL 18\n",
+    )
+}
+
+/// The program of these segments, whose main entry is the first of segment 0.
+fn program(
+    rt: &impl Abort,
+    alloc: Global,
+    segments: &[&[u16]],
+    globals: &[u16],
+) -> Result<Option<Program>, AllocError> {
+    let mut words = Vec::new(alloc);
+    for segment in segments {
+        words.push(Vec::from_slice(alloc, segment)?)?;
+    }
+    let made = Program::new(words, 0, 1, Vec::from_slice(alloc, globals)?);
+    assert!(rt; made.is_ok());
+    Ok(made.ok())
+}
+
+fn lists(
+    rt: &impl Abort,
+    alloc: Global,
+    segments: &[&[u16]],
+    globals: &[u16],
+    want: &str,
+) -> Result<(), Fail> {
+    if let Some(program) = program(rt, alloc, segments, globals)? {
+        assert_eq!(rt; listing(alloc, &program)?.as_slice(), want.as_bytes());
+    }
+    Ok(())
+}
+
+#[test]
+fn a_program_of_one_call(rt: HostRuntime) -> Result<(), Fail> {
+    lists(
+        &rt,
+        rt.alloc(),
+        &[&[0x3002, 0x87ff, 0x0000, 0x0002]],
+        &[],
+        "PROGRAM VERSION 1 SEGMENTS 1 MAIN 0 ENTRY 1 DATA 0
+SEGMENT 0 WORDS 4 ENTRIES 2
+000000 030002 PCAL
+ENTRY 1 LOCAL 000000
+ENTRY 2 GATE TERMINATE
+",
+    )
+}
+
+#[test]
+fn data_segments_and_entries(rt: HostRuntime) -> Result<(), Fail> {
+    lists(
+        &rt,
+        rt.alloc(),
+        &[
+            &[
+                0x3002, 0x3100, 0x88ff, 0x81ff, 0x8201, 0x8100, 0x0001, 0x0005,
+            ],
+            &[0x0000, 0x0000, 0x82ff, 0x0002],
+            &[0x86ff, 0x85ff, 0x84ff, 0x83ff, 0x0004],
+        ],
+        &[65535, 8, 0, 0, 0, 0, 0, 0, 0o123456],
+        "PROGRAM VERSION 1 SEGMENTS 3 MAIN 0 ENTRY 1 DATA 9
+DATA 000000 177777
+DATA 000001 000010
+DATA 000002 000000
+DATA 000003 000000
+DATA 000004 000000
+DATA 000005 000000
+DATA 000006 000000
+DATA 000007 000000
+DATA 000010 123456
+SEGMENT 0 WORDS 8 ENTRIES 5
+000000 030002 PCAL
+000001 030400 EXIT
+ENTRY 1 LOCAL 000001
+ENTRY 2 SEGMENT 0 ENTRY 1
+ENTRY 3 SEGMENT 1 ENTRY 2
+ENTRY 4 GATE PRINT
+ENTRY 5 GATE QUIT
+SEGMENT 1 WORDS 4 ENTRIES 2
+000000 000000 NOP,NOP
+ENTRY 1 GATE READ
+ENTRY 2 LOCAL 000000
+SEGMENT 2 WORDS 5 ENTRIES 4
+ENTRY 1 GATE ASCII
+ENTRY 2 GATE DASCII
+ENTRY 3 GATE BINARY
+ENTRY 4 GATE DBINARY
+",
+    )
+}
+
+/// Words, and behind them a table of one entry.
+static PAGE_WORDS: [u16; 127] = [
+    0o000007, 0o000110, 0o000211, 0o000312, 0o000415, 0o000516, 0o000617, 0o000720, 0o001021,
+    0o001122, 0o001223, 0o001524, 0o001625, 0o001726, 0o002027, 0o002131, 0o002232, 0o002333,
+    0o002434, 0o002535, 0o002636, 0o002737, 0o003140, 0o003241, 0o003342, 0o003443, 0o003544,
+    0o003645, 0o003746, 0o004056, 0o004160, 0o004261, 0o004362, 0o004463, 0o004564, 0o004665,
+    0o005666, 0o006067, 0o006170, 0o006274, 0o006375, 0o006476, 0o006500, 0o006601, 0o006702,
+    0o007003, 0o007404, 0o007505, 0o007606, 0o000000, 0o002000, 0o000020, 0o010001, 0o010102,
+    0o010203, 0o010304, 0o010405, 0o010506, 0o011010, 0o011151, 0o011212, 0o011353, 0o011414,
+    0o011555, 0o011616, 0o011757, 0o012020, 0o012161, 0o012222, 0o020001, 0o020002, 0o020400,
+    0o021003, 0o021406, 0o022011, 0o022414, 0o023017, 0o023422, 0o024025, 0o024430, 0o025033,
+    0o025514, 0o026114, 0o026444, 0o027047, 0o027452, 0o030000, 0o030402, 0o031004, 0o031406,
+    0o032010, 0o032412, 0o033014, 0o033416, 0o034020, 0o034401, 0o035000, 0o035406, 0o036000,
+    0o036400, 0o037001, 0o041005, 0o040007, 0o051411, 0o050004, 0o054004, 0o061001, 0o071002,
+    0o101003, 0o111604, 0o120005, 0o121006, 0o131707, 0o140010, 0o142010, 0o141111, 0o150012,
+    0o151013, 0o160014, 0o161015, 0o171016, 0o170016, 0o001300, 0o037400, 0o020003, 0, 1,
+];
+
+/// Their listing: each stack operation on the left and on the right, each other instruction once, and what is no
+/// instruction.
+const PAGE: &str = "\
+PROGRAM VERSION 1 SEGMENTS 1 MAIN 0 ENTRY 1 DATA 0
+SEGMENT 0 WORDS 127 ENTRIES 1
+000000 000007 NOP,DZRO
+000001 000110 DELB,DCMP
+000002 000211 DDEL,DADD
+000003 000312 ZROX,DSUB
+000004 000415 INCX,DNEG
+000005 000516 DECX,DXCH
+000006 000617 ZERO,CMP
+000007 000720 DZRO,ADD
+000010 001021 DCMP,SUB
+000011 001122 DADD,MPY
+000012 001223 DSUB,DIV
+000013 001524 DNEG,NEG
+000014 001625 DXCH,TEST
+000015 001726 CMP,STBX
+000016 002027 ADD,DTST
+000017 002131 SUB,BTST
+000020 002232 MPY,XCH
+000021 002333 DIV,INCA
+000022 002434 NEG,DECA
+000023 002535 TEST,XAX
+000024 002636 STBX,ADAX
+000025 002737 DTST,ADXA
+000026 003140 BTST,DEL
+000027 003241 XCH,ZROB
+000030 003342 INCA,LDXB
+000031 003443 DECA,STAX
+000032 003544 XAX,LDXA
+000033 003645 ADAX,DUP
+000034 003746 ADXA,DDUP
+000035 004056 DEL,CAB
+000036 004160 ZROB,LCMP
+000037 004261 LDXB,LADD
+000040 004362 STAX,LSUB
+000041 004463 LDXA,LMPY
+000042 004564 DUP,LDIV
+000043 004665 DDUP,NOT
+000044 005666 CAB,OR
+000045 006067 LCMP,XOR
+000046 006170 LADD,AND
+000047 006274 LSUB,INCB
+000050 006375 LMPY,DECB
+000051 006476 LDIV,XBX
+000052 006500 NOT,NOP
+000053 006601 OR,DELB
+000054 006702 XOR,DDEL
+000055 007003 AND,ZROX
+000056 007404 INCB,INCX
+000057 007505 DECB,DECX
+000060 007606 XBX,ZERO
+000061 000000 NOP,NOP
+000062 002000 ADD,NOP
+000063 000020 NOP,ADD
+000064 010001 ASL
+000065 010102 ASR
+000066 010203 LSL
+000067 010304 LSR
+000070 010405 CSL
+000071 010506 CSR
+000072 011010 IABZ
+000073 011151 DABZ
+000074 011212 IXBZ
+000075 011353 DXBZ
+000076 011414 CPRB
+000077 011555 BRO
+000100 011616 BRE
+000101 011757 BCY
+000102 012020 BNCY
+000103 012161 BOV
+000104 012222 BNOV
+000105 020001 SPLT
+000106 020002 JOIN
+000107 020400 LDI
+000110 021003 LDXI
+000111 021406 CMPI
+000112 022011 ADDI
+000113 022414 SUBI
+000114 023017 MPYI
+000115 023422 DIVI
+000116 024025 LDNI
+000117 024430 LDXN
+000120 025033 CMPN
+000121 025514 EXF
+000122 026114 DPF
+000123 026444 ANDI
+000124 027047 ORI
+000125 027452 XORI
+000126 030000 PCAL
+000127 030402 EXIT
+000130 031004 SXIT
+000131 031406 SCAL
+000132 032010 ADXI
+000133 032412 SBXI
+000134 033014 ROOM
+000135 033416 ADDS
+000136 034020 SUBS
+000137 034401 MOVE
+000140 035000 MVB
+000141 035406 MVBW
+000142 036000 SCW
+000143 036400 SCU
+000144 037001 CMPB
+000145 041005 LOAD
+000146 040007 LOAD
+000147 051411 STOR
+000150 050004 TBA
+000151 054004 MTBA
+000152 061001 CMPM
+000153 071002 ADDM
+000154 101003 SUBM
+000155 111604 MPYM
+000156 120005 INCM
+000157 121006 DECM
+000160 131707 LDX
+000161 140010 BR
+000162 142010 BR
+000163 141111 BCC
+000164 150012 LDB
+000165 151013 LDD
+000166 160014 STB
+000167 161015 STD
+000170 171016 LRA
+000171 170016 ILLEGAL
+000172 001300 ILLEGAL
+000173 037400 ILLEGAL
+000174 020003 ILLEGAL
+ENTRY 1 LOCAL 000000
+";
+
+#[test]
+fn each_name_is_listed(rt: HostRuntime) -> Result<(), Fail> {
+    lists(&rt, rt.alloc(), &[&PAGE_WORDS], &[], PAGE)
+}
