@@ -1,0 +1,5 @@
+pub mod ListLemmas
+pub mod LineLemmas
+pub mod WordLemmas
+pub mod OptionLemmas
+pub mod KnownLines
