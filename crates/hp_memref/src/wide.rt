@@ -4,9 +4,9 @@ ghost use Rattle.hp_tos.specs.StackView.{seen};
 ghost use Rattle.hp_rows.specs.Numbers.{uses};
 ghost use Rattle.hp_rows.specs.Performs.{Performs};
 
-use crate::places::{byte_operand, operand, put, read_at, read_byte, write_byte};
+use crate::places::{byte_operand, operand};
 use hp_instr::Mode;
-use hp_rows::{need, push, push_all};
+use hp_rows::{need, push, push_all, put, read_at, read_byte, write_byte};
 use hp_session::Regs;
 use hp_tos::Stack;
 use hp_word::Trap;

@@ -9,9 +9,9 @@ ghost use Rattle.hp_tos.specs.StackView.{seen};
 ghost use Rattle.hp_rows.specs.Numbers.{uses};
 ghost use Rattle.hp_rows.specs.Performs.{Performs};
 
-use crate::places::{operand, read_at, write_at};
+use crate::places::operand;
 use hp_instr::Mode;
-use hp_rows::{delete_coded, need, push, settle};
+use hp_rows::{delete_coded, need, push, read_at, settle, write_at};
 use hp_session::{Place, Regs};
 use hp_tos::Stack;
 use hp_word::{Arith, Trap};

@@ -1,2 +1,3 @@
 pub mod NumberLaws
 mod KnownNumbers
+mod KnownFlushes

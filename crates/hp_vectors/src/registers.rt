@@ -1,10 +1,16 @@
 //! The same step over a stack whose top words may stand in registers, for the instructions that have a call there.
+ghost use Rattle.std.specs.Prelude.{◌≡◌, IsTrue};
+ghost use Rattle.hp_instr.specs.Given.{has_word};
+ghost use Rattle.hp_instr.specs.declared.groups.Group.TheVariants.{Move};
+ghost use Rattle.hp_instr.specs.Groups.{group};
 
 use crate::fields::State;
+use hp_calls::{Called, call_at_once, exit_at_once, scal, sxit};
 use hp_fields::field_op;
 use hp_flat::{CodeStore, Fetched, Program, Regs};
-use hp_instr::{Group, Instr, Op, decode, group_of};
+use hp_instr::{Group, Instr, Op, control, decode, group_of};
 use hp_memref::memory_op;
+use hp_moves::move_op;
 use hp_stackops::stack_op;
 use hp_tos::Stack;
 use hp_word::{Ending, Trap};
@@ -54,7 +60,62 @@ fn pair(left: Op, right: Op, regs: &mut Regs, stack: &mut Stack) -> Result<(), T
     Ok(())
 }
 
-/// What the word at P does; none where there is none, or its instruction has no call over registers.
+/// A call or a return, with its transfer done at once; none where an intrinsic is called.
+fn call(
+    which: u8,
+    n: u8,
+    regs: &mut Regs,
+    stack: &mut Stack,
+    program: &Program,
+) -> Option<Result<(), Trap>> {
+    match which {
+        control::PCAL => match call_at_once(n, regs, stack, program) {
+            Ok(Called::Gate(_)) => None,
+            Ok(Called::Went(_)) => Some(Ok(())),
+            Err(trap) => Some(Err(trap)),
+        },
+        control::EXIT => {
+            let segments = (program.segments.len() % 256) as u8;
+            match exit_at_once(n, segments, regs, stack, program) {
+                Ok(_) => Some(Ok(())),
+                Err(trap) => Some(Err(trap)),
+            }
+        }
+        control::SXIT => Some(sxit(n, regs, stack)),
+        _ => Some(scal(n, regs, stack, program)),
+    }
+}
+
+/// One step of a move.
+fn move_on(i: Instr, regs: &mut Regs, stack: &mut Stack, program: &Program) -> Result<(), Trap>
+    requires { group i ≡ Move }
+{
+    move_op(i, regs, stack, program)?;
+    Ok(())
+}
+/// What an instruction does that is no pair; none where it has no call over registers.
+fn whole_word(
+    instruction: Instr,
+    regs: &mut Regs,
+    stack: &mut Stack,
+    program: &Program,
+) -> Option<Result<(), Trap>>
+    requires { IsTrue (has_word instruction) }
+{
+    match group_of(instruction) {
+        Group::Field => Some(field_op(instruction, regs, stack)),
+        Group::Reference => Some(memory_op(instruction, regs, stack, program)),
+        Group::Move => Some(move_on(instruction, regs, stack, program)),
+        Group::Call => match instruction {
+            Instr::Control { which, n } => call(which, n, regs, stack, program),
+            _ => None,
+        },
+        Group::Stack | Group::Illegal => None,
+    }
+}
+
+/// What the word at P does; none where there is none, or its instruction has no call over registers. A word that is no pair
+/// clears R first; a trap leaves it.
 fn perform(regs: &mut Regs, stack: &mut Stack, program: &Program) -> Option<Result<(), Trap>> {
     let Fetched::Word(word) = program.fetch(regs.seg, regs.p) else {
         return None;
@@ -63,11 +124,13 @@ fn perform(regs: &mut Regs, stack: &mut Stack, program: &Program) -> Option<Resu
     if let Instr::Pair { left, right } = instruction {
         return Some(pair(left, right, regs, stack));
     }
-    match group_of(instruction) {
-        Group::Field => Some(field_op(instruction, regs, stack)),
-        Group::Reference => Some(memory_op(instruction, regs, stack, program)),
-        _ => None,
+    let right = regs.right;
+    regs.right = false;
+    let answer = whole_word(instruction, regs, stack, program);
+    if !matches!(answer, Some(Ok(()))) {
+        regs.right = right;
     }
+    answer
 }
 
 /// The ending of a session that ran, by what its step answered.

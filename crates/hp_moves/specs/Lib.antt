@@ -1,0 +1,2 @@
+pub mod MoveUses
+pub mod MoveSteps

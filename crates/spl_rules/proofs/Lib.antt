@@ -1,0 +1,5 @@
+mod Here
+mod Cases
+mod NameTests
+mod Gathered
+mod Listed
