@@ -4,6 +4,8 @@
 mod data;
 mod equates;
 mod name_lists;
+#[cfg(test)]
+mod tests;
 
 pub use data::{arrays, items, pointers};
 pub use equates::equals;

@@ -1,0 +1,5 @@
+pub mod CloseReaders
+pub mod CloseOperands
+pub mod CloseExpressions
+pub mod PartChains
+pub mod PartVerdictLaws
