@@ -1,5 +1,5 @@
 -- A function value that reads operands, where fewer than so many constructs may be opened.
-use Rattle.std.specs.Prelude.{ℕ, zero, suc, ◌≤◌, ◌<◌, Bool, true, false, Option, Some, None, List, Result}
+use Rattle.std.specs.Prelude.{ℕ, zero, suc, ◌≤◌, ◌<◌, Bool, true, false, Option, None, List, Result}
 use Rattle.std.specs.declared.alloc.Global.{Global}
 use denote.Ref.{MutBor}
 use Rattle.spl_tree.specs.declared.names_and_places.At.{At}
@@ -15,11 +15,15 @@ use Rattle.spl_tokens.specs.Reads.{Reads}
 use Rattle.spl_expr.specs.Parts.{operand}
 
 pub record Nests (bound : ℕ) (pre : Global → MutBor (List Lexeme) → ℕ → ℕ → Option At → Type 0)
-    (post : Global → MutBor (List Lexeme) → ℕ → ℕ → Option At → Result Part Fault → MutBor (List Lexeme) → Type 0) : Type 0 where
-  pub callable : (alloc : Global) (old : MutBor (List Lexeme)) (room taken : ℕ) (minus : Option At) → room < bound → taken ≤ room
+    (post : Global → MutBor (List Lexeme) → ℕ → ℕ → Option At → Result Part Fault → MutBor (List Lexeme)
+    → Type 0) : Type 0 where
+  pub callable : (alloc : Global) (old : MutBor (List Lexeme)) (room taken : ℕ) (minus : Option At) → room < bound
+      → taken ≤ room
       → pre alloc old room taken minus
-  pub reads : (alloc : Global) (old new : MutBor (List Lexeme)) (room taken : ℕ) (minus : Option At) (result : Result Part Fault)
-      → room < bound → post alloc old room taken minus result new → Reads operand (r.unary room taken minus old.now) result new.now
+  pub reads : (alloc : Global) (old new : MutBor (List Lexeme)) (room taken : ℕ) (minus : Option At)
+      (result : Result Part Fault)
+      → room < bound → post alloc old room taken minus result new
+      → Reads operand (r.unary room taken minus old.now) result new.now
 
 -- the operand behind a NOT, with which one more construct is open
 abbrev pub inner : ℕ → ℕ → Parser r.Found
@@ -37,19 +41,23 @@ level c room taken height count minus = r.level (r.unary room) (counted_bytes c 
 
 -- what goes on with a part of the level above this one
 abbrev pub turn : Bool → ℕ → ℕ → ℕ → At → r.Found → Parser (Bool × r.Found)
-turn c room taken height at = r.turn (r.unary room) (counted_bytes c room) room c taken (level c room taken height) height at
+turn c room taken height at = r.turn (r.unary room) (counted_bytes c room) room c taken
+    (level c room taken height) height at
 
 -- the first operand of the level above this one
 abbrev pub first : Bool → ℕ → ℕ → ℕ → ℕ → Option At → Parser r.Found
-first c room taken height count minus = r.first (r.unary room) (counted_bytes c room) room c taken (level c room taken height) height count minus
+first c room taken height count minus = r.first (r.unary room) (counted_bytes c room) room c taken
+    (level c room taken height) height count minus
 
 -- the term behind a sign
 abbrev pub term : Bool → ℕ → ℕ → ℕ → ℕ → Lexeme → Parser r.Found
-term c room taken height count sign = by_symbol (r.signed_by_next (r.unary room) (counted_bytes c room) room c taken (level c room taken height) count sign)
+term c room taken height count sign = by_symbol (r.signed_by_next (r.unary room) (counted_bytes c room) room c taken
+    (level c room taken height) count sign)
 
 -- an operator and its right operand
 abbrev pub join : Bool → ℕ → ℕ → ℕ → At → r.Found → Parser (Bool × r.Found)
-join c room taken height at f = r.join (r.unary room) (counted_bytes c room) room c taken (level c room taken height) height at f
+join c room taken height at f = r.join (r.unary room) (counted_bytes c room) room c taken
+    (level c room taken height) height at f
 
 -- the number of bytes behind a comparison
 abbrev pub bytes : ℕ → ℕ → r.Found → Parser (Bool × r.Found)

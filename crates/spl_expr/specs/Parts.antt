@@ -1,5 +1,5 @@
 -- Parts that were read, as the grammar's readings have them.
-use Rattle.std.specs.Prelude.{ℕ, ◌+◌, List, [], map, Vec}
+use Rattle.std.specs.Prelude.{◌+◌, List, map, Vec}
 use Rattle.std.specs.declared.alloc.Global.{Global}
 use Rattle.spl_tree.specs.declared.expressions.Expr.{Expr}
 use Rattle.spl_tree.specs.Operators.{Form, reference, comparison, other}

@@ -2,7 +2,7 @@
 ghost use Rattle.std.specs.Prelude.{◌≡◌, ◌<◌, ◌≤◌, false, true, map, vec_len};
 ghost use Rattle.spl_tree.specs.Symbols.{lexeme_of};
 ghost use Rattle.spl_grammar.specs.Ends.{Ended};
-ghost use Rattle.spl_expr.specs.Answers.{Answers, answer_at};
+ghost use Rattle.spl_expr.specs.Answers.{Answers, Exact, answer_at};
 
 use crate::expressions::{condition_within, expression_within};
 use spl_tokens::{Fault, ParseFault, Tokens};
@@ -37,7 +37,8 @@ pub fn expression(
     requires ended { Ended (map lexeme_of tokens.now.items) }
     requires inside { from < vec_len tokens.now }
     requires shallow { depth ≤ 64 }
-    ensures { Answers false (map lexeme_of tokens.now.items) from depth result }
+    ensures answers { Answers false (map lexeme_of tokens.now.items) from depth result }
+    ensures exact { Exact false (map lexeme_of tokens.now.items) from depth result }
 {
     let mut cursor = Tokens::new(&tokens[from..]);
     let read = expression_within(alloc, &mut cursor, LIMIT - depth);
@@ -56,7 +57,8 @@ pub fn condition(
     requires ended { Ended (map lexeme_of tokens.now.items) }
     requires inside { from < vec_len tokens.now }
     requires shallow { depth ≤ 64 }
-    ensures { Answers true (map lexeme_of tokens.now.items) from depth result }
+    ensures answers { Answers true (map lexeme_of tokens.now.items) from depth result }
+    ensures exact { Exact true (map lexeme_of tokens.now.items) from depth result }
 {
     let mut cursor = Tokens::new(&tokens[from..]);
     let read = condition_within(alloc, &mut cursor, LIMIT - depth);

@@ -7,6 +7,8 @@ mod expressions;
 mod levels;
 mod operands;
 mod parts;
+#[cfg(test)]
+mod tests;
 
 pub use calls::{condition, expression};
 pub use expressions::{arguments_within, condition_within, enclosed_within, expression_within};

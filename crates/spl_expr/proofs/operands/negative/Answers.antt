@@ -1,4 +1,3 @@
-use Rattle.std.proofs.Common.{◌≡◌}
 use Rattle.spl_grammar.specs.Readers.{pure}
 use Rattle.spl_grammar.specs.ReadExpressions.{negative_by}
 use Rattle.spl_expr.specs.Parts.{operand}
@@ -10,9 +9,11 @@ use Rattle.spl_expr.proofs.operands.negative.Goals as goal
 pub returns-in_ok-take-in-Number : goal.returns-in_ok-take-in-Number
 unfolding pure negative_by operand
 returns-in_ok-take-in-Number c =
-    rw (by_peek _ _ _ _ c.in_ok-value.ensures, c.in-Number.is, goes_on _ _ _ _ _ c.in_ok-take-in-Number.ensures.read) (cc (number_tree c.negated_word.result, c.negated_word.ensures))
+    rw (by_peek _ _ _ _ c.in_ok-value.ensures, c.in-Number.is, goes_on _ _ _ _ _ c.in_ok-take-in-Number.ensures.read)
+    (cc (number_tree c.negated_word.result, c.negated_word.ensures))
 
 pub returns-in_ok-take-in-Wide : goal.returns-in_ok-take-in-Wide
 unfolding pure negative_by operand
 returns-in_ok-take-in-Wide c =
-    rw (by_peek _ _ _ _ c.in_ok-value.ensures, c.in-Wide.is, goes_on _ _ _ _ _ c.in_ok-take-in-Wide.ensures.read) (cc (wide_tree c.negated_double.result, c.negated_double.ensures))
+    rw (by_peek _ _ _ _ c.in_ok-value.ensures, c.in-Wide.is, goes_on _ _ _ _ _ c.in_ok-take-in-Wide.ensures.read)
+    (cc (wide_tree c.negated_double.result, c.negated_double.ensures))

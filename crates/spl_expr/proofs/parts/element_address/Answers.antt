@@ -11,4 +11,5 @@ use Rattle.spl_expr.proofs.parts.element_address.Goals as goal
 pub returns : goal.returns
 unfolding operand
 returns c = let v : c.in_ok-index.index.value ≡ c.args.index = search rules in ap (λ t. plain operators.other t)
-    (element_tree c.args.name c.in_ok-index.index c.args.at ∙ ap (λ x. tree.Tree.address (letters c.args.name) (tree.trees (expression x ∷ [])) c.args.at) v)
+    (element_tree c.args.name c.in_ok-index.index c.args.at
+    ∙ ap (λ x. tree.Tree.address (letters c.args.name) (tree.trees (expression x ∷ [])) c.args.at) v)

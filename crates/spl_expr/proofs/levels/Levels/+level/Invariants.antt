@@ -1,4 +1,4 @@
-use Rattle.std.proofs.Common.{ℕ, ◌≡◌, ◌+◌, ◌-◌, ◌*◌, ◌/◌, ◌≤◌, Bool, if◌then◌else◌, length}
+use Rattle.std.proofs.Common.{ℕ, ◌≡◌, ◌+◌, ◌-◌, ◌*◌, ◌/◌, ◌≤◌, Bool, if◌then◌else◌}
 use Rattle.spl_grammar.specs.Readers.{turns, repeat}
 use Rattle.spl_expr.specs.Parts.{found}
 use Rattle.spl_expr.specs.Nests.{turn}
@@ -38,7 +38,8 @@ decreases-whole g l = 90 + weight l.self.now.condition
 -- the turns that are left read the rest
 abbrev pub invariant-rest-loop-turn : goal.invariant-rest-loop-turn
 invariant-rest-loop-turn g l = record {
-  rest : turns (turn l.self.condition l.self.room l.self.taken l.height l.at) (l._turn-end - l._turn) (found l.of) l.tokens
+  rest : turns (turn l.self.condition l.self.room l.self.taken l.height l.at) (l._turn-end - l._turn)
+      (found l.of) l.tokens
       ≡ repeat (turn l.self.condition l.self.room l.self.taken l.height l.at) (found l.initial.of) l.initial.tokens;
   room : l.self.taken + l.of.count / 8 ≤ l.self.room;
 }

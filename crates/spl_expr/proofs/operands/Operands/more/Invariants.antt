@@ -6,5 +6,6 @@ use Rattle.spl_expr.proofs.operands.Operands.more.Given as goal
 
 -- the turns that are left read the rest
 abbrev pub invariant-loop-turn : goal.invariant-loop-turn
-invariant-loop-turn g l = turns (more_arguments l.self.room l.taken) (l._turn-end - l._turn) (expressions l.args) l.tokens
+invariant-loop-turn g l = turns (more_arguments l.self.room l.taken) (l._turn-end - l._turn)
+    (expressions l.args) l.tokens
     ≡ repeat (more_arguments l.self.room l.taken) (expressions l.initial.args) l.initial.tokens

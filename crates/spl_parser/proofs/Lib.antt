@@ -1,0 +1,4 @@
+pub mod OptionLemmas
+pub mod ParseLemmas
+pub mod TreeLemmas
+pub mod SpecLemmas

@@ -1,0 +1,4 @@
+pub mod Headings
+pub mod Nests
+pub mod UnitParts
+pub mod Answers

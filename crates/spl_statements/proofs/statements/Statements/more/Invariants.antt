@@ -1,0 +1,12 @@
+use Rattle.std.proofs.Common.{◌≡◌, ◌-◌}
+use Rattle.spl_grammar.specs.Readers.{turns, repeat}
+use Rattle.spl_grammar.specs.ReadStatements.{more_statements}
+use Rattle.spl_statements.specs.References.{statements}
+use Rattle.spl_statements.specs.Nests.{inner}
+use Rattle.spl_statements.proofs.statements.Statements.more.Given as goal
+
+-- the turns that are left read the rest
+abbrev pub invariant-loop-turn : goal.invariant-loop-turn
+invariant-loop-turn g l = turns (more_statements (inner l.self.room)) (l._turn-end - l._turn)
+    (statements l.read) l.tokens
+    ≡ repeat (more_statements (inner l.self.room)) (statements l.initial.read) l.initial.tokens

@@ -1,0 +1,394 @@
+//! Statements. The rule that reads the statement inside another is a parameter, so that each rule is proved by itself.
+ghost use Rattle.std.specs.Prelude.{◌≡◌, ◌<◌, ◌≤◌, ◌-◌, [], ◌∷◌, IsTrue, length};
+ghost use Rattle.spl_tree.specs.declared.symbols.Symbol.{Symbol};
+ghost use Rattle.spl_tree.specs.Trees as tree;
+ghost use Rattle.spl_tree.specs.StatementTrees as stat;
+ghost use Rattle.spl_tree.specs.Views as view;
+ghost use Rattle.spl_grammar.specs.Readers as readers;
+ghost use Rattle.spl_grammar.specs.ReadStatements as spec;
+ghost use Rattle.spl_expr.specs.Parts.{expressions};
+ghost use Rattle.spl_tokens.specs.Reads.{Reads, lexeme, paired};
+ghost use Rattle.spl_statements.specs.References.{behind, statements};
+ghost use Rattle.spl_statements.specs.Nests.{Nests};
+ghost use Rattle.spl_statements.specs.Nests as nests;
+
+use crate::assignments::{assigned, behind_reference};
+use crate::effects::{effect, test};
+use crate::references::{element, variable};
+use crate::trees::{
+    Values, block, call, case_of, done, empty, for_values, go_to, if_else, if_then, labelled,
+    returned, until_true, while_true,
+};
+use spl_expr::{arguments_within, condition_within, enter, expression_within};
+use spl_tokens::{Fault, Tokens, name, same};
+use spl_tree::{Expr, Reserved, Stmt, Symbol, Target, Test, Token};
+use std::alloc::Global;
+
+/// The rules of statements, where so many constructs may be opened.
+#[derive(Clone, Copy)]
+pub struct Statements<F> {
+    pub alloc: Global,
+    pub room: u8,
+    /// Reads a statement inside.
+    pub statement: F,
+}
+
+/// A step, where there is one.
+#[tactic(auto, using(spl_tokens::proofs::Steps::steps), unfolding(spl_grammar::specs::Readers::pure, spl_grammar::specs::Readers::refuse, spl_grammar::specs::Readers::followed, spl_grammar::specs::Readers::and_then, spl_grammar::specs::ReadStatements::stepped))]
+fn stepped(alloc: Global, tokens: &mut Tokens<'_>, room: u8) -> Result<Option<Expr>, Fault>
+    ensures { Reads view.optional (spec.stepped room tokens.old) result tokens.new }
+{
+    if same(tokens.peek()?, Symbol::Word(Reserved::Step)) {
+        tokens.take()?;
+        Ok(Some(expression_within(alloc, tokens, room)?))
+    } else {
+        Ok(None)
+    }
+}
+
+/// The label behind GO, GO TO or GOTO.
+#[tactic(auto, using(spl_tokens::proofs::Steps::steps), unfolding(spl_grammar::specs::Readers::pure, spl_grammar::specs::Readers::refuse, spl_grammar::specs::Readers::followed, spl_grammar::specs::Readers::and_then, spl_grammar::specs::ReadStatements::go_name))]
+fn go_name(tokens: &mut Tokens<'_>, go: &Token) -> Result<Stmt, Fault>
+    ensures { Reads view.statement (spec.go_name (lexeme go.now) tokens.old) result tokens.new }
+{
+    let token = tokens.expect(Symbol::Name)?;
+    Ok(go_to(name(token), go.at))
+}
+
+/// A call by a name and its arguments, or an assignment to an element.
+#[tactic(auto, using(spl_tokens::proofs::Steps::steps), unfolding(spl_grammar::specs::Readers::pure, spl_grammar::specs::Readers::refuse, spl_grammar::specs::Readers::followed, spl_grammar::specs::Readers::and_then))]
+fn with_one(
+    alloc: Global,
+    tokens: &mut Tokens<'_>,
+    room: u8,
+    token: &Token,
+    args: Vec<Expr>,
+) -> Result<Stmt, Fault>
+    requires name { (lexeme token.now).symbol ≡ Symbol.Name }
+    ensures { Reads view.statement (nests.with_one room (lexeme token.now) (expressions args) tokens.old) result tokens.new }
+{
+    let mut args = args;
+    let name = name(token);
+    let at = token.at;
+    if args.len() != 1 {
+        return Ok(call(name, args, at));
+    }
+    match args.pop() {
+        None => Ok(call(name, args, at)),
+        Some(only) => {
+            let reference = element(alloc, name, only, at)?;
+            behind_reference(alloc, tokens, room, reference)
+        }
+    }
+}
+
+impl<F: Fn(Global, &mut Tokens<'_>, u8) -> Result<Stmt, Fault> + Copy> Statements<F> {
+    /// The statement inside.
+    #[tactic(auto, using(crate::proofs::NestLemmas::inner_is))]
+    fn inside(&self, tokens: &mut Tokens<'_>) -> Result<Stmt, Fault>
+        requires nests { Nests self.now.room (F.pre self.now.statement) (F.post self.now.statement) }
+        requires room { 0 < self.now.room }
+        ensures { Reads view.statement (nests.inner self.now.room tokens.old) result tokens.new }
+    {
+        (self.statement)(self.alloc, tokens, self.room - 1)
+    }
+
+    /// A further statement, and whether another may follow.
+    #[tactic(auto, using(spl_tokens::proofs::Steps::steps, spl_tokens::proofs::Steps::pushed), unfolding(spl_grammar::specs::Readers::pure, spl_grammar::specs::Readers::refuse, spl_grammar::specs::Readers::followed, spl_grammar::specs::Readers::and_then, spl_grammar::specs::ReadStatements::more_statements))]
+    fn further(&self, tokens: &mut Tokens<'_>, read: Vec<Stmt>) -> Result<(bool, Vec<Stmt>), Fault>
+        requires nests { Nests self.now.room (F.pre self.now.statement) (F.post self.now.statement) }
+        requires room { 0 < self.now.room }
+        ensures { Reads (paired statements) (spec.more_statements (nests.inner self.now.room) (statements read) tokens.old) result tokens.new }
+    {
+        let mut read = read;
+        if same(tokens.peek()?, Symbol::Semicolon) {
+            tokens.take()?;
+            read.push(self.inside(tokens)?)?;
+            Ok((true, read))
+        } else {
+            Ok((false, read))
+        }
+    }
+
+    /// The further statements.
+    #[tactic(auto, using(spl_tokens::proofs::Steps::steps, spl_tokens::proofs::Turns::loops), unfolding(spl_grammar::specs::Readers::pure, spl_grammar::specs::Readers::refuse, spl_grammar::specs::Readers::followed, spl_grammar::specs::Readers::and_then))]
+    fn more(&self, tokens: &mut Tokens<'_>, read: Vec<Stmt>) -> Result<Vec<Stmt>, Fault>
+        requires nests { Nests self.now.room (F.pre self.now.statement) (F.post self.now.statement) }
+        requires room { 0 < self.now.room }
+        ensures { Reads statements (readers.repeat (spec.more_statements (nests.inner self.now.room)) (statements read) tokens.old) result tokens.new }
+    {
+        let mut read = read;
+        for _turn in 0..tokens.left() + 1 {
+            let (more, next) = self.further(tokens, read)?;
+            if !more {
+                return Ok(next);
+            }
+            read = next;
+        }
+        Err(Fault::Syntax)
+    }
+
+    /// Statements.
+    #[tactic(auto, using(spl_tokens::proofs::Steps::steps), unfolding(spl_grammar::specs::Readers::pure, spl_grammar::specs::Readers::refuse, spl_grammar::specs::Readers::followed, spl_grammar::specs::Readers::and_then, spl_grammar::specs::ReadStatements::statement_list))]
+    pub fn list(&self, tokens: &mut Tokens<'_>) -> Result<Vec<Stmt>, Fault>
+        requires nests { Nests self.now.room (F.pre self.now.statement) (F.post self.now.statement) }
+        requires room { 0 < self.now.room }
+        ensures { Reads statements (spec.statement_list (nests.inner self.now.room) tokens.old) result tokens.new }
+    {
+        let first = self.inside(tokens)?;
+        self.more(tokens, vec![in self.alloc; first]?)
+    }
+
+    /// A statement behind its label, from the colon on.
+    #[tactic(auto, using(spl_tokens::proofs::Steps::steps), unfolding(spl_grammar::specs::Readers::pure, spl_grammar::specs::Readers::refuse, spl_grammar::specs::Readers::followed, spl_grammar::specs::Readers::and_then, spl_grammar::specs::ReadStatements::labelled))]
+    fn labelled(&self, tokens: &mut Tokens<'_>, token: &Token) -> Result<Stmt, Fault>
+        requires nests { Nests self.now.room (F.pre self.now.statement) (F.post self.now.statement) }
+        requires name { (lexeme token.now).symbol ≡ Symbol.Name }
+        ensures { Reads view.statement (nests.labelled self.now.room (lexeme token.now) tokens.old) result tokens.new }
+    {
+        enter(tokens, self.room, 0)?;
+        let body = self.inside(tokens)?;
+        Ok(labelled(self.alloc, name(token), token.at, body)?)
+    }
+
+    /// A statement that begins with a name and a parenthesis.
+    #[tactic(auto, using(spl_tokens::proofs::Steps::steps), unfolding(spl_grammar::specs::Readers::pure, spl_grammar::specs::Readers::refuse, spl_grammar::specs::Readers::followed, spl_grammar::specs::Readers::and_then, spl_grammar::specs::ReadStatements::with_arguments))]
+    fn with_arguments(&self, tokens: &mut Tokens<'_>, token: &Token) -> Result<Stmt, Fault>
+        requires name { (lexeme token.now).symbol ≡ Symbol.Name }
+        ensures { Reads view.statement (nests.with_arguments self.now.room (lexeme token.now) tokens.old) result tokens.new }
+    {
+        let args = arguments_within(self.alloc, tokens, self.room)?;
+        with_one(self.alloc, tokens, self.room, token, args)
+    }
+
+    /// A statement that begins with a name.
+    #[tactic(auto, using(spl_tokens::proofs::Steps::steps), unfolding(spl_grammar::specs::Readers::pure, spl_grammar::specs::Readers::refuse, spl_grammar::specs::Readers::followed, spl_grammar::specs::Readers::and_then, spl_grammar::specs::ReadStatements::named_statement))]
+    fn named(&self, tokens: &mut Tokens<'_>, token: &Token) -> Result<Stmt, Fault>
+        requires nests { Nests self.now.room (F.pre self.now.statement) (F.post self.now.statement) }
+        requires name { (lexeme token.now).symbol ≡ Symbol.Name }
+        ensures { Reads view.statement (nests.named self.now.room (lexeme token.now) tokens.old) result tokens.new }
+    {
+        let next = tokens.peek()?;
+        if same(next, Symbol::Colon) {
+            self.labelled(tokens, token)
+        } else if same(next, Symbol::Open) {
+            self.with_arguments(tokens, token)
+        } else {
+            let reference = variable(name(token), token.at);
+            behind_reference(self.alloc, tokens, self.room, reference)
+        }
+    }
+
+    /// An assignment to the cell of a pointer.
+    #[tactic(auto, using(spl_tokens::proofs::Steps::steps), unfolding(spl_grammar::specs::Readers::pure, spl_grammar::specs::Readers::refuse, spl_grammar::specs::Readers::followed, spl_grammar::specs::Readers::and_then, spl_grammar::specs::ReadStatements::address_assigned))]
+    fn address_assigned(&self, tokens: &mut Tokens<'_>) -> Result<Stmt, Fault>
+        ensures { Reads view.statement (nests.address_assigned self.now.room tokens.old) result tokens.new }
+    {
+        let at = tokens.take()?.at;
+        let token = tokens.expect(Symbol::Name)?;
+        assigned(
+            self.alloc,
+            tokens,
+            self.room,
+            Target::Address(name(token), at),
+            at,
+        )
+    }
+
+    /// Statements between BEGIN and END.
+    #[tactic(auto, using(spl_tokens::proofs::Steps::steps), unfolding(spl_grammar::specs::Readers::pure, spl_grammar::specs::Readers::refuse, spl_grammar::specs::Readers::followed, spl_grammar::specs::Readers::and_then, spl_grammar::specs::ReadStatements::block))]
+    fn block(&self, tokens: &mut Tokens<'_>) -> Result<Stmt, Fault>
+        requires nests { Nests self.now.room (F.pre self.now.statement) (F.post self.now.statement) }
+        ensures { Reads view.statement (nests.block self.now.room tokens.old) result tokens.new }
+    {
+        enter(tokens, self.room, 0)?;
+        let inside = self.list(tokens)?;
+        tokens.expect(Symbol::Word(Reserved::End))?;
+        Ok(block(inside))
+    }
+
+    /// An IF behind the statement of its THEN.
+    #[tactic(auto, using(spl_tokens::proofs::Steps::steps), unfolding(spl_grammar::specs::Readers::pure, spl_grammar::specs::Readers::refuse, spl_grammar::specs::Readers::followed, spl_grammar::specs::Readers::and_then, spl_grammar::specs::ReadStatements::else_behind))]
+    fn else_behind(
+        &self,
+        tokens: &mut Tokens<'_>,
+        token: &Token,
+        test: Test,
+        yes: Stmt,
+    ) -> Result<Stmt, Fault>
+        requires nests { Nests self.now.room (F.pre self.now.statement) (F.post self.now.statement) }
+        requires room { 0 < self.now.room }
+        ensures { Reads view.statement (nests.else_behind self.now.room (lexeme token.now) (view.test_tree test) (view.statement yes) tokens.old) result tokens.new }
+    {
+        let at = token.at;
+        if same(tokens.peek()?, Symbol::Word(Reserved::Else)) {
+            tokens.take()?;
+            let no = self.inside(tokens)?;
+            Ok(if_else(self.alloc, test, yes, no, at)?)
+        } else {
+            Ok(if_then(self.alloc, test, yes, at)?)
+        }
+    }
+
+    /// IF.
+    #[tactic(auto, using(spl_tokens::proofs::Steps::steps, crate::proofs::NestLemmas::below_is), unfolding(spl_grammar::specs::Readers::pure, spl_grammar::specs::Readers::refuse, spl_grammar::specs::Readers::followed, spl_grammar::specs::Readers::and_then, spl_grammar::specs::ReadStatements::if_statement))]
+    fn if_statement(&self, tokens: &mut Tokens<'_>) -> Result<Stmt, Fault>
+        requires nests { Nests self.now.room (F.pre self.now.statement) (F.post self.now.statement) }
+        ensures { Reads view.statement (nests.if_statement self.now.room tokens.old) result tokens.new }
+    {
+        let token = enter(tokens, self.room, 0)?;
+        let test = test(self.alloc, tokens, self.room - 1)?;
+        tokens.expect(Symbol::Word(Reserved::Then))?;
+        let yes = self.inside(tokens)?;
+        self.else_behind(tokens, token, test, yes)
+    }
+
+    /// WHILE.
+    #[tactic(auto, using(spl_tokens::proofs::Steps::steps, crate::proofs::NestLemmas::below_is), unfolding(spl_grammar::specs::Readers::pure, spl_grammar::specs::Readers::refuse, spl_grammar::specs::Readers::followed, spl_grammar::specs::Readers::and_then, spl_grammar::specs::ReadStatements::while_statement))]
+    fn while_statement(&self, tokens: &mut Tokens<'_>) -> Result<Stmt, Fault>
+        requires nests { Nests self.now.room (F.pre self.now.statement) (F.post self.now.statement) }
+        ensures { Reads view.statement (nests.while_statement self.now.room tokens.old) result tokens.new }
+    {
+        let at = enter(tokens, self.room, 0)?.at;
+        let test = condition_within(self.alloc, tokens, self.room - 1)?;
+        tokens.expect(Symbol::Word(Reserved::Do))?;
+        let body = self.inside(tokens)?;
+        Ok(while_true(self.alloc, test, body, at)?)
+    }
+
+    /// DO and UNTIL.
+    #[tactic(auto, using(spl_tokens::proofs::Steps::steps, crate::proofs::NestLemmas::below_is), unfolding(spl_grammar::specs::Readers::pure, spl_grammar::specs::Readers::refuse, spl_grammar::specs::Readers::followed, spl_grammar::specs::Readers::and_then, spl_grammar::specs::ReadStatements::do_statement))]
+    fn do_statement(&self, tokens: &mut Tokens<'_>) -> Result<Stmt, Fault>
+        requires nests { Nests self.now.room (F.pre self.now.statement) (F.post self.now.statement) }
+        ensures { Reads view.statement (nests.do_statement self.now.room tokens.old) result tokens.new }
+    {
+        let at = enter(tokens, self.room, 0)?.at;
+        let body = self.inside(tokens)?;
+        tokens.expect(Symbol::Word(Reserved::Until))?;
+        let test = condition_within(self.alloc, tokens, self.room - 1)?;
+        Ok(until_true(self.alloc, body, test, at)?)
+    }
+
+    /// FOR.
+    #[tactic(auto, using(spl_tokens::proofs::Steps::steps, crate::proofs::NestLemmas::below_is), unfolding(spl_grammar::specs::Readers::pure, spl_grammar::specs::Readers::refuse, spl_grammar::specs::Readers::followed, spl_grammar::specs::Readers::and_then, spl_grammar::specs::ReadStatements::for_statement))]
+    fn for_statement(&self, tokens: &mut Tokens<'_>) -> Result<Stmt, Fault>
+        requires nests { Nests self.now.room (F.pre self.now.statement) (F.post self.now.statement) }
+        ensures { Reads view.statement (nests.for_statement self.now.room tokens.old) result tokens.new }
+    {
+        let at = enter(tokens, self.room, 0)?.at;
+        let token = tokens.expect(Symbol::Name)?;
+        tokens.expect(Symbol::Assign)?;
+        let first = expression_within(self.alloc, tokens, self.room - 1)?;
+        let step = stepped(self.alloc, tokens, self.room - 1)?;
+        tokens.expect(Symbol::Word(Reserved::Until))?;
+        let last = expression_within(self.alloc, tokens, self.room - 1)?;
+        tokens.expect(Symbol::Word(Reserved::Do))?;
+        let body = self.inside(tokens)?;
+        let values = Values { first, step, last };
+        Ok(for_values(self.alloc, name(token), values, body, at)?)
+    }
+
+    /// CASE.
+    #[tactic(auto, using(spl_tokens::proofs::Steps::steps, crate::proofs::NestLemmas::below_is), unfolding(spl_grammar::specs::Readers::pure, spl_grammar::specs::Readers::refuse, spl_grammar::specs::Readers::followed, spl_grammar::specs::Readers::and_then, spl_grammar::specs::ReadStatements::case_statement))]
+    fn case_statement(&self, tokens: &mut Tokens<'_>) -> Result<Stmt, Fault>
+        requires nests { Nests self.now.room (F.pre self.now.statement) (F.post self.now.statement) }
+        ensures { Reads view.statement (nests.case_statement self.now.room tokens.old) result tokens.new }
+    {
+        let at = enter(tokens, self.room, 0)?.at;
+        let of = expression_within(self.alloc, tokens, self.room - 1)?;
+        tokens.expect(Symbol::Word(Reserved::Of))?;
+        tokens.expect(Symbol::Word(Reserved::Begin))?;
+        let arms = self.list(tokens)?;
+        tokens.expect(Symbol::Word(Reserved::End))?;
+        Ok(case_of(of, arms, at))
+    }
+
+    /// GO or GO TO.
+    #[tactic(auto, using(spl_tokens::proofs::Steps::steps), unfolding(spl_grammar::specs::Readers::pure, spl_grammar::specs::Readers::refuse, spl_grammar::specs::Readers::followed, spl_grammar::specs::Readers::and_then, spl_grammar::specs::ReadStatements::go_statement))]
+    fn go_statement(&self, tokens: &mut Tokens<'_>) -> Result<Stmt, Fault>
+        ensures { Reads view.statement (nests.go_statement self.now.room tokens.old) result tokens.new }
+    {
+        let go = tokens.take()?;
+        if same(tokens.peek()?, Symbol::Word(Reserved::To)) {
+            tokens.take()?;
+        }
+        go_name(tokens, go)
+    }
+
+    /// A MOVE or a SCAN whose value is dropped.
+    #[tactic(auto, using(spl_tokens::proofs::Steps::steps), unfolding(spl_grammar::specs::Readers::pure, spl_grammar::specs::Readers::refuse, spl_grammar::specs::Readers::followed, spl_grammar::specs::Readers::and_then, spl_grammar::specs::ReadStatements::effect_statement))]
+    fn effect_statement(&self, tokens: &mut Tokens<'_>) -> Result<Stmt, Fault>
+        ensures { Reads view.statement (nests.effect_statement self.now.room tokens.old) result tokens.new }
+    {
+        let at = tokens.place()?;
+        let effect = effect(self.alloc, tokens, self.room)?;
+        Ok(done(effect, at))
+    }
+
+    /// A statement by its reserved word; any other word stands behind an empty one.
+    #[tactic(auto, using(spl_tokens::proofs::Steps::steps), unfolding(spl_grammar::specs::Readers::pure, spl_grammar::specs::Readers::refuse, spl_grammar::specs::Readers::followed, spl_grammar::specs::Readers::and_then, spl_grammar::specs::ReadStatements::by_word))]
+    fn by_word(&self, tokens: &mut Tokens<'_>, word: Reserved) -> Result<Stmt, Fault>
+        requires nests { Nests self.now.room (F.pre self.now.statement) (F.post self.now.statement) }
+        ensures { Reads view.statement (nests.by_word self.now.room word tokens.old) result tokens.new }
+    {
+        match word {
+            Reserved::Begin => self.block(tokens),
+            Reserved::If => self.if_statement(tokens),
+            Reserved::While => self.while_statement(tokens),
+            Reserved::Do => self.do_statement(tokens),
+            Reserved::For => self.for_statement(tokens),
+            Reserved::Case => self.case_statement(tokens),
+            Reserved::Go => self.go_statement(tokens),
+            Reserved::Goto => {
+                let go = tokens.take()?;
+                go_name(tokens, go)
+            }
+            Reserved::Return => Ok(returned(tokens.take()?.at)),
+            Reserved::Move => self.effect_statement(tokens),
+            Reserved::Scan => self.effect_statement(tokens),
+            _ => Ok(empty()),
+        }
+    }
+
+    /// A statement.
+    #[tactic(auto, using(spl_tokens::proofs::Steps::steps), unfolding(spl_grammar::specs::Readers::pure, spl_grammar::specs::Readers::refuse, spl_grammar::specs::Readers::followed, spl_grammar::specs::Readers::and_then, spl_grammar::specs::ReadStatements::statement_step, spl_grammar::specs::ReadStatements::statement_by))]
+    fn read(&self, tokens: &mut Tokens<'_>) -> Result<Stmt, Fault>
+        requires nests { Nests self.now.room (F.pre self.now.statement) (F.post self.now.statement) }
+        ensures { Reads view.statement (nests.read self.now.room tokens.old) result tokens.new }
+    {
+        match tokens.peek()? {
+            Symbol::Name => {
+                let token = tokens.take()?;
+                self.named(tokens, token)
+            }
+            Symbol::AtSign => self.address_assigned(tokens),
+            Symbol::Word(word) => self.by_word(tokens, word),
+            _ => Ok(empty()),
+        }
+    }
+}
+
+/// A statement, where so many constructs may be opened.
+pub fn statement(alloc: Global, tokens: &mut Tokens<'_>, room: u8) -> Result<Stmt, Fault>
+    ensures { Reads view.statement (spec.statement room tokens.old) result tokens.new }
+{
+    Statements {
+        alloc,
+        room,
+        statement,
+    }
+    .read(tokens)
+}
+
+/// Statements, where so many constructs may be opened.
+pub fn statement_list(alloc: Global, tokens: &mut Tokens<'_>, room: u8) -> Result<Vec<Stmt>, Fault>
+    requires { room < 255 }
+    ensures { Reads statements (spec.statement_list (spec.statement room) tokens.old) result tokens.new }
+{
+    Statements {
+        alloc,
+        room: room + 1,
+        statement,
+    }
+    .list(tokens)
+}
