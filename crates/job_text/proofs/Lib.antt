@@ -1,0 +1,7 @@
+pub mod ListLemmas
+pub mod PartLemmas
+pub mod RuleLemmas
+pub mod ReadingLemmas
+pub mod JobLaws
+pub mod AnswerLemmas
+pub mod KnownJobs

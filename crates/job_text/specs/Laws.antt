@@ -1,0 +1,19 @@
+-- The laws of job texts.
+use Rattle.std.specs.Prelude.{◌≡◌, ℕ, ◌⊎◌, Bool, List}
+use Rattle.job_text.specs.Jobs.{JobValue, JobIs, JobBreaks}
+
+-- each text is a job or breaks a rule first at a line
+abbrev pub TextsAreRead : Type 0
+TextsAreRead = (bytes : List ℕ) (prep : Bool) → ((job : JobValue) × JobIs bytes prep job) ⊎ ((line : ℕ) × (rule : ℕ) × JobBreaks bytes prep line rule)
+
+-- never both
+abbrev pub JobsBreakNothing : Type 0
+JobsBreakNothing = (bytes : List ℕ) (prep : Bool) (job : JobValue) (line rule : ℕ) → JobIs bytes prep job → JobBreaks bytes prep line rule → ⊥
+
+-- a text is at most one job
+abbrev pub JobsAreUnique : Type 0
+JobsAreUnique = (bytes : List ℕ) (prep : Bool) (a b : JobValue) → JobIs bytes prep a → JobIs bytes prep b → a ≡ b
+
+-- and has at most one first fault
+abbrev pub FaultsAreUnique : Type 0
+FaultsAreUnique = (bytes : List ℕ) (prep : Bool) (l r m q : ℕ) → JobBreaks bytes prep l r → JobBreaks bytes prep m q → (l ≡ m) × (r ≡ q)
