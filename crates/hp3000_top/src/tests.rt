@@ -172,7 +172,7 @@ fn jobs_and_their_reports(rt: HostRuntime) -> Result<(), Fail> {
 #[test]
 fn inputs_that_are_no_thin_job(rt: HostRuntime) -> Result<(), Fail> {
     let alloc = rt.alloc();
-    let cases: [&[u8]; 14] = [
+    let cases: [&[u8]; 12] = [
         b"",
         b"!JOB\n!PROGRAM A\n!UNIT\nBEGIN INTEGER A; INTRINSIC QUIT; QUIT(A) END.\n!SESSION B\n!EOJ\n",
         b"!JOB\n!PROGRAM A\n!UNIT\nBEGIN INTEGER A; INTRINSIC QUIT; QUIT(A) END.\n!SESSION A\n!EOJ\nX\n",
@@ -185,8 +185,6 @@ fn inputs_that_are_no_thin_job(rt: HostRuntime) -> Result<(), Fail> {
         b"!JOB\n!PROGRAM A\n!UNIT\nBEGIN INTEGER A; INTRINSIC QUIT,QUIT; QUIT(A) END.\n!SESSION A\n!EOJ\n",
         b"!JOB\n!PROGRAM A\n!UNIT\nBEGIN INTEGER A; INTRINSIC QUIT; TERMINATE END.\n!SESSION A\n!EOJ\n",
         b"!JOB\n!PROGRAM A\n!UNIT\nBEGIN INTEGER A; INTRINSIC QUIT; A:=32768 END.\n!SESSION A\n!EOJ\n",
-        b"!JOB\n!PROGRAM A\n!UNIT\nBEGIN INTEGER ABCDEFGHIJKLMNO1; INTRINSIC QUIT; QUIT(1) END.\n!SESSION A\n!EOJ\n",
-        b"!JOB\n!PROGRAM A\n!UNIT\nBEGIN INTEGER STEP; INTRINSIC QUIT; QUIT(STEP) END.\n!SESSION A\n!EOJ\n",
     ];
     for job in cases {
         let (exit, text) = run(alloc, job)?;
@@ -195,6 +193,37 @@ fn inputs_that_are_no_thin_job(rt: HostRuntime) -> Result<(), Fail> {
     }
     for end in 0..FIRST.len() - 1 {
         let (exit, _) = run(alloc, &FIRST[..end])?;
+        assert_eq!(rt; exit, Exit::Refused);
+    }
+    Ok(())
+}
+
+#[test]
+fn units_with_faults(rt: HostRuntime) -> Result<(), Fail> {
+    let alloc = rt.alloc();
+    let cases: [(&[u8], &[u8]); 6] = [
+        (
+            b"BEGIN INTEGER ABCDEFGHIJKLMNO1; INTRINSIC QUIT; QUIT(1) END.",
+            b"1 COLUMN 15 NAMETOOLONG",
+        ),
+        (
+            b"BEGIN INTEGER STEP; INTRINSIC QUIT; QUIT(STEP) END.",
+            b"1 COLUMN 15 SYNTAX",
+        ),
+        (b"BEGIN\nQUIT(65536) END.", b"2 COLUMN 6 NUMBERTOOLARGE"),
+        (b"BEGIN\n  << open", b"2 COLUMN 3 OPENCOMMENT"),
+        (b"BEGIN ?", b"1 COLUMN 7 BADBYTE"),
+        (b"BEGIN END. X", b"1 COLUMN 12 SYNTAX"),
+    ];
+    for (unit, place) in cases {
+        let mut job = Vec::from_slice(alloc, b"!JOB\n!PROGRAM AB\n!UNIT\n")?;
+        job.extend_from_slice(unit)?;
+        job.extend_from_slice(b"\n!SESSION AB\n!EOJ\n")?;
+        let mut line = Vec::from_slice(alloc, b"REFUSED PROGRAM AB UNIT 1 LINE ")?;
+        line.extend_from_slice(place)?;
+        line.push(b'\n')?;
+        let (exit, text) = run(alloc, &job)?;
+        assert_eq!(rt; text.as_slice(), line.as_slice());
         assert_eq!(rt; exit, Exit::Refused);
     }
     Ok(())
