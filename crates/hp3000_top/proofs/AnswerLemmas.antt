@@ -89,11 +89,11 @@ carried {bytes = bytes} k = carries k.program k.job.unit k.is_made k.fits (kept_
 delivered : (bytes : List ℕ) (made : List Program) (text : List ℕ) (old new : Option (List ℕ)) → IsAnswered bytes made text → Appends old new text
     → (job : Job) × Thin_job job bytes × (bound_of job.unit.statements ≤ 16383) × DeliversJob job made old new
 delivered bytes made text old new k a = (
-      k.job,
-      k.thin,
-      fits_bound k.job.unit k.fits,
-      subst (λ (made : List Program). DeliversJob k.job made old new) (sym k.one) (k.is_made, carried k, subst (λ (text : List ℕ). Appends old new text) k.report a),
-    )
+  k.job,
+  k.thin,
+  fits_bound k.job.unit k.fits,
+  subst (λ (made : List Program). DeliversJob k.job made old new) (sym k.one) (k.is_made, carried k, subst (λ (text : List ℕ). Appends old new text) k.report a),
+)
 
 -- what was reported is where its unit, run alone, stands after some steps
 told_alone : (name : List ℕ) (p q : Point) (old new : Option (List ℕ)) → p ≡ q → Reports name q.printed q.standing old new → Reports name p.printed p.standing old new

@@ -119,7 +119,7 @@ pub is_fault : (bytes : List ℕ) (f : Frame) (kind : Kind) (at : At) → frame_
 is_fault bytes f kind at e v only none = record {
   has = record { frame = f; framed = frame_spelled f bytes e; has_name = refl; has_fault = v };
   only = λ other k a w. let p = only k a (fault_here bytes f w.frame k a e w.framed w.has_fault) in
-    (ap (λ (g : Frame). g.name) (sym (same_frame bytes f w.frame e w.framed)) ∙ sym w.has_name, p.0, p.1);
+      (ap (λ (g : Frame). g.name) (sym (same_frame bytes f w.frame e w.framed)) ∙ sym w.has_name, p.0, p.1);
   no_job = λ job w. none w.source (spelled_here bytes f w.frame w.source e w.framed w.spelled);
 }
 

@@ -10,7 +10,7 @@ pub returns-clause-ok : goal.returns-clause-ok
 returns-clause-ok c =
     let text = c.in-Ok-session_report.text.items in
     let fact = answered c.args.bytes.now c.in_ok-job.job.quantum c.in_ok-job.job.name.text.items (thin_of c.in_ok-job.job.unit) c.in-Ok.program text
-      c.in_ok-job.ensures.ok c.in-Ok.ensures c.in-Ok-session_report.ensures.ok in
+    c.in_ok-job.ensures.ok c.in-Ok.ensures c.in-Ok-session_report.ensures.ok in
     subst (λ (made : List Program). IsAnswered c.args.bytes.now made text) (sym c.in_ok-made.ensures.items) fact
 
 pub session_report-requires : goal.session_report-requires

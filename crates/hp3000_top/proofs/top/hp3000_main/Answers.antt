@@ -60,7 +60,7 @@ returns-in-Err-Faulty-clause-refused g c =
     let line = fault_line c.in-Err-Faulty.program.text.items c.in-Err-Faulty.kind c.in-Err-Faulty.at in
     let out : Appends (g.O.Sink.written c.args.output.now) (g.O.Sink.written c.write_all-in-Err-Faulty.new.sink) line =
     written c.write_all-in-Err-Faulty.result c.is_err-in-Err-Faulty.result _ _ c.deref-in-Err-Faulty.result.now line
-      (c.deref-in-Err-Faulty.ensures.value ∙ c.in-Ok-fault_line.ensures) c.write_all-in-Err-Faulty.ensures.ok c.is_err-in-Err-Faulty.ensures.value c.if-is_err-3.false in
+    (c.deref-in-Err-Faulty.ensures.value ∙ c.in-Ok-fault_line.ensures) c.write_all-in-Err-Faulty.ensures.ok c.is_err-in-Err-Faulty.ensures.value c.if-is_err-3.false in
     λ k. a.Refuses.faulty c.in-Err-Faulty.program.text.items c.in-Err-Faulty.kind c.in-Err-Faulty.at out
     (faulty_of _ _ bytes c.in-Err-Faulty.program.text.items c.in-Err-Faulty.kind c.in-Err-Faulty.at c.in-Ok.ensures.ok told)
 
@@ -81,6 +81,6 @@ returns-in-Err-Faulty-clause-faulty g c =
     let line = fault_line c.in-Err-Faulty.program.text.items c.in-Err-Faulty.kind c.in-Err-Faulty.at in
     let out : Appends (g.O.Sink.written c.args.output.now) (g.O.Sink.written c.write_all-in-Err-Faulty.new.sink) line =
     written c.write_all-in-Err-Faulty.result c.is_err-in-Err-Faulty.result _ _ c.deref-in-Err-Faulty.result.now line
-      (c.deref-in-Err-Faulty.ensures.value ∙ c.in-Ok-fault_line.ensures) c.write_all-in-Err-Faulty.ensures.ok c.is_err-in-Err-Faulty.ensures.value c.if-is_err-3.false in
+    (c.deref-in-Err-Faulty.ensures.value ∙ c.in-Ok-fault_line.ensures) c.write_all-in-Err-Faulty.ensures.ok c.is_err-in-Err-Faulty.ensures.value c.if-is_err-3.false in
     λ r name kind at b i o. subst (Appends (g.O.Sink.written c.args.output.now) (g.O.Sink.written c.write_all-in-Err-Faulty.new.sink))
     (same_fault _ _ bytes c.in-Err-Faulty.program.text.items name c.in-Err-Faulty.kind kind c.in-Err-Faulty.at at c.in-Ok.ensures.ok told b) out
