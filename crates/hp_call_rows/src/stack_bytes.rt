@@ -10,9 +10,10 @@ use arrayvec::ArrayVec;
 use hp_session::{Line, byte_of, with_byte};
 use hp_word::{Number, read_number};
 
-/// How many bytes a length says: two a word, or minus a negative one.
+/// How many bytes a length of PRINT or READ says: two for each word, or, where the length is negative as a signed word, as many as
+/// minus the length. At most 65,534.
 #[tactic(auto, unfolding(hp_word::specs::Words::signed))]
-pub(crate) fn bytes_of_length(size: u16) -> usize
+pub fn bytes_of_length(size: u16) -> usize
     ensures value { result ≡ bytes_of_length (signed size) }
     ensures bound { result ≤ 65534 }
 {
@@ -23,9 +24,9 @@ pub(crate) fn bytes_of_length(size: u16) -> usize
     }
 }
 
-/// A count of bytes in the unit of a length.
+/// A count of bytes in the unit of a length: in words, rounded up, or in bytes where the length is negative as a signed word.
 #[tactic(auto, unfolding(hp_word::specs::Words::signed))]
-pub(crate) fn in_unit(size: u16, count: u16) -> u16
+pub fn in_unit(size: u16, count: u16) -> u16
     ensures { result ≡ in_unit_of_length (signed size) count }
 {
     if size < 32768 {
@@ -95,8 +96,8 @@ pub(crate) fn append_bytes(printed: &mut Vec<u8>, words: &[u16], first: usize, c
     }
 }
 
-/// What PRINT prints behind its bytes: a line feed, unless its control is %320.
-pub(crate) fn feed_of(control: u16) -> &'static [u8]
+/// What PRINT prints behind its bytes: a line feed, unless its control is exactly %320.
+pub fn feed_of(control: u16) -> &'static [u8]
     ensures { result.now ≡ (if control == 0o320 then [] else 10 ∷ []) }
 {
     if control == 0o320 { &[] } else { &[10] }
@@ -122,8 +123,8 @@ pub(crate) fn print_bytes(
     printed.extend_from_slice(feed).unwrap();
 }
 
-/// The bytes of a line, if there is one.
-pub(crate) fn line_at(lines: &[Line], n: usize) -> Option<&[u8]>
+/// The bytes of line `n`, counted from 0, if there is one.
+pub fn line_at(lines: &[Line], n: usize) -> Option<&[u8]>
     ensures value { option_map (λ l. l.now) result ≡ slice_get (lines_of lines.now) n }
     ensures there { IfSome result (λ _. n < length lines.now) }
 {
@@ -134,8 +135,8 @@ pub(crate) fn line_at(lines: &[Line], n: usize) -> Option<&[u8]>
     }
 }
 
-/// The first bytes of a line, at most `most`.
-pub(crate) fn first_bytes(line: &[u8], most: usize) -> &[u8]
+/// The first bytes of a line, at most `most`: all of a shorter one.
+pub fn first_bytes(line: &[u8], most: usize) -> &[u8]
     ensures { result.now ≡ take most line.now }
 {
     if most < line.len() {
@@ -145,9 +146,9 @@ pub(crate) fn first_bytes(line: &[u8], most: usize) -> &[u8]
     }
 }
 
-/// A word read with its sign.
+/// A word read with its sign, from -32,768 to 32,767.
 #[tactic(auto, unfolding(hp_word::specs::Words::signed))]
-pub(crate) fn signed_number(w: u16) -> i32
+pub fn signed_number(w: u16) -> i32
     ensures { result ≡ signed w }
 {
     if w < 32768 {
@@ -157,9 +158,9 @@ pub(crate) fn signed_number(w: u16) -> i32
     }
 }
 
-/// A double read with its sign.
+/// A double read with its sign, from -2,147,483,648 to 2,147,483,647.
 #[tactic(auto, unfolding(hp_word::specs::Words::signed_double))]
-pub(crate) fn signed_double(d: u32) -> i32
+pub fn signed_double(d: u32) -> i32
     ensures { result ≡ signed_double d }
 {
     if d < 2147483648 {
