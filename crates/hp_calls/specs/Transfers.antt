@@ -1,6 +1,6 @@
 -- What is said of a call or a return whose transfer may be finished later: it is the flat machine's row, in which that is done
 -- at once.
-use Rattle.std.specs.Prelude.{◌≡◌, ℕ, ◌-◌, ◌==◌, Bool, List, length, take, slice_get, Option, None, Some, Result, Ok, Err, ⊤, if◌then◌else◌}
+use Rattle.std.specs.Prelude.{◌≡◌, ℕ, ◌-◌, ◌==◌, Bool, false, List, length, take, slice_get, Option, None, Some, Result, Ok, Err, ⊤, if◌then◌else◌}
 use Rattle.hp_word.specs.declared.endings.Trap.{Trap}
 use Rattle.hp_word.specs.declared.intrinsics.Intrinsic.{Intrinsic}
 use Rattle.hp_instr.specs.declared.labels.Label.{Label}
@@ -46,6 +46,12 @@ abbrev pub handed_on : Result Called Trap → Option Intrinsic
 handed_on (Ok (Went phase)) = None
 handed_on (Ok (Gate i)) = Some i
 handed_on (Err t) = None
+
+-- what is handed on finds the stack in whole mode, with no word in a register
+abbrev pub IsReady : Result Called Trap → Seen → Type 0
+IsReady (Ok (Went phase)) s = ⊤
+IsReady (Ok (Gate i)) s = (s.split ≡ false) × (s.in_registers ≡ 0)
+IsReady (Err t) s = ⊤
 
 -- a return's answer as one of a call
 abbrev pub went : Result Phase Trap → Result Called Trap

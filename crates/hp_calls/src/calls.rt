@@ -6,7 +6,7 @@ ghost use Rattle.hp_call_rows.specs.CallRows.{called, exited, label_at, marker_a
 ghost use Rattle.hp_call_rows.specs.GateRows.{intrinsic};
 ghost use Rattle.hp_tos.specs.StackView.{seen};
 ghost use Rattle.hp_rows.specs.Standing.{standing};
-ghost use Rattle.hp_calls.specs.Transfers.{Transfers, IsThrough, handed_on, shortened, went, wanted};
+ghost use Rattle.hp_calls.specs.Transfers.{Transfers, IsThrough, IsReady, handed_on, shortened, went, wanted};
 
 use crate::markers::{push_marker, read_marker, with_status};
 use crate::phases::{Called, Phase};
@@ -58,6 +58,8 @@ pub fn pcal<C: CodeStore>(
         → IfOk result (λ called. IfOk (label_at segments n (standing regs.old (seen stack.old) rest)) (λ l. IsThrough l called)) }
     ensures gate { (segments : List (List ℕ)) → slice_get segments regs.old.seg ≡ C.held code.now regs.old.seg → (rest : Machine)
         → handed_on result ≡ wanted (seen stack.old).split (label_at segments n (standing regs.old (seen stack.old) rest)) }
+    // it can be served at once, whatever the store holds
+    ensures ready { IsReady result (seen stack.new) }
 {
     stack.flush();
     if stack.is_split() {
