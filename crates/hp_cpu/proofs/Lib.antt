@@ -1,0 +1,3 @@
+pub mod RowLemmas
+pub mod ActLemmas
+pub mod StepLemmas

@@ -1,0 +1,5 @@
+-- A pair is done by halves.
+use Rattle.hp_cpu.proofs.words.word_by_instruction.Goals as goal
+
+pub returns-in-Pair : goal.returns-in-Pair
+returns-in-Pair g c = λ program count here. rw c.in-Pair.is (c.pair.ensures program)

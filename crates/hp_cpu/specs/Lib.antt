@@ -1,0 +1,9 @@
+-- In reading order: for which session a processor stands, which intrinsic a step calls, how the registers' numbers move, what is
+-- said of one word, and what is said of a step.
+pub mod Stood
+pub mod Gates
+pub mod Counts
+pub mod Answers
+pub mod Restored
+pub mod Acts
+pub mod Steps

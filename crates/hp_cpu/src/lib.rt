@@ -1,0 +1,12 @@
+//! A processor over any store of code: one step is one step of the flat machine, or the answer that a segment is absent.
+#![tactic(auto)]
+
+mod cpu;
+mod pairs;
+mod step;
+mod words;
+
+pub use cpu::{Cpu, Stepped};
+pub use hp_calls::Phase;
+pub use hp_session::Regs;
+pub use hp_tos::Stack;

@@ -1,0 +1,56 @@
+//! One step of a processor.
+ghost use Rattle.std.specs.Prelude.{◌≡◌};
+ghost use Rattle.hp_cpu.specs.Answers.{phase_left, stepped};
+
+use crate::cpu::{Cpu, Stepped};
+use crate::words::act;
+use hp_calls::{Called, Phase, finish_transfer};
+use hp_program::{CodeStore, Fetched};
+use hp_word::Trap;
+
+/// What a step answers, by what came of its word; a call or a return leaves its phase.
+#[inline]
+fn answered(answer: Result<Called, Trap>, phase: &mut Phase) -> Stepped
+    ensures value { result ≡ stepped answer }
+    ensures phase { phase.new ≡ phase_left answer phase.old }
+{
+    match answer {
+        Ok(Called::Went(next)) => {
+            *phase = next;
+            Stepped::Went
+        }
+        Ok(Called::Gate(intrinsic)) => Stepped::Gate(intrinsic),
+        Err(trap) => Stepped::Trapped(trap),
+    }
+}
+
+impl Cpu {
+    ghost use Rattle.std.specs.Prelude.{ℕ, List, length};
+    ghost use Rattle.hp_calls.specs.Phases.{HoldsOf};
+    ghost use Rattle.hp_cpu.specs.Steps.{Steps};
+
+    /// One step, with the code that a store holds. A transfer that is under way is finished first.
+    ///
+    /// What the store holds are segments of one program, with as many segments as the processor's: the step is then the flat
+    /// machine's in that program. It needs one segment. Where the store does not hold that one the answer is `Absent`, as often
+    /// as the step is tried, and nothing at all has changed. A trap, and the call of an intrinsic, leave the list of words, the
+    /// extra segment, all registers and the mode as they were; words may have moved between registers and memory by then.
+    /// Takes no memory.
+    pub fn step<C: CodeStore>(&mut self, code: &C) -> Stepped
+        ensures steps { (program : List (List ℕ)) → HoldsOf program (C.held code.now) → length program ≡ self.old.segments
+            → Steps program (C.held code.now) self.old result self.new }
+    {
+        if let Err(seg) = finish_transfer(self.phase, &mut self.regs, code) {
+            return Stepped::Absent(seg);
+        }
+        self.phase = Phase::Ready;
+        match code.fetch(self.regs.seg, self.regs.p) {
+            Fetched::Absent => Stepped::Absent(self.regs.seg),
+            Fetched::Outside => Stepped::Trapped(Trap::CodeBounds),
+            Fetched::Word(w) => {
+                let answer = act(w, self.segments, &mut self.regs, &mut self.stack, code);
+                answered(answer, &mut self.phase)
+            }
+        }
+    }
+}
