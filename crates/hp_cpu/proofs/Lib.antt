@@ -1,3 +1,4 @@
 pub mod RowLemmas
 pub mod ActLemmas
 pub mod StepLemmas
+pub mod SuitLemmas

@@ -110,7 +110,7 @@ code_is program held seg p w same is = rw same is
 -- Steps
 
 -- some session
-abbrev some_machine : Machine
+abbrev pub some_machine : Machine
 some_machine = opened [] 0 0 [] 0 0 0
 
 -- a step that is not made
@@ -136,7 +136,7 @@ fetch_waited program held old new regs here is made missing =
 
 module _ (program : List (List ℕ)) (held : ℕ → Option (List ℕ)) (old : Cpu) (regs : Regs) where
   -- the registers of the program's transfer are the store's
-  same_registers : HoldsOf program held → arrived held old.phase ≡ Ok tt → regs ≡ finished held old.phase old.regs → registers program old ≡ regs
+  pub same_registers : HoldsOf program held → arrived held old.phase ≡ Ok tt → regs ≡ finished held old.phase old.regs → registers program old ≡ regs
   same_registers of here is = sym (finished_of held program old.phase old.regs of here) ∙ sym is
 
   -- the segment that is needed is held

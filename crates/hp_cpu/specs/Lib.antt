@@ -7,3 +7,4 @@ pub mod Answers
 pub mod Restored
 pub mod Acts
 pub mod Steps
+pub mod Suits

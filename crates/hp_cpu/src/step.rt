@@ -28,6 +28,7 @@ impl Cpu {
     ghost use Rattle.std.specs.Prelude.{ℕ, List, length};
     ghost use Rattle.hp_calls.specs.Phases.{HoldsOf};
     ghost use Rattle.hp_cpu.specs.Steps.{Steps};
+    ghost use Rattle.hp_cpu.specs.Suits.{AreValid, KeepsLengths, KeepsReserve, Suits};
 
     /// One step, with the code that a store holds. A transfer that is under way is finished first.
     ///
@@ -39,6 +40,12 @@ impl Cpu {
     pub fn step<C: CodeStore>(&mut self, code: &C) -> Stepped
         ensures steps { (program : List (List ℕ)) → HoldsOf program (C.held code.now) → length program ≡ self.old.segments
             → Steps program (C.held code.now) self.old result self.new }
+        ensures reserved { (program : List (List ℕ)) → HoldsOf program (C.held code.now) → length program ≡ self.old.segments → KeepsReserve self.old self.new }
+        // in a valid program
+        ensures lengths { (program : List (List ℕ)) (main entry : ℕ) (globals : List ℕ) → AreValid program main entry globals
+            → HoldsOf program (C.held code.now) → length program ≡ self.old.segments → KeepsLengths self.old self.new }
+        ensures suits { (program : List (List ℕ)) (main entry : ℕ) (globals : List ℕ) → AreValid program main entry globals
+            → HoldsOf program (C.held code.now) → Suits program self.old → Suits program self.new }
     {
         if let Err(seg) = finish_transfer(self.phase, &mut self.regs, code) {
             return Stepped::Absent(seg);

@@ -6,40 +6,74 @@ use Rattle.hp_cpu.specs.declared.cpu.Cpu.{Cpu}
 use Rattle.hp_cpu.specs.declared.cpu.Stepped.{Stepped}
 use Rattle.hp_cpu.specs.Answers.{stepped}
 use Rattle.hp_cpu.specs.Steps.{Steps}
+use Rattle.hp_cpu.specs.Suits.{KeepsLengths, KeepsReserve, Suits}
 use Rattle.hp_cpu.proofs.StepLemmas.{acted, acting, fetch_waited, outside, waited}
+use Rattle.hp_cpu.proofs.SuitLemmas.{acted_lengths, acted_reserve, acted_suits, no_word_suits}
 use Rattle.hp_cpu.proofs.cpu.Cpu.step.Goals as goal
 
 -- a transfer waits
 pub returns-in-Err : goal.returns-in-Err
-returns-in-Err g c = record {
-  steps = λ program of count. waited program (g.C.CodeStore.held c.args.code.now) c.args.self.now _ c.in-Err.seg (sym c.finish_transfer.ensures.value ∙ c.in-Err.is)
-      (ap (λ (r : Regs). record c.args.self.now { regs = r }) c.in-Err.ensures.err);
-}
+returns-in-Err g c =
+    let stays = ap (λ (r : Regs). record c.args.self.now { regs = r }) c.in-Err.ensures.err in
+    record {
+      steps = λ program of count. waited program (g.C.CodeStore.held c.args.code.now) c.args.self.now _ c.in-Err.seg (sym c.finish_transfer.ensures.value ∙ c.in-Err.is) stays;
+      reserved = λ program of count. record { same_capacity = refl; same_extra_capacity = refl };
+      lengths = λ program main entry globals valid of count. record { same_limit = refl; same_size = refl };
+      suits = λ program main entry globals valid of suits. subst (Suits program) (sym stays) suits;
+    }
 
 -- so does the next step, where its segment is not held
 pub returns-in-Absent : goal.returns-in-Absent
-returns-in-Absent g c = record {
-  steps = λ program of count. fetch_waited program (g.C.CodeStore.held c.args.code.now) c.args.self.now _ c.finish_transfer.new.regs
-      (sym c.finish_transfer.ensures.value ∙ c.in_default.is) c.in_default.ensures.ok refl (sym c.fetch.ensures ∙ c.in-Absent.is);
-}
+returns-in-Absent g c =
+    let held = g.C.CodeStore.held c.args.code.now in
+    let here = sym c.finish_transfer.ensures.value ∙ c.in_default.is in
+    record {
+      steps = λ program of count. fetch_waited program held c.args.self.now _ c.finish_transfer.new.regs here c.in_default.ensures.ok refl
+          (sym c.fetch.ensures ∙ c.in-Absent.is);
+      reserved = λ program of count. record { same_capacity = refl; same_extra_capacity = refl };
+      lengths = λ program main entry globals valid of count. record { same_limit = refl; same_size = refl };
+      suits = λ program main entry globals valid of suits. no_word_suits program held c.args.self.now c.finish_transfer.new.regs of here c.in_default.ensures.ok suits;
+    }
 
 -- there is no word
 pub returns-in-Outside : goal.returns-in-Outside
-returns-in-Outside g c = record {
-  steps = λ program of count. outside program (g.C.CodeStore.held c.args.code.now) c.args.self.now c.finish_transfer.new.regs of
-      (sym c.finish_transfer.ensures.value ∙ c.in_default.is) c.in_default.ensures.ok (sym c.fetch.ensures ∙ c.in-Outside.is);
-}
+returns-in-Outside g c =
+    let held = g.C.CodeStore.held c.args.code.now in
+    let here = sym c.finish_transfer.ensures.value ∙ c.in_default.is in
+    record {
+      steps = λ program of count. outside program held c.args.self.now c.finish_transfer.new.regs of here c.in_default.ensures.ok (sym c.fetch.ensures ∙ c.in-Outside.is);
+      reserved = λ program of count. record { same_capacity = refl; same_extra_capacity = refl };
+      lengths = λ program main entry globals valid of count. record { same_limit = refl; same_size = refl };
+      suits = λ program main entry globals valid of suits. no_word_suits program held c.args.self.now c.finish_transfer.new.regs of here c.in_default.ensures.ok suits;
+    }
 
 -- the word acts
 pub returns-in-Word : goal.returns-in-Word
-returns-in-Word g c = record {
-  steps = λ program of count.
-      let held = g.C.CodeStore.held c.args.code.now in
-      let regs = c.finish_transfer.new.regs in
-      let fetch = sym c.fetch.ensures ∙ c.in-Word.is in
-      let acts = c.act-answer.ensures program count (acting program held c.args.self.now regs of c.in-Word.w fetch) in
-      let is = acted program held c.args.self.now regs c.in-Word.w of (sym c.finish_transfer.ensures.value ∙ c.in_default.is) c.in_default.ensures.ok fetch
-      c.act-answer.result c.act-answer.new.regs c.act-answer.new.stack acts in
-      subst (λ (a : Stepped). Steps program held c.args.self.now a (record c.args.self.now { regs = c.act-answer.new.regs; phase = c.answered.new.phase; stack = c.act-answer.new.stack })) (sym c.answered.ensures.value)
-      (subst (λ (p : Phase). Steps program held c.args.self.now (stepped c.act-answer.result) (record c.args.self.now { regs = c.act-answer.new.regs; phase = p; stack = c.act-answer.new.stack })) (sym c.answered.ensures.phase) is);
-}
+returns-in-Word g c =
+    let held = g.C.CodeStore.held c.args.code.now in
+    let old = c.args.self.now in
+    let regs = c.finish_transfer.new.regs in
+    let answer = c.act-answer.result in
+    let next = c.act-answer.new.regs in
+    let stack = c.act-answer.new.stack in
+    let here = sym c.finish_transfer.ensures.value ∙ c.in_default.is in
+    let is = c.in_default.ensures.ok in
+    let fetch = sym c.fetch.ensures ∙ c.in-Word.is in
+    let left = sym c.answered.ensures.phase in
+    record {
+      steps = λ program of count.
+          let acts = c.act-answer.ensures program count (acting program held old regs of c.in-Word.w fetch) in
+          subst (λ (a : Stepped). Steps program held old a (record old { regs = next; phase = c.answered.new.phase; stack = stack })) (sym c.answered.ensures.value)
+          (subst (λ (p : Phase). Steps program held old (stepped answer) (record old { regs = next; phase = p; stack = stack })) left
+          (acted program held old regs c.in-Word.w of here is fetch answer next stack acts));
+      reserved = λ program of count.
+          acted_reserve program old regs c.in-Word.w answer next c.answered.new.phase stack (c.act-answer.ensures program count (acting program held old regs of c.in-Word.w fetch));
+      lengths = λ program main entry globals valid of count.
+          let acts = c.act-answer.ensures program count (acting program held old regs of c.in-Word.w fetch) in
+          subst (λ (p : Phase). KeepsLengths old (record old { regs = next; phase = p; stack = stack })) left
+          (acted_lengths program main entry globals valid held old regs c.in-Word.w of here is fetch answer next stack acts);
+      suits = λ program main entry globals valid of suits.
+          let acts = c.act-answer.ensures program suits.count (acting program held old regs of c.in-Word.w fetch) in
+          subst (λ (p : Phase). Suits program (record old { regs = next; phase = p; stack = stack })) left
+          (acted_suits program main entry globals valid held old regs c.in-Word.w of here is fetch answer next stack acts suits);
+    }
