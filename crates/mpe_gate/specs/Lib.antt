@@ -1,5 +1,4 @@
--- In reading order: the session at its terminal, the words that a call exchanges, what a part of a call answers, and what comes of it.
+-- In reading order: the session at its terminal, what comes of a call, and the words that it exchanges.
 pub mod Seated
-pub mod Words
-pub mod Answers
 pub mod Serves
+pub mod Words

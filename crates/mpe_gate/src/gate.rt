@@ -4,8 +4,7 @@ ghost use Rattle.hp_word.specs.Intrinsics.{answer_words};
 ghost use Rattle.hp_call_rows.specs.GateRows.{performed};
 ghost use Rattle.hp_tos.specs.StackView.{seen};
 ghost use Rattle.hp_rows.specs.Moves.{past};
-ghost use Rattle.mpe_gate.specs.Answers.{Answers};
-ghost use Rattle.mpe_gate.specs.Serves.{Serves, came};
+ghost use Rattle.mpe_gate.specs.Serves.{ServesAs, Serves, came};
 
 use crate::intrinsics::{ascii, binary, dascii, dbinary, print, quit, read};
 use hp_rows::pass;
@@ -34,7 +33,7 @@ fn perform(
     terminal: &mut Terminal,
 ) -> Result<Ending, Trap>
     requires { (seen stack.old).in_registers ≡ 0 }
-    ensures { Answers (performed entry) (answer_words entry) regs.old (seen stack.old) terminal.old result regs.new (seen stack.new) terminal.new }
+    ensures { ServesAs (performed entry) (answer_words entry) regs.old (seen stack.old) terminal.old (came result) regs.new (seen stack.new) terminal.new }
 {
     match entry {
         Intrinsic::Print => print(regs, stack, terminal),

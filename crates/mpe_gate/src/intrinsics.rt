@@ -7,7 +7,7 @@ ghost use Rattle.hp_call_rows.specs.GateRows.{performed, text_answered, line_rea
 ghost use Rattle.hp_tos.specs.StackView.{seen};
 ghost use Rattle.mpe_session.specs.declared.terminal.Terminal.{Terminal};
 ghost use Rattle.hp_session.specs.State.{Machine};
-ghost use Rattle.mpe_gate.specs.Answers.{Answers};
+ghost use Rattle.mpe_gate.specs.Serves.{ServesAs, came};
 
 use crate::answers::{answer, need};
 use crate::bytes::{in_bounds, number_at, print_bytes, store_bytes};
@@ -27,7 +27,7 @@ pub(crate) fn print(
     terminal: &mut Terminal,
 ) -> Result<Ending, Trap>
     requires { (seen stack.old).in_registers ≡ 0 }
-    ensures { Answers (performed Print) 0 regs.old (seen stack.old) terminal.old result regs.new (seen stack.new) terminal.new }
+    ensures { ServesAs (performed Print) 0 regs.old (seen stack.old) terminal.old (came result) regs.new (seen stack.new) terminal.new }
 {
     need(stack, 3)?;
     let first = 2 * stack.word(2) as usize;
@@ -49,8 +49,8 @@ pub(crate) fn print(
 fn read_line(regs: &mut Regs, stack: &mut Stack, terminal: &mut Terminal) -> Result<Ending, Trap>
     requires none { (seen stack.old).in_registers ≡ 0 }
     requires there { 3 ≤ length (seen stack.old).words }
-    ensures { Answers (line_read (slice_get (lines_of terminal.old.lines.items) terminal.old.next_line)) 1
-        regs.old (seen stack.old) terminal.old result regs.new (seen stack.new) terminal.new }
+    ensures { ServesAs (line_read (slice_get (lines_of terminal.old.lines.items) terminal.old.next_line)) 1
+        regs.old (seen stack.old) terminal.old (came result) regs.new (seen stack.new) terminal.new }
 {
     let first = 2 * stack.word(1) as usize;
     let size = stack.word(0);
@@ -77,7 +77,7 @@ pub(crate) fn read(
     terminal: &mut Terminal,
 ) -> Result<Ending, Trap>
     requires { (seen stack.old).in_registers ≡ 0 }
-    ensures { Answers (performed Read) 1 regs.old (seen stack.old) terminal.old result regs.new (seen stack.new) terminal.new }
+    ensures { ServesAs (performed Read) 1 regs.old (seen stack.old) terminal.old (came result) regs.new (seen stack.new) terminal.new }
 {
     need(stack, 3)?;
     read_line(regs, stack, terminal)
@@ -96,7 +96,7 @@ fn answer_text(
     requires short { length text.now ≤ 11 }
     requires some { 1 ≤ n }
     requires there { n ≤ length (seen stack.old).words }
-    ensures { (t : Terminal) → Answers (text_answered n array text.now) 1 regs.old (seen stack.old) t result regs.new (seen stack.new) t }
+    ensures { (t : Terminal) → ServesAs (text_answered n array text.now) 1 regs.old (seen stack.old) t (came result) regs.new (seen stack.new) t }
 {
     let first = array as usize;
     if !in_bounds(stack, first, text.len()) {
@@ -111,7 +111,7 @@ fn answer_text(
 #[tactic(auto, using(hp_call_rows::proofs::GateLemmas::ascii_ten, hp_call_rows::proofs::GateLemmas::ascii_eight, hp_call_rows::proofs::GateLemmas::ascii_other, hp_call_rows::proofs::GateLemmas::too_few))]
 pub(crate) fn ascii(regs: &mut Regs, stack: &mut Stack) -> Result<Ending, Trap>
     requires { (seen stack.old).in_registers ≡ 0 }
-    ensures { (t : Terminal) → Answers (performed Ascii) 1 regs.old (seen stack.old) t result regs.new (seen stack.new) t }
+    ensures { (t : Terminal) → ServesAs (performed Ascii) 1 regs.old (seen stack.old) t (came result) regs.new (seen stack.new) t }
 {
     need(stack, 4)?;
     let (w, base, array) = (stack.word(2), stack.word(1), stack.word(0));
@@ -129,7 +129,7 @@ pub(crate) fn ascii(regs: &mut Regs, stack: &mut Stack) -> Result<Ending, Trap>
 #[tactic(auto, using(hp_call_rows::proofs::GateLemmas::dascii_ten, hp_call_rows::proofs::GateLemmas::dascii_eight, hp_call_rows::proofs::GateLemmas::dascii_other, hp_call_rows::proofs::GateLemmas::too_few))]
 pub(crate) fn dascii(regs: &mut Regs, stack: &mut Stack) -> Result<Ending, Trap>
     requires { (seen stack.old).in_registers ≡ 0 }
-    ensures { (t : Terminal) → Answers (performed Dascii) 1 regs.old (seen stack.old) t result regs.new (seen stack.new) t }
+    ensures { (t : Terminal) → ServesAs (performed Dascii) 1 regs.old (seen stack.old) t (came result) regs.new (seen stack.new) t }
 {
     need(stack, 5)?;
     let d = double_of(stack.word(3), stack.word(2));
@@ -165,7 +165,7 @@ fn number(stack: &Stack, wide: bool) -> Result<Number, Trap>
 #[tactic(auto, using(hp_call_rows::proofs::GateLemmas::binary_is, hp_call_rows::proofs::GateLemmas::small_number, hp_call_rows::proofs::GateLemmas::too_few))]
 pub(crate) fn binary(regs: &mut Regs, stack: &mut Stack) -> Result<Ending, Trap>
     requires { (seen stack.old).in_registers ≡ 0 }
-    ensures { (t : Terminal) → Answers (performed Binary) 1 regs.old (seen stack.old) t result regs.new (seen stack.new) t }
+    ensures { (t : Terminal) → ServesAs (performed Binary) 1 regs.old (seen stack.old) t (came result) regs.new (seen stack.new) t }
 {
     need(stack, 3)?;
     let _length = stack.word(0);
@@ -181,7 +181,7 @@ pub(crate) fn binary(regs: &mut Regs, stack: &mut Stack) -> Result<Ending, Trap>
 #[tactic(auto, using(hp_call_rows::proofs::GateLemmas::dbinary_is, hp_call_rows::proofs::GateLemmas::too_few), unfolding(hp_word::specs::Bytes::high_word, hp_word::specs::Bytes::low_word))]
 pub(crate) fn dbinary(regs: &mut Regs, stack: &mut Stack) -> Result<Ending, Trap>
     requires { (seen stack.old).in_registers ≡ 0 }
-    ensures { (t : Terminal) → Answers (performed Dbinary) 2 regs.old (seen stack.old) t result regs.new (seen stack.new) t }
+    ensures { (t : Terminal) → ServesAs (performed Dbinary) 2 regs.old (seen stack.old) t (came result) regs.new (seen stack.new) t }
 {
     need(stack, 4)?;
     let _length = stack.word(0);
@@ -197,7 +197,7 @@ pub(crate) fn dbinary(regs: &mut Regs, stack: &mut Stack) -> Result<Ending, Trap
 #[tactic(auto, using(hp_call_rows::proofs::GateLemmas::quit_is, hp_call_rows::proofs::GateLemmas::too_few))]
 pub(crate) fn quit(stack: &mut Stack) -> Result<Ending, Trap>
     requires { (seen stack.old).in_registers ≡ 0 }
-    ensures { (regs : Regs) (t : Terminal) → Answers (performed Quit) 0 regs (seen stack.old) t result regs (seen stack.new) t }
+    ensures { (regs : Regs) (t : Terminal) → ServesAs (performed Quit) 0 regs (seen stack.old) t (came result) regs (seen stack.new) t }
 {
     need(stack, 1)?;
     let number = signed_word(stack.word(0));
