@@ -1,5 +1,5 @@
 //! A served intrinsic: the call is carried out, and then passed.
-ghost use Rattle.std.specs.Prelude.{◌≡◌, OnOk, OnErr};
+ghost use Rattle.std.specs.Prelude.{◌≡◌, Ok, OnOk, OnErr};
 ghost use Rattle.hp_word.specs.Intrinsics.{answer_words};
 ghost use Rattle.hp_call_rows.specs.GateRows.{performed};
 ghost use Rattle.hp_tos.specs.StackView.{seen};
@@ -47,6 +47,16 @@ fn perform(
     }
 }
 
+/// What came of a call that was carried out.
+fn went_or_ended(ending: Ending) -> Served
+    ensures { result ≡ came (Ok ending) }
+{
+    match ending {
+        Ending::Running => Served::Went,
+        ending => Served::Ended(ending),
+    }
+}
+
 /// Goes on past a call that was carried out, and says what came of it.
 fn finish(regs: &mut Regs, answer: Result<Ending, Trap>) -> Served
     ensures value { result ≡ came answer }
@@ -54,13 +64,9 @@ fn finish(regs: &mut Regs, answer: Result<Ending, Trap>) -> Served
     ensures err { OnErr answer (regs.new ≡ regs.old) }
 {
     match answer {
-        Ok(Ending::Running) => {
-            pass(regs);
-            Served::Went
-        }
         Ok(ending) => {
             pass(regs);
-            Served::Ended(ending)
+            went_or_ended(ending)
         }
         Err(trap) => Served::Trapped(trap),
     }

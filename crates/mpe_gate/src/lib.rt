@@ -7,3 +7,6 @@ mod gate;
 mod intrinsics;
 
 pub use gate::{Served, serve};
+
+#[cfg(test)]
+mod tests;
