@@ -18,7 +18,8 @@ use Rattle.mpe_gate.specs.Seated.{seated}
 use Rattle.mpe_gate.specs.Serves.{CameTo, ServesAs, Serves, came}
 
 -- each way in which it was carried out: P is moved alone, and only where it was
-pub serves_by : (i : Intrinsic) (regs : Regs) (s : Seen) (t : Terminal) (answer : Result Ending Trap) (next passed : Regs) (after : Seen) (later : Terminal)
+pub serves_by : (i : Intrinsic) (regs : Regs) (s : Seen) (t : Terminal) (answer : Result Ending Trap)
+    (next passed : Regs) (after : Seen) (later : Terminal)
     → ServesAs (performed i) (answer_words i) regs s t (came answer) next after later
     → OnOk answer (passed ≡ past next) → OnErr answer (passed ≡ next)
     → Serves i regs s t (came answer) passed after later
@@ -34,7 +35,8 @@ serves_by i regs s t (Err trap) next passed after later did on_ok on_err =
     record { does = (rw did.does.0 refl, rw on_err did.does.1); moves = did.moves; same = did.same }
 
 -- two rows that come to the same are served in the same way
-pub serves_same : (row other : Machine → Outcome) (left : ℕ) (regs : Regs) (s : Seen) (t : Terminal) (answer : Served) (next : Regs) (after : Seen) (later : Terminal)
+pub serves_same : (row other : Machine → Outcome) (left : ℕ) (regs : Regs) (s : Seen) (t : Terminal) (answer : Served)
+    (next : Regs) (after : Seen) (later : Terminal)
     → row (seated regs s t) ≡ other (seated regs s t)
     → ServesAs other left regs s t answer next after later → ServesAs row left regs s t answer next after later
 serves_same row other left regs s t answer next after later same did =

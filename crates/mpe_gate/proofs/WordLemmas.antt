@@ -8,6 +8,7 @@ pub words_put : (mid new : Seen) (words : List ℕ) → new ≡ with_words words
 words_put mid new words is = ap (λ (s : Seen). s.words) is
 
 -- a stack that differed in its words alone, with other words, still does
-pub kept_on : (old mid new : Seen) (words : List ℕ) → mid ≡ with_words mid.words old → new ≡ with_words words mid → new ≡ with_words new.words old
+pub kept_on : (old mid new : Seen) (words : List ℕ) → mid ≡ with_words mid.words old → new ≡ with_words words mid
+    → new ≡ with_words new.words old
 kept_on old mid new words kept is =
     is ∙ ap (with_words words) kept ∙ ap (λ (ws : List ℕ). with_words ws old) (sym (words_put mid new words is))

@@ -11,7 +11,8 @@ use hp_word::{Code, Trap};
 
 /// Tests that there are `n` words to take.
 pub(crate) fn need(stack: &Stack, n: u16) -> Result<(), Trap>
-    ensures { MatchResult result (λ _. n ≤ length (seen stack.now).words) (λ t. (t ≡ StackUnderflow) × (length (seen stack.now).words < n)) }
+    ensures { MatchResult result (λ _. n ≤ length (seen stack.now).words)
+        (λ t. (t ≡ StackUnderflow) × (length (seen stack.now).words < n)) }
 {
     if stack.words() < n {
         Err(Trap::StackUnderflow)

@@ -33,7 +33,8 @@ fn perform(
     terminal: &mut Terminal,
 ) -> Result<Ending, Trap>
     requires { (seen stack.old).in_registers ≡ 0 }
-    ensures { ServesAs (performed entry) (answer_words entry) regs.old (seen stack.old) terminal.old (came result) regs.new (seen stack.new) terminal.new }
+    ensures { ServesAs (performed entry) (answer_words entry) regs.old (seen stack.old) terminal.old (came result)
+        regs.new (seen stack.new) terminal.new }
 {
     match entry {
         Intrinsic::Print => print(regs, stack, terminal),

@@ -19,7 +19,7 @@ use hp_tos::Stack;
 use hp_word::{Code, Ending, Number, Trap, decimal_text, octal_text};
 use mpe_session::Terminal;
 
-/// PRINT.
+/// PRINT: a word address, a length, a control. Prints the bytes of the length, and then a line feed unless the control is %320.
 #[tactic(auto, using(hp_call_rows::proofs::GateLemmas::print_is, hp_call_rows::proofs::GateLemmas::too_few))]
 pub(crate) fn print(
     regs: &mut Regs,
@@ -27,7 +27,8 @@ pub(crate) fn print(
     terminal: &mut Terminal,
 ) -> Result<Ending, Trap>
     requires { (seen stack.old).in_registers ≡ 0 }
-    ensures { ServesAs (performed Print) 0 regs.old (seen stack.old) terminal.old (came result) regs.new (seen stack.new) terminal.new }
+    ensures { ServesAs (performed Print) 0 regs.old (seen stack.old) terminal.old (came result)
+        regs.new (seen stack.new) terminal.new }
 {
     need(stack, 3)?;
     let first = 2 * stack.word(2) as usize;
@@ -50,7 +51,8 @@ fn read_line(regs: &mut Regs, stack: &mut Stack, terminal: &mut Terminal) -> Res
     requires none { (seen stack.old).in_registers ≡ 0 }
     requires there { 3 ≤ length (seen stack.old).words }
     ensures { ServesAs (line_read (slice_get (lines_of terminal.old.lines.items) terminal.old.next_line)) 1
-        regs.old (seen stack.old) terminal.old (came result) regs.new (seen stack.new) terminal.new }
+        regs.old (seen stack.old) terminal.old (came result)
+        regs.new (seen stack.new) terminal.new }
 {
     let first = 2 * stack.word(1) as usize;
     let size = stack.word(0);
@@ -69,7 +71,7 @@ fn read_line(regs: &mut Regs, stack: &mut Stack, terminal: &mut Terminal) -> Res
     Ok(Ending::Running)
 }
 
-/// READ.
+/// READ: a word address, a length. Takes the next line and stores its first bytes, at most those of the length.
 #[tactic(auto, using(hp_call_rows::proofs::GateLemmas::read_is, hp_call_rows::proofs::GateLemmas::too_few))]
 pub(crate) fn read(
     regs: &mut Regs,
@@ -77,7 +79,8 @@ pub(crate) fn read(
     terminal: &mut Terminal,
 ) -> Result<Ending, Trap>
     requires { (seen stack.old).in_registers ≡ 0 }
-    ensures { ServesAs (performed Read) 1 regs.old (seen stack.old) terminal.old (came result) regs.new (seen stack.new) terminal.new }
+    ensures { ServesAs (performed Read) 1 regs.old (seen stack.old) terminal.old (came result)
+        regs.new (seen stack.new) terminal.new }
 {
     need(stack, 3)?;
     read_line(regs, stack, terminal)
@@ -96,7 +99,8 @@ fn answer_text(
     requires short { length text.now ≤ 11 }
     requires some { 1 ≤ n }
     requires there { n ≤ length (seen stack.old).words }
-    ensures { (t : Terminal) → ServesAs (text_answered n array text.now) 1 regs.old (seen stack.old) t (came result) regs.new (seen stack.new) t }
+    ensures { (t : Terminal) → ServesAs (text_answered n array text.now) 1 regs.old (seen stack.old) t (came result)
+        regs.new (seen stack.new) t }
 {
     let first = array as usize;
     if !in_bounds(stack, first, text.len()) {
@@ -107,11 +111,12 @@ fn answer_text(
     Ok(Ending::Running)
 }
 
-/// ASCII.
+/// ASCII: a word, a base, a byte address. Stores the word's text, in base ten with its sign or in base eight with six digits.
 #[tactic(auto, using(hp_call_rows::proofs::GateLemmas::ascii_ten, hp_call_rows::proofs::GateLemmas::ascii_eight, hp_call_rows::proofs::GateLemmas::ascii_other, hp_call_rows::proofs::GateLemmas::too_few))]
 pub(crate) fn ascii(regs: &mut Regs, stack: &mut Stack) -> Result<Ending, Trap>
     requires { (seen stack.old).in_registers ≡ 0 }
-    ensures { (t : Terminal) → ServesAs (performed Ascii) 1 regs.old (seen stack.old) t (came result) regs.new (seen stack.new) t }
+    ensures { (t : Terminal) → ServesAs (performed Ascii) 1 regs.old (seen stack.old) t (came result)
+        regs.new (seen stack.new) t }
 {
     need(stack, 4)?;
     let (w, base, array) = (stack.word(2), stack.word(1), stack.word(0));
@@ -125,11 +130,12 @@ pub(crate) fn ascii(regs: &mut Regs, stack: &mut Stack) -> Result<Ending, Trap>
     Ok(Ending::Running)
 }
 
-/// DASCII.
+/// DASCII: a double, a base, a byte address. Stores the double's text, in base eight with eleven digits.
 #[tactic(auto, using(hp_call_rows::proofs::GateLemmas::dascii_ten, hp_call_rows::proofs::GateLemmas::dascii_eight, hp_call_rows::proofs::GateLemmas::dascii_other, hp_call_rows::proofs::GateLemmas::too_few))]
 pub(crate) fn dascii(regs: &mut Regs, stack: &mut Stack) -> Result<Ending, Trap>
     requires { (seen stack.old).in_registers ≡ 0 }
-    ensures { (t : Terminal) → ServesAs (performed Dascii) 1 regs.old (seen stack.old) t (came result) regs.new (seen stack.new) t }
+    ensures { (t : Terminal) → ServesAs (performed Dascii) 1 regs.old (seen stack.old) t (came result)
+        regs.new (seen stack.new) t }
 {
     need(stack, 5)?;
     let d = double_of(stack.word(3), stack.word(2));
@@ -144,7 +150,7 @@ pub(crate) fn dascii(regs: &mut Regs, stack: &mut Stack) -> Result<Ending, Trap>
     Ok(Ending::Running)
 }
 
-/// The number in the text of BINARY and DBINARY.
+/// The number in the text of BINARY and DBINARY. A negative length is bad form, and nothing is read.
 #[tactic(auto, unfolding(hp_call_rows::specs::GateRows::number_there))]
 fn number(stack: &Stack, wide: bool) -> Result<Number, Trap>
     requires { 2 ≤ length (seen stack.now).words }
@@ -161,11 +167,12 @@ fn number(stack: &Stack, wide: bool) -> Result<Number, Trap>
     Ok(number_at(stack, first, count, wide))
 }
 
-/// BINARY.
+/// BINARY: a byte address, a length in bytes. Answers the number in that text as a word.
 #[tactic(auto, using(hp_call_rows::proofs::GateLemmas::binary_is, hp_call_rows::proofs::GateLemmas::small_number, hp_call_rows::proofs::GateLemmas::too_few))]
 pub(crate) fn binary(regs: &mut Regs, stack: &mut Stack) -> Result<Ending, Trap>
     requires { (seen stack.old).in_registers ≡ 0 }
-    ensures { (t : Terminal) → ServesAs (performed Binary) 1 regs.old (seen stack.old) t (came result) regs.new (seen stack.new) t }
+    ensures { (t : Terminal) → ServesAs (performed Binary) 1 regs.old (seen stack.old) t (came result)
+        regs.new (seen stack.new) t }
 {
     need(stack, 3)?;
     let _length = stack.word(0);
@@ -177,11 +184,12 @@ pub(crate) fn binary(regs: &mut Regs, stack: &mut Stack) -> Result<Ending, Trap>
     Ok(Ending::Running)
 }
 
-/// DBINARY.
+/// DBINARY: a byte address, a length in bytes. Answers the number in that text as a double, its low word on top.
 #[tactic(auto, using(hp_call_rows::proofs::GateLemmas::dbinary_is, hp_call_rows::proofs::GateLemmas::too_few), unfolding(hp_word::specs::Bytes::high_word, hp_word::specs::Bytes::low_word))]
 pub(crate) fn dbinary(regs: &mut Regs, stack: &mut Stack) -> Result<Ending, Trap>
     requires { (seen stack.old).in_registers ≡ 0 }
-    ensures { (t : Terminal) → ServesAs (performed Dbinary) 2 regs.old (seen stack.old) t (came result) regs.new (seen stack.new) t }
+    ensures { (t : Terminal) → ServesAs (performed Dbinary) 2 regs.old (seen stack.old) t (came result)
+        regs.new (seen stack.new) t }
 {
     need(stack, 4)?;
     let _length = stack.word(0);
@@ -193,11 +201,12 @@ pub(crate) fn dbinary(regs: &mut Regs, stack: &mut Stack) -> Result<Ending, Trap
     Ok(Ending::Running)
 }
 
-/// QUIT.
+/// QUIT: a number, read with its sign. Ends the session with it.
 #[tactic(auto, using(hp_call_rows::proofs::GateLemmas::quit_is, hp_call_rows::proofs::GateLemmas::too_few))]
 pub(crate) fn quit(stack: &mut Stack) -> Result<Ending, Trap>
     requires { (seen stack.old).in_registers ≡ 0 }
-    ensures { (regs : Regs) (t : Terminal) → ServesAs (performed Quit) 0 regs (seen stack.old) t (came result) regs (seen stack.new) t }
+    ensures { (regs : Regs) (t : Terminal) → ServesAs (performed Quit) 0 regs (seen stack.old) t (came result)
+        regs (seen stack.new) t }
 {
     need(stack, 1)?;
     let number = signed_word(stack.word(0));

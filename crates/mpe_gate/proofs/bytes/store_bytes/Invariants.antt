@@ -11,5 +11,6 @@ invariant-loop-byte l = record {
   place : l.b ≡ l.first + l.byte-index;
   kept : seen l.stack ≡ with_words (seen l.stack).words (seen l.fn.stack);
   many : length (seen l.stack).words ≡ length (seen l.fn.stack).words;
-  value : with_bytes (seen l.stack).words (stored_from l.b (drop l.byte-index l.bytes)) ≡ with_bytes (seen l.fn.stack).words (stored_from l.first l.bytes);
+  value : with_bytes (seen l.stack).words (stored_from l.b (drop l.byte-index l.bytes))
+      ≡ with_bytes (seen l.fn.stack).words (stored_from l.first l.bytes);
 }

@@ -10,5 +10,6 @@ use Rattle.mpe_gate.proofs.intrinsics.binary.Goals as goal
 pub overflow_cast-n : goal.overflow_cast-n
 overflow_cast-n c =
     let m : Machine = record (opened [] 0 0 [] 0 0 0) { stack = (seen c.args.stack.now).words } in
-    let fits : c.in-Value.n < 65536 = small_number m c.in-Value.n (sym (c.number.ensures m refl) ∙ c.in_ok-n.was ∙ ap (λ (k : Number). Ok k) c.in-Value.is) in
+    let fits : c.in-Value.n < 65536 =
+    small_number m c.in-Value.n (sym (c.number.ensures m refl) ∙ c.in_ok-n.was ∙ ap (λ (k : Number). Ok k) c.in-Value.is) in
     omega arith
