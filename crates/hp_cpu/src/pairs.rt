@@ -7,6 +7,7 @@ ghost use Rattle.hp_tos.specs.StackView.{seen};
 ghost use Rattle.hp_rows.specs.Performs.{Performs};
 ghost use Rattle.hp_stackops.specs.StackUses.{used_by};
 ghost use Rattle.hp_flat.specs.Step.{pair_row, row};
+ghost use Rattle.hp_calls.specs.Transfers.{IsReady};
 ghost use Rattle.hp_cpu.specs.Acts.{Acts};
 ghost use Rattle.hp_cpu.specs.Answers.{done};
 
@@ -52,7 +53,8 @@ pub(crate) fn done(answer: Result<(), Trap>) -> Result<Called, Trap>
 /// One operation of a pair, as the step of an instruction.
 #[inline]
 pub(crate) fn pair(left: Op, right: Op, regs: &mut Regs, stack: &mut Stack) -> Result<Called, Trap>
-    ensures { (program : List (List ℕ)) → Acts program (row program (Pair left right)) (Pair left right) regs.old (seen stack.old) result regs.new (seen stack.new) }
+    ensures acts { (program : List (List ℕ)) → Acts program (row program (Pair left right)) (Pair left right) regs.old (seen stack.old) result regs.new (seen stack.new) }
+    ensures ready { IsReady result (seen stack.new) }
 {
     done(half(left, right, regs, stack))
 }
@@ -70,7 +72,8 @@ fn are_listed(left: Op, right: Op) -> bool
 #[inline]
 pub(crate) fn stack_word(w: u16, regs: &mut Regs, stack: &mut Stack) -> Result<Called, Trap>
     requires { w < 4096 }
-    ensures { (program : List (List ℕ)) → Acts program (row program (instruction w)) (instruction w) regs.old (seen stack.old) result regs.new (seen stack.new) }
+    ensures acts { (program : List (List ℕ)) → Acts program (row program (instruction w)) (instruction w) regs.old (seen stack.old) result regs.new (seen stack.new) }
+    ensures ready { IsReady result (seen stack.new) }
 {
     let left = Op {
         code: (w / 64) as u8,

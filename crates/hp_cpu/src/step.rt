@@ -26,7 +26,9 @@ fn answered(answer: Result<Called, Trap>, phase: &mut Phase) -> Stepped
 
 impl Cpu {
     ghost use Rattle.std.specs.Prelude.{ℕ, List, length};
+    ghost use Rattle.hp_tos.specs.StackView.{seen};
     ghost use Rattle.hp_calls.specs.Phases.{HoldsOf};
+    ghost use Rattle.hp_cpu.specs.Answers.{CanBeServed};
     ghost use Rattle.hp_cpu.specs.Steps.{Steps};
     ghost use Rattle.hp_cpu.specs.Suits.{AreValid, KeepsLengths, KeepsReserve, Suits};
 
@@ -36,7 +38,7 @@ impl Cpu {
     /// machine's in that program. It needs one segment. Where the store does not hold that one the answer is `Absent`, as often
     /// as the step is tried, and nothing at all has changed. A trap, and the call of an intrinsic, leave the list of words, the
     /// extra segment, all registers and the mode as they were; words may have moved between registers and memory by then.
-    /// Takes no memory.
+    /// An intrinsic that is called finds whole mode and every word in memory, so it can be served at once. Takes no memory.
     pub fn step<C: CodeStore>(&mut self, code: &C) -> Stepped
         ensures steps { (program : List (List ℕ)) → HoldsOf program (C.held code.now) → length program ≡ self.old.segments
             → Steps program (C.held code.now) self.old result self.new }
@@ -46,6 +48,8 @@ impl Cpu {
             → HoldsOf program (C.held code.now) → length program ≡ self.old.segments → KeepsLengths self.old self.new }
         ensures suits { (program : List (List ℕ)) (main entry : ℕ) (globals : List ℕ) → AreValid program main entry globals
             → HoldsOf program (C.held code.now) → Suits program self.old → Suits program self.new }
+        // whatever the store holds
+        ensures ready { CanBeServed result (seen self.new.stack) }
     {
         if let Err(seg) = finish_transfer(self.phase, &mut self.regs, code) {
             return Stepped::Absent(seg);

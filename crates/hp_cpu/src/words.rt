@@ -7,7 +7,7 @@ ghost use Rattle.hp_instr.specs.Groups.{group};
 ghost use Rattle.hp_instr.specs.Instructions.{instruction};
 ghost use Rattle.hp_tos.specs.StackView.{seen};
 ghost use Rattle.hp_flat.specs.Step.{row, word_row};
-ghost use Rattle.hp_calls.specs.Transfers.{went};
+ghost use Rattle.hp_calls.specs.Transfers.{IsReady, went};
 ghost use Rattle.hp_moves.specs.MoveSteps.{as_step};
 ghost use Rattle.hp_cpu.specs.Acts.{Acts};
 ghost use Rattle.hp_cpu.specs.Answers.{done};
@@ -51,7 +51,8 @@ fn on_its_way(answer: Result<Phase, Trap>) -> Result<Called, Trap>
 fn with_field(i: Instr, regs: &mut Regs, stack: &mut Stack) -> Result<Called, Trap>
     requires instruction { IsTrue (has_word i) }
     requires group { group i ≡ Field }
-    ensures { (program : List (List ℕ)) → Acts program (word_row program i) i regs.old (seen stack.old) result regs.new (seen stack.new) }
+    ensures acts { (program : List (List ℕ)) → Acts program (word_row program i) i regs.old (seen stack.old) result regs.new (seen stack.new) }
+    ensures ready { IsReady result (seen stack.new) }
 {
     done(field_op(i, regs, stack))
 }
@@ -65,8 +66,9 @@ fn with_reference<C: CodeStore>(
     code: &C,
 ) -> Result<Called, Trap>
     requires { group i ≡ Reference }
-    ensures { (program : List (List ℕ)) → slice_get program regs.old.seg ≡ C.held code.now regs.old.seg
+    ensures acts { (program : List (List ℕ)) → slice_get program regs.old.seg ≡ C.held code.now regs.old.seg
         → Acts program (word_row program i) i regs.old (seen stack.old) result regs.new (seen stack.new) }
+    ensures ready { IsReady result (seen stack.new) }
 {
     done(memory_op(i, regs, stack, code))
 }
@@ -80,8 +82,9 @@ fn with_move<C: CodeStore>(
     code: &C,
 ) -> Result<Called, Trap>
     requires { group i ≡ Move }
-    ensures { (program : List (List ℕ)) → slice_get program regs.old.seg ≡ C.held code.now regs.old.seg
+    ensures acts { (program : List (List ℕ)) → slice_get program regs.old.seg ≡ C.held code.now regs.old.seg
         → Acts program (word_row program i) i regs.old (seen stack.old) result regs.new (seen stack.new) }
+    ensures ready { IsReady result (seen stack.new) }
 {
     stepped(move_op(i, regs, stack, code))
 }
@@ -94,8 +97,9 @@ fn with_call<C: CodeStore>(
     stack: &mut Stack,
     code: &C,
 ) -> Result<Called, Trap>
-    ensures { (program : List (List ℕ)) → slice_get program regs.old.seg ≡ C.held code.now regs.old.seg
+    ensures acts { (program : List (List ℕ)) → slice_get program regs.old.seg ≡ C.held code.now regs.old.seg
         → Acts program (word_row program (Control 0 n)) (Control 0 n) regs.old (seen stack.old) result regs.new (seen stack.new) }
+    ensures ready { IsReady result (seen stack.new) }
 {
     pcal(n, regs, stack, code)
 }
@@ -103,8 +107,9 @@ fn with_call<C: CodeStore>(
 /// EXIT.
 #[inline]
 fn with_exit(n: u8, segments: u8, regs: &mut Regs, stack: &mut Stack) -> Result<Called, Trap>
-    ensures { (program : List (List ℕ)) → length program ≡ segments
+    ensures acts { (program : List (List ℕ)) → length program ≡ segments
         → Acts program (word_row program (Control 1 n)) (Control 1 n) regs.old (seen stack.old) result regs.new (seen stack.new) }
+    ensures ready { IsReady result (seen stack.new) }
 {
     on_its_way(exit(n, segments, regs, stack))
 }
@@ -112,7 +117,8 @@ fn with_exit(n: u8, segments: u8, regs: &mut Regs, stack: &mut Stack) -> Result<
 /// SXIT.
 #[inline]
 fn with_subroutine_exit(n: u8, regs: &mut Regs, stack: &mut Stack) -> Result<Called, Trap>
-    ensures { (program : List (List ℕ)) → Acts program (word_row program (Control 2 n)) (Control 2 n) regs.old (seen stack.old) result regs.new (seen stack.new) }
+    ensures acts { (program : List (List ℕ)) → Acts program (word_row program (Control 2 n)) (Control 2 n) regs.old (seen stack.old) result regs.new (seen stack.new) }
+    ensures ready { IsReady result (seen stack.new) }
 {
     done(sxit(n, regs, stack))
 }
@@ -125,8 +131,9 @@ fn with_subroutine_call<C: CodeStore>(
     stack: &mut Stack,
     code: &C,
 ) -> Result<Called, Trap>
-    ensures { (program : List (List ℕ)) → slice_get program regs.old.seg ≡ C.held code.now regs.old.seg
+    ensures acts { (program : List (List ℕ)) → slice_get program regs.old.seg ≡ C.held code.now regs.old.seg
         → Acts program (word_row program (Control 3 n)) (Control 3 n) regs.old (seen stack.old) result regs.new (seen stack.new) }
+    ensures ready { IsReady result (seen stack.new) }
 {
     done(scal(n, regs, stack, code))
 }
@@ -141,8 +148,9 @@ fn transfer<C: CodeStore>(
     code: &C,
 ) -> Result<Called, Trap>
     requires { group i ≡ Call }
-    ensures { (program : List (List ℕ)) → length program ≡ segments → slice_get program regs.old.seg ≡ C.held code.now regs.old.seg
+    ensures acts { (program : List (List ℕ)) → length program ≡ segments → slice_get program regs.old.seg ≡ C.held code.now regs.old.seg
         → Acts program (word_row program i) i regs.old (seen stack.old) result regs.new (seen stack.new) }
+    ensures ready { IsReady result (seen stack.new) }
 {
     match i {
         Instr::Control {
@@ -172,8 +180,9 @@ fn whole_word<C: CodeStore>(
     code: &C,
 ) -> Result<Called, Trap>
     requires instruction { IsTrue (has_word i) }
-    ensures { (program : List (List ℕ)) → length program ≡ segments → slice_get program regs.old.seg ≡ C.held code.now regs.old.seg
+    ensures acts { (program : List (List ℕ)) → length program ≡ segments → slice_get program regs.old.seg ≡ C.held code.now regs.old.seg
         → group i ≢ Paired → Acts program (word_row program i) i regs.old (seen stack.old) result regs.new (seen stack.new) }
+    ensures ready { IsReady result (seen stack.new) }
 {
     match group_of(i) {
         Group::Field => with_field(i, regs, stack),
@@ -205,8 +214,9 @@ fn word_at_left<C: CodeStore>(
     code: &C,
 ) -> Result<Called, Trap>
     requires instruction { IsTrue (has_word i) }
-    ensures { (program : List (List ℕ)) → length program ≡ segments → slice_get program regs.old.seg ≡ C.held code.now regs.old.seg
+    ensures acts { (program : List (List ℕ)) → length program ≡ segments → slice_get program regs.old.seg ≡ C.held code.now regs.old.seg
         → group i ≢ Paired → Acts program (row program i) i regs.old (seen stack.old) result regs.new (seen stack.new) }
+    ensures ready { IsReady result (seen stack.new) }
 {
     let right = regs.right;
     regs.right = false;
@@ -224,8 +234,9 @@ fn word_by_instruction<C: CodeStore>(
     code: &C,
 ) -> Result<Called, Trap>
     requires instruction { IsTrue (has_word i) }
-    ensures { (program : List (List ℕ)) → length program ≡ segments → slice_get program regs.old.seg ≡ C.held code.now regs.old.seg
+    ensures acts { (program : List (List ℕ)) → length program ≡ segments → slice_get program regs.old.seg ≡ C.held code.now regs.old.seg
         → Acts program (row program i) i regs.old (seen stack.old) result regs.new (seen stack.new) }
+    ensures ready { IsReady result (seen stack.new) }
 {
     match i {
         Instr::Pair { left, right } => pair(left, right, regs, stack),
@@ -242,8 +253,9 @@ pub(crate) fn act<C: CodeStore>(
     stack: &mut Stack,
     code: &C,
 ) -> Result<Called, Trap>
-    ensures { (program : List (List ℕ)) → length program ≡ segments → slice_get program regs.old.seg ≡ C.held code.now regs.old.seg
+    ensures acts { (program : List (List ℕ)) → length program ≡ segments → slice_get program regs.old.seg ≡ C.held code.now regs.old.seg
         → Acts program (row program (instruction w)) (instruction w) regs.old (seen stack.old) result regs.new (seen stack.new) }
+    ensures ready { IsReady result (seen stack.new) }
 {
     if w < 4096 {
         stack_word(w, regs, stack)

@@ -2,4 +2,7 @@
 use Rattle.hp_cpu.proofs.words.act.Goals as goal
 
 pub returns-then-w-lt4096 : goal.returns-then-w-lt4096
-returns-then-w-lt4096 g c = λ program count here. c.stack_word.ensures program
+returns-then-w-lt4096 g c = record {
+  acts = λ program count here. c.stack_word.ensures.acts program;
+  ready = c.stack_word.ensures.ready;
+}

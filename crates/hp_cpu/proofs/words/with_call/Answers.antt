@@ -3,4 +3,7 @@ use Rattle.hp_cpu.proofs.ActLemmas.{call_acts}
 use Rattle.hp_cpu.proofs.words.with_call.Goals as goal
 
 pub returns : goal.returns
-returns g c = λ program here. call_acts program c.args.n _ _ _ _ c.pcal.result (c.pcal.ensures.row program here) (c.pcal.ensures.phase program here) (c.pcal.ensures.gate program here)
+returns g c = record {
+  acts = λ program here. call_acts program c.args.n _ _ _ _ c.pcal.result (c.pcal.ensures.row program here) (c.pcal.ensures.phase program here) (c.pcal.ensures.gate program here);
+  ready = c.pcal.ensures.ready;
+}

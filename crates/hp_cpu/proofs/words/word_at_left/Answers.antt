@@ -7,5 +7,8 @@ use Rattle.hp_cpu.proofs.ActLemmas.{at_left_acts}
 use Rattle.hp_cpu.proofs.words.word_at_left.Goals as goal
 
 pub returns : goal.returns
-returns g c = λ program count here whole. subst (λ r. Acts program (row program c.args.i) c.args.i c.args.regs.now (seen c.args.stack.now) c.whole_word-answer.result r (seen c.whole_word-answer.new.stack))
-    (sym c.restore.ensures) (at_left_acts program c.args.i c.args.regs.now _ c.whole_word-answer.result _ _ whole (c.whole_word-answer.ensures program count here whole))
+returns g c = record {
+  acts = λ program count here whole. subst (λ r. Acts program (row program c.args.i) c.args.i c.args.regs.now (seen c.args.stack.now) c.whole_word-answer.result r (seen c.whole_word-answer.new.stack))
+      (sym c.restore.ensures) (at_left_acts program c.args.i c.args.regs.now _ c.whole_word-answer.result _ _ whole (c.whole_word-answer.ensures.acts program count here whole));
+  ready = c.whole_word-answer.ensures.ready;
+}

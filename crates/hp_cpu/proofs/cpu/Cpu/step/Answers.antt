@@ -4,9 +4,11 @@ use Rattle.hp_session.specs.declared.registers.Regs.{Regs}
 use Rattle.hp_calls.specs.declared.phases.Phase.{Phase}
 use Rattle.hp_cpu.specs.declared.cpu.Cpu.{Cpu}
 use Rattle.hp_cpu.specs.declared.cpu.Stepped.{Stepped}
-use Rattle.hp_cpu.specs.Answers.{stepped}
+use Rattle.hp_tos.specs.StackView.{seen}
+use Rattle.hp_cpu.specs.Answers.{CanBeServed, stepped}
 use Rattle.hp_cpu.specs.Steps.{Steps}
 use Rattle.hp_cpu.specs.Suits.{KeepsLengths, KeepsReserve, Suits}
+use Rattle.hp_cpu.proofs.ReadyLemmas.{step_ready}
 use Rattle.hp_cpu.proofs.StepLemmas.{acted, acting, fetch_waited, outside, waited}
 use Rattle.hp_cpu.proofs.SuitLemmas.{acted_lengths, acted_reserve, acted_suits, no_word_suits}
 use Rattle.hp_cpu.proofs.cpu.Cpu.step.Goals as goal
@@ -20,6 +22,7 @@ returns-in-Err g c =
       reserved = λ program of count. record { same_capacity = refl; same_extra_capacity = refl };
       lengths = λ program main entry globals valid of count. record { same_limit = refl; same_size = refl };
       suits = λ program main entry globals valid of suits. subst (Suits program) (sym stays) suits;
+      ready = tt;
     }
 
 -- so does the next step, where its segment is not held
@@ -33,6 +36,7 @@ returns-in-Absent g c =
       reserved = λ program of count. record { same_capacity = refl; same_extra_capacity = refl };
       lengths = λ program main entry globals valid of count. record { same_limit = refl; same_size = refl };
       suits = λ program main entry globals valid of suits. no_word_suits program held c.args.self.now c.finish_transfer.new.regs of here c.in_default.ensures.ok suits;
+      ready = tt;
     }
 
 -- there is no word
@@ -45,6 +49,7 @@ returns-in-Outside g c =
       reserved = λ program of count. record { same_capacity = refl; same_extra_capacity = refl };
       lengths = λ program main entry globals valid of count. record { same_limit = refl; same_size = refl };
       suits = λ program main entry globals valid of suits. no_word_suits program held c.args.self.now c.finish_transfer.new.regs of here c.in_default.ensures.ok suits;
+      ready = tt;
     }
 
 -- the word acts
@@ -62,18 +67,19 @@ returns-in-Word g c =
     let left = sym c.answered.ensures.phase in
     record {
       steps = λ program of count.
-          let acts = c.act-answer.ensures program count (acting program held old regs of c.in-Word.w fetch) in
+          let acts = c.act-answer.ensures.acts program count (acting program held old regs of c.in-Word.w fetch) in
           subst (λ (a : Stepped). Steps program held old a (record old { regs = next; phase = c.answered.new.phase; stack = stack })) (sym c.answered.ensures.value)
           (subst (λ (p : Phase). Steps program held old (stepped answer) (record old { regs = next; phase = p; stack = stack })) left
           (acted program held old regs c.in-Word.w of here is fetch answer next stack acts));
       reserved = λ program of count.
-          acted_reserve program old regs c.in-Word.w answer next c.answered.new.phase stack (c.act-answer.ensures program count (acting program held old regs of c.in-Word.w fetch));
+          acted_reserve program old regs c.in-Word.w answer next c.answered.new.phase stack (c.act-answer.ensures.acts program count (acting program held old regs of c.in-Word.w fetch));
       lengths = λ program main entry globals valid of count.
-          let acts = c.act-answer.ensures program count (acting program held old regs of c.in-Word.w fetch) in
+          let acts = c.act-answer.ensures.acts program count (acting program held old regs of c.in-Word.w fetch) in
           subst (λ (p : Phase). KeepsLengths old (record old { regs = next; phase = p; stack = stack })) left
           (acted_lengths program main entry globals valid held old regs c.in-Word.w of here is fetch answer next stack acts);
       suits = λ program main entry globals valid of suits.
-          let acts = c.act-answer.ensures program suits.count (acting program held old regs of c.in-Word.w fetch) in
+          let acts = c.act-answer.ensures.acts program suits.count (acting program held old regs of c.in-Word.w fetch) in
           subst (λ (p : Phase). Suits program (record old { regs = next; phase = p; stack = stack })) left
           (acted_suits program main entry globals valid held old regs c.in-Word.w of here is fetch answer next stack acts suits);
+      ready = subst (λ (a : Stepped). CanBeServed a (seen stack)) (sym c.answered.ensures.value) (step_ready answer (seen stack) c.act-answer.ensures.ready);
     }
