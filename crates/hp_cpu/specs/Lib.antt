@@ -6,5 +6,6 @@ pub mod Counts
 pub mod Answers
 pub mod Restored
 pub mod Acts
+pub mod Came
 pub mod Steps
 pub mod Suits

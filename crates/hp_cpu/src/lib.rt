@@ -1,9 +1,11 @@
 //! A processor over any store of code: one step is one step of the flat machine, or the answer that a segment is absent.
 #![tactic(auto)]
 
+mod acts;
 mod cpu;
 mod pairs;
 mod step;
+mod transfers;
 mod words;
 
 pub use cpu::{Cpu, Stepped};

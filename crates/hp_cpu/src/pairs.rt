@@ -7,11 +7,9 @@ ghost use Rattle.hp_tos.specs.StackView.{seen};
 ghost use Rattle.hp_rows.specs.Performs.{Performs};
 ghost use Rattle.hp_stackops.specs.StackUses.{used_by};
 ghost use Rattle.hp_flat.specs.Step.{pair_row, row};
-ghost use Rattle.hp_calls.specs.Transfers.{IsReady};
 ghost use Rattle.hp_cpu.specs.Acts.{Acts};
 ghost use Rattle.hp_cpu.specs.Answers.{done};
 
-use hp_calls::{Called, Phase};
 use hp_instr::{Op, is_op};
 use hp_rows::pass;
 use hp_session::Regs;
@@ -22,7 +20,7 @@ use hp_word::Trap;
 /// One operation of a pair. With R at 1 it is the right one, after which P passes the word. Else it is the left one: then R is
 /// set, unless the right one is NOP, which is no step of its own.
 #[tactic(auto, unfolding(hp_flat::specs::Step::pair_row))]
-#[inline]
+#[inline(always)]
 fn half(left: Op, right: Op, regs: &mut Regs, stack: &mut Stack) -> Result<(), Trap>
     ensures { Performs (pair_row left right) (used_by (if regs.old.right then right else left).code) regs.old (seen stack.old) result regs.new (seen stack.new) }
 {
@@ -39,28 +37,16 @@ fn half(left: Op, right: Op, regs: &mut Regs, stack: &mut Stack) -> Result<(), T
     Ok(())
 }
 
-/// What came of a word that leaves no transfer under way.
-#[inline]
-pub(crate) fn done(answer: Result<(), Trap>) -> Result<Called, Trap>
-    ensures { result ≡ done answer }
-{
-    match answer {
-        Ok(()) => Ok(Called::Went(Phase::Ready)),
-        Err(trap) => Err(trap),
-    }
-}
-
 /// One operation of a pair, as the step of an instruction.
-#[inline]
-pub(crate) fn pair(left: Op, right: Op, regs: &mut Regs, stack: &mut Stack) -> Result<Called, Trap>
-    ensures acts { (program : List (List ℕ)) → Acts program (row program (Pair left right)) (Pair left right) regs.old (seen stack.old) result regs.new (seen stack.new) }
-    ensures ready { IsReady result (seen stack.new) }
+#[inline(always)]
+pub(crate) fn pair(left: Op, right: Op, regs: &mut Regs, stack: &mut Stack) -> Result<(), Trap>
+    ensures { (program : List (List ℕ)) → Acts program (row program (Pair left right)) (Pair left right) regs.old (seen stack.old) (done result) regs.new (seen stack.new) }
 {
-    done(half(left, right, regs, stack))
+    half(left, right, regs, stack)
 }
 
 /// Whether both operations are listed, so that a pair may have them.
-#[inline]
+#[inline(always)]
 fn are_listed(left: Op, right: Op) -> bool
     ensures { result ≡ (is_op left.code && is_op right.code) }
 {
@@ -69,11 +55,10 @@ fn are_listed(left: Op, right: Op) -> bool
 
 /// One operation of a word of major 0, straight from the word: it is below 4,096, with the left operation in its upper six bits
 /// and the right one in its lower six. Most words that a program runs are of this kind, so no instruction is made of them.
-#[inline]
-pub(crate) fn stack_word(w: u16, regs: &mut Regs, stack: &mut Stack) -> Result<Called, Trap>
+#[inline(always)]
+pub(crate) fn stack_word(w: u16, regs: &mut Regs, stack: &mut Stack) -> Result<(), Trap>
     requires { w < 4096 }
-    ensures acts { (program : List (List ℕ)) → Acts program (row program (instruction w)) (instruction w) regs.old (seen stack.old) result regs.new (seen stack.new) }
-    ensures ready { IsReady result (seen stack.new) }
+    ensures { (program : List (List ℕ)) → Acts program (row program (instruction w)) (instruction w) regs.old (seen stack.old) (done result) regs.new (seen stack.new) }
 {
     let left = Op {
         code: (w / 64) as u8,

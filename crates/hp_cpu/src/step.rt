@@ -1,28 +1,11 @@
 //! One step of a processor.
 ghost use Rattle.std.specs.Prelude.{◌≡◌};
-ghost use Rattle.hp_cpu.specs.Answers.{phase_left, stepped};
 
+use crate::acts::act;
 use crate::cpu::{Cpu, Stepped};
-use crate::words::act;
-use hp_calls::{Called, Phase, finish_transfer};
+use hp_calls::{Phase, finish_transfer};
 use hp_program::{CodeStore, Fetched};
 use hp_word::Trap;
-
-/// What a step answers, by what came of its word; a call or a return leaves its phase.
-#[inline]
-fn answered(answer: Result<Called, Trap>, phase: &mut Phase) -> Stepped
-    ensures value { result ≡ stepped answer }
-    ensures phase { phase.new ≡ phase_left answer phase.old }
-{
-    match answer {
-        Ok(Called::Went(next)) => {
-            *phase = next;
-            Stepped::Went
-        }
-        Ok(Called::Gate(intrinsic)) => Stepped::Gate(intrinsic),
-        Err(trap) => Stepped::Trapped(trap),
-    }
-}
 
 impl Cpu {
     ghost use Rattle.std.specs.Prelude.{ℕ, List, length};
@@ -39,6 +22,7 @@ impl Cpu {
     /// as the step is tried, and nothing at all has changed. A trap, and the call of an intrinsic, leave the list of words, the
     /// extra segment, all registers and the mode as they were; words may have moved between registers and memory by then.
     /// An intrinsic that is called finds whole mode and every word in memory, so it can be served at once. Takes no memory.
+    #[inline(always)]
     pub fn step<C: CodeStore>(&mut self, code: &C) -> Stepped
         ensures steps { (program : List (List ℕ)) → HoldsOf program (C.held code.now) → length program ≡ self.old.segments
             → Steps program (C.held code.now) self.old result self.new }
@@ -58,10 +42,14 @@ impl Cpu {
         match code.fetch(self.regs.seg, self.regs.p) {
             Fetched::Absent => Stepped::Absent(self.regs.seg),
             Fetched::Outside => Stepped::Trapped(Trap::CodeBounds),
-            Fetched::Word(w) => {
-                let answer = act(w, self.segments, &mut self.regs, &mut self.stack, code);
-                answered(answer, &mut self.phase)
-            }
+            Fetched::Word(w) => act(
+                w,
+                self.segments,
+                &mut self.regs,
+                &mut self.stack,
+                &mut self.phase,
+                code,
+            ),
         }
     }
 }

@@ -4,11 +4,9 @@ use Rattle.hp_session.specs.declared.registers.Regs.{Regs}
 use Rattle.hp_calls.specs.declared.phases.Phase.{Phase}
 use Rattle.hp_cpu.specs.declared.cpu.Cpu.{Cpu}
 use Rattle.hp_cpu.specs.declared.cpu.Stepped.{Stepped}
-use Rattle.hp_tos.specs.StackView.{seen}
-use Rattle.hp_cpu.specs.Answers.{CanBeServed, stepped}
+use Rattle.hp_cpu.specs.Answers.{stepped}
 use Rattle.hp_cpu.specs.Steps.{Steps}
 use Rattle.hp_cpu.specs.Suits.{KeepsLengths, KeepsReserve, Suits}
-use Rattle.hp_cpu.proofs.ReadyLemmas.{step_ready}
 use Rattle.hp_cpu.proofs.StepLemmas.{acted, acting, fetch_waited, outside, waited}
 use Rattle.hp_cpu.proofs.SuitLemmas.{acted_lengths, acted_reserve, acted_suits, no_word_suits}
 use Rattle.hp_cpu.proofs.cpu.Cpu.step.Goals as goal
@@ -58,28 +56,27 @@ returns-in-Word g c =
     let held = g.C.CodeStore.held c.args.code.now in
     let old = c.args.self.now in
     let regs = c.finish_transfer.new.regs in
-    let answer = c.act-answer.result in
-    let next = c.act-answer.new.regs in
-    let stack = c.act-answer.new.stack in
+    let next = c.act.new.regs in
+    let stack = c.act.new.stack in
     let here = sym c.finish_transfer.ensures.value ∙ c.in_default.is in
     let is = c.in_default.ensures.ok in
     let fetch = sym c.fetch.ensures ∙ c.in-Word.is in
-    let left = sym c.answered.ensures.phase in
     record {
       steps = λ program of count.
-          let acts = c.act-answer.ensures.acts program count (acting program held old regs of c.in-Word.w fetch) in
-          subst (λ (a : Stepped). Steps program held old a (record old { regs = next; phase = c.answered.new.phase; stack = stack })) (sym c.answered.ensures.value)
-          (subst (λ (p : Phase). Steps program held old (stepped answer) (record old { regs = next; phase = p; stack = stack })) left
-          (acted program held old regs c.in-Word.w of here is fetch answer next stack acts));
+          let came = c.act.ensures.came program count (acting program held old regs of c.in-Word.w fetch) refl in
+          subst (λ (a : Stepped). Steps program held old a (record old { regs = next; phase = c.act.new.phase; stack = stack })) (sym came.told)
+          (subst (λ (p : Phase). Steps program held old (stepped came.answer) (record old { regs = next; phase = p; stack = stack })) (sym came.left)
+          (acted program held old regs c.in-Word.w of here is fetch came.answer next stack came.acts));
       reserved = λ program of count.
-          acted_reserve program old regs c.in-Word.w answer next c.answered.new.phase stack (c.act-answer.ensures.acts program count (acting program held old regs of c.in-Word.w fetch));
+          let came = c.act.ensures.came program count (acting program held old regs of c.in-Word.w fetch) refl in
+          acted_reserve program old regs c.in-Word.w came.answer next c.act.new.phase stack came.acts;
       lengths = λ program main entry globals valid of count.
-          let acts = c.act-answer.ensures.acts program count (acting program held old regs of c.in-Word.w fetch) in
-          subst (λ (p : Phase). KeepsLengths old (record old { regs = next; phase = p; stack = stack })) left
-          (acted_lengths program main entry globals valid held old regs c.in-Word.w of here is fetch answer next stack acts);
+          let came = c.act.ensures.came program count (acting program held old regs of c.in-Word.w fetch) refl in
+          subst (λ (p : Phase). KeepsLengths old (record old { regs = next; phase = p; stack = stack })) (sym came.left)
+          (acted_lengths program main entry globals valid held old regs c.in-Word.w of here is fetch came.answer next stack came.acts);
       suits = λ program main entry globals valid of suits.
-          let acts = c.act-answer.ensures.acts program suits.count (acting program held old regs of c.in-Word.w fetch) in
-          subst (λ (p : Phase). Suits program (record old { regs = next; phase = p; stack = stack })) left
-          (acted_suits program main entry globals valid held old regs c.in-Word.w of here is fetch answer next stack acts suits);
-      ready = subst (λ (a : Stepped). CanBeServed a (seen stack)) (sym c.answered.ensures.value) (step_ready answer (seen stack) c.act-answer.ensures.ready);
+          let came = c.act.ensures.came program suits.count (acting program held old regs of c.in-Word.w fetch) refl in
+          subst (λ (p : Phase). Suits program (record old { regs = next; phase = p; stack = stack })) (sym came.left)
+          (acted_suits program main entry globals valid held old regs c.in-Word.w of here is fetch came.answer next stack came.acts suits);
+      ready = c.act.ensures.ready;
     }

@@ -7,7 +7,7 @@ use Rattle.hp_cpu.specs.Acts.{Acts}
 use Rattle.hp_calls.specs.Transfers.{IsReady}
 use Rattle.hp_cpu.proofs.ActLemmas.{exit_acts}
 use Rattle.hp_cpu.proofs.ReadyLemmas.{went_ready}
-use Rattle.hp_cpu.proofs.words.with_exit.Goals as goal
+use Rattle.hp_cpu.proofs.transfers.with_exit.Goals as goal
 
 pub returns : goal.returns
 returns c = record {

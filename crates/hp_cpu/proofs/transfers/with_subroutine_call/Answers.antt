@@ -7,7 +7,7 @@ use Rattle.hp_cpu.specs.Acts.{Acts}
 use Rattle.hp_calls.specs.Transfers.{IsReady}
 use Rattle.hp_cpu.proofs.ActLemmas.{subroutine_called_acts}
 use Rattle.hp_cpu.proofs.ReadyLemmas.{done_ready}
-use Rattle.hp_cpu.proofs.words.with_subroutine_call.Goals as goal
+use Rattle.hp_cpu.proofs.transfers.with_subroutine_call.Goals as goal
 
 pub returns : goal.returns
 returns g c = record {

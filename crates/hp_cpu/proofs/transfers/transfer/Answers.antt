@@ -3,7 +3,7 @@ use Rattle.std.proofs.Common.{◌≡◌, ℕ, sym, ap, ◌∙◌}
 use Rattle.hp_instr.specs.Groups.{group}
 use Rattle.hp_instr.specs.declared.instruction.Instr.TheVariants.{Control}
 use Rattle.hp_cpu.proofs.ActLemmas.{last_call}
-use Rattle.hp_cpu.proofs.words.transfer.Goals as goal
+use Rattle.hp_cpu.proofs.transfers.transfer.Goals as goal
 
 pub returns-in-Control-eq2-default : goal.returns-in-Control-eq2-default
 returns-in-Control-eq2-default g c = record {

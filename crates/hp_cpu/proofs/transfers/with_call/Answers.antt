@@ -1,6 +1,6 @@
 -- The row of PCAL.
 use Rattle.hp_cpu.proofs.ActLemmas.{call_acts}
-use Rattle.hp_cpu.proofs.words.with_call.Goals as goal
+use Rattle.hp_cpu.proofs.transfers.with_call.Goals as goal
 
 pub returns : goal.returns
 returns g c = record {
