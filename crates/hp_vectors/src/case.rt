@@ -3,7 +3,7 @@
 ghost use Rattle.std.specs.Prelude.{◌≤◌, IfOk, IfSome, vec_len, vec_capacity};
 
 use crate::fields::{State, bytes, number, words};
-use crate::registers;
+use crate::processor::Seated;
 use hp_flat::{Flat, Line, Program};
 use std::alloc::{AllocError, Global};
 
@@ -32,8 +32,8 @@ pub enum Verdict {
 pub struct Judged {
     /// The step of the flat machine.
     pub flat: Verdict,
-    /// The step over a stack in registers, where the instruction has a call there.
-    pub registers: Option<Verdict>,
+    /// The step of the processor, over a stack in registers.
+    pub processor: Verdict,
 }
 
 /// Terminal lines in hexadecimal digits, parted by commas.
@@ -181,18 +181,34 @@ impl Case {
         Ok(self.verdict(difference(&flat, wanted)))
     }
 
-    /// Makes the step over a stack in registers, where the word at P has a call there.
-    fn judge_registers(
+    /// Makes the step by the processor.
+    fn judge_processor(
         &self,
         alloc: Global,
         program: &Program,
         wanted: &State,
-    ) -> Result<Option<Verdict>, AllocError> {
+    ) -> Result<Verdict, AllocError> {
+        let nothing = Ok(Verdict::Differs(self.number, "BEFORE"));
         let Some(before) = &self.before else {
-            return Ok(None);
+            return nothing;
         };
-        let found = registers::step(alloc, program, self.stack_limit, before, wanted)?;
-        Ok(found.map(|difference| self.verdict(difference)))
+        let Some(printed) = roomy(alloc, &before.printed, self.room as usize)? else {
+            return nothing;
+        };
+        let Some(mut seated) = Seated::new(
+            alloc,
+            program,
+            self.stack_limit,
+            before,
+            &self.lines,
+            printed,
+            self.room,
+        )?
+        else {
+            return nothing;
+        };
+        let ending = seated.step(program);
+        Ok(self.verdict(seated.difference(ending, wanted)))
     }
 
     /// The verdict by the first field that differs.
@@ -210,13 +226,13 @@ impl Case {
         let Ok(program) = Program::new(segments, main, entry, Vec::new(alloc)) else {
             return Ok(Judged {
                 flat: Verdict::Differs(self.number, "SEGMENT"),
-                registers: None,
+                processor: Verdict::Differs(self.number, "SEGMENT"),
             });
         };
-        let registers = self.judge_registers(alloc, &program, wanted)?;
+        let processor = self.judge_processor(alloc, &program, wanted)?;
         Ok(Judged {
             flat: self.judge_flat(alloc, &program, wanted)?,
-            registers,
+            processor,
         })
     }
 

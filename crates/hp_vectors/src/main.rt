@@ -1,11 +1,11 @@
 //! Compares single steps of the machine with cases from outside, read from standard input: the number of each case that
-//! differs with the first field that does, and then how many agree; by the flat machine, and over a stack in registers. The
+//! differs with the first field that does, and then how many agree; by the flat machine, and by the processor. The
 //! status is 1 where any differs.
 #![tactic(auto)]
 
 mod case;
 mod fields;
-mod registers;
+mod processor;
 
 use case::{Case, Judged, Verdict};
 use std::io;
@@ -40,7 +40,7 @@ fn main(rt: HostRuntime) -> io::Result<ExitCode> {
         agree: 0,
         differ: 0,
     };
-    let mut registers = flat;
+    let mut processor = flat;
     for line in rt.lines(rt.alloc()) {
         let Some(judged) = case.take(rt.alloc(), line?.as_str())? else {
             continue;
@@ -48,18 +48,16 @@ fn main(rt: HostRuntime) -> io::Result<ExitCode> {
         if let Some((number, field)) = flat.count(judged.flat) {
             println!(rt; "{number} {field}")?;
         }
-        if let Some(verdict) = judged.registers {
-            if let Some((number, field)) = registers.count(verdict) {
-                println!(rt; "{number} {field} over registers")?;
-            }
+        if let Some((number, field)) = processor.count(judged.processor) {
+            println!(rt; "{number} {field} by the processor")?;
         }
     }
     println!(rt; "{} agree, {} differ", flat.agree, flat.differ)?;
     println!(rt;
-        "over registers {} agree, {} differ",
-        registers.agree, registers.differ
+        "by the processor {} agree, {} differ",
+        processor.agree, processor.differ
     )?;
-    Ok(ExitCode::from(if flat.differ == 0 && registers.differ == 0 {
+    Ok(ExitCode::from(if flat.differ == 0 && processor.differ == 0 {
         0
     } else {
         1

@@ -1,19 +1,14 @@
-//! The same step over a stack whose top words may stand in registers, for the instructions that have a call there.
-ghost use Rattle.std.specs.Prelude.{◌≡◌, IsTrue};
-ghost use Rattle.hp_instr.specs.Given.{has_word};
-ghost use Rattle.hp_instr.specs.declared.groups.Group.TheVariants.{Move};
-ghost use Rattle.hp_instr.specs.Groups.{group};
+//! The same step by the processor, over a stack whose top words may stand in registers; an intrinsic that it calls is served.
+ghost use Rattle.std.specs.Prelude.{◌≤◌, vec_len, vec_capacity};
 
 use crate::fields::State;
-use hp_calls::{Called, call_at_once, exit_at_once, scal, sxit};
-use hp_fields::field_op;
-use hp_flat::{CodeStore, Fetched, Program, Regs};
-use hp_instr::{Group, Instr, Op, control, decode, group_of};
-use hp_memref::memory_op;
-use hp_moves::move_op;
-use hp_stackops::stack_op;
+use hp_calls::finish_transfer;
+use hp_cpu::{Cpu, Phase, Stepped};
+use hp_flat::{Line, Program};
 use hp_tos::Stack;
-use hp_word::{Ending, Trap};
+use hp_word::Ending;
+use mpe_gate::{Served, serve};
+use mpe_session::Terminal;
 use std::alloc::{AllocError, Global};
 
 /// The most words of a stack and of an extra segment.
@@ -49,95 +44,105 @@ fn stack_of(alloc: Global, state: &State, limit: u16) -> Result<Option<Stack>, A
     Ok(Some(stack))
 }
 
-/// One operation of a pair: the right one where R is set.
-fn pair(left: Op, right: Op, regs: &mut Regs, stack: &mut Stack) -> Result<(), Trap> {
-    let last = regs.right || right == Op::NOP;
-    stack_op(if regs.right { right } else { left }, regs, stack)?;
-    if last {
-        regs.p = regs.p.wrapping_add(1);
+/// Equal lines.
+fn copies(alloc: Global, lines: &[Line]) -> Result<Vec<Line>, AllocError> {
+    let mut copies = Vec::with_capacity(alloc, lines.len())?;
+    for line in lines {
+        let bytes = Vec::from_slice(alloc, &line.bytes)?;
+        copies.push(Line { bytes })?;
     }
-    regs.right = !last;
-    Ok(())
+    Ok(copies)
 }
 
-/// A call or a return, with its transfer done at once; none where an intrinsic is called.
-fn call(
-    which: u8,
-    n: u8,
-    regs: &mut Regs,
-    stack: &mut Stack,
-    program: &Program,
-) -> Option<Result<(), Trap>> {
-    match which {
-        control::PCAL => match call_at_once(n, regs, stack, program) {
-            Ok(Called::Gate(_)) => None,
-            Ok(Called::Went(_)) => Some(Ok(())),
-            Err(trap) => Some(Err(trap)),
-        },
-        control::EXIT => {
-            let segments = (program.segments.len() % 256) as u8;
-            match exit_at_once(n, segments, regs, stack, program) {
-                Ok(_) => Some(Ok(())),
-                Err(trap) => Some(Err(trap)),
+/// A processor that begins a step, and its session's terminal.
+#[derive(Drop)]
+pub struct Seated {
+    cpu: Cpu,
+    terminal: Terminal,
+}
+
+impl Seated {
+    /// Those of a state; none where the state is that of no session. `printed` has room for `room` bytes.
+    pub fn new(
+        alloc: Global,
+        program: &Program,
+        limit: u16,
+        state: &State,
+        lines: &[Line],
+        printed: Vec<u8>,
+        room: u32,
+    ) -> Result<Option<Seated>, AllocError>
+        requires within { vec_len printed ≤ room }
+        requires reserved { room ≤ vec_capacity printed }
+    {
+        let Some(stack) = stack_of(alloc, state, limit)? else {
+            return Ok(None);
+        };
+        let terminal = Terminal {
+            lines: copies(alloc, lines)?,
+            next_line: state.next_line,
+            printed,
+            room,
+        };
+        let cpu = Cpu {
+            regs: state.regs,
+            phase: Phase::Ready,
+            stack,
+            segments: (program.segments.len() % 256) as u8,
+        };
+        Ok(Some(Seated { cpu, terminal }))
+    }
+
+    /// Makes a step, with its transfer done, and answers how the session stands then.
+    pub fn step(&mut self, program: &Program) -> Ending {
+        match self.cpu.step(program) {
+            Stepped::Went => {
+                let _ = finish_transfer(self.cpu.phase, &mut self.cpu.regs, program);
+                Ending::Running
+            }
+            Stepped::Gate(intrinsic) => {
+                let Cpu { regs, stack, .. } = &mut self.cpu;
+                match serve(intrinsic, regs, stack, &mut self.terminal) {
+                    Served::Went => Ending::Running,
+                    Served::Ended(ending) => ending,
+                    Served::Trapped(trap) => Ending::Trapped(trap),
+                }
+            }
+            Stepped::Trapped(trap) => Ending::Trapped(trap),
+            Stepped::Absent(_) => Ending::Running,
+        }
+    }
+
+    /// The first field in which the session, which has ended so, differs from a state.
+    pub fn difference(&mut self, ending: Ending, wanted: &State) -> Option<&'static str> {
+        let regs = self.cpu.regs;
+        let stack = &mut self.cpu.stack;
+        let tests = [
+            (regs.seg == wanted.regs.seg, "SEG"),
+            (regs.p == wanted.regs.p, "P"),
+            (regs.right == wanted.regs.right, "R"),
+            (regs.x == wanted.regs.x, "X"),
+            (regs.q == wanted.regs.q, "Q"),
+            (regs.traps == wanted.regs.traps, "TRAPS"),
+            (regs.overflow == wanted.regs.overflow, "OVERFLOW"),
+            (regs.carry == wanted.regs.carry, "CARRY"),
+            (regs.code == wanted.regs.code, "CODE"),
+            (stack.is_split() == wanted.split, "SPLIT"),
+            (stack.sr == wanted.in_registers, "SR"),
+            (stack.fills == wanted.fills, "FILLS"),
+            (stack.spills == wanted.spills, "SPILLS"),
+            (self.terminal.next_line == wanted.next_line, "NEXTLINE"),
+            (ending == wanted.ending, "ENDING"),
+            (self.terminal.printed == wanted.printed, "PRINTED"),
+            (has_words(stack, &wanted.stack), "STACK"),
+            (has_extra(stack, &wanted.extra), "EXTRA"),
+        ];
+        for (same, name) in tests {
+            if !same {
+                return Some(name);
             }
         }
-        control::SXIT => Some(sxit(n, regs, stack)),
-        _ => Some(scal(n, regs, stack, program)),
-    }
-}
-
-/// One step of a move.
-fn move_on(i: Instr, regs: &mut Regs, stack: &mut Stack, program: &Program) -> Result<(), Trap>
-    requires { group i ≡ Move }
-{
-    move_op(i, regs, stack, program)?;
-    Ok(())
-}
-/// What an instruction does that is no pair; none where it has no call over registers.
-fn whole_word(
-    instruction: Instr,
-    regs: &mut Regs,
-    stack: &mut Stack,
-    program: &Program,
-) -> Option<Result<(), Trap>>
-    requires { IsTrue (has_word instruction) }
-{
-    match group_of(instruction) {
-        Group::Field => Some(field_op(instruction, regs, stack)),
-        Group::Reference => Some(memory_op(instruction, regs, stack, program)),
-        Group::Move => Some(move_on(instruction, regs, stack, program)),
-        Group::Call => match instruction {
-            Instr::Control { which, n } => call(which, n, regs, stack, program),
-            _ => None,
-        },
-        Group::Stack | Group::Illegal => None,
-    }
-}
-
-/// What the word at P does; none where there is none, or its instruction has no call over registers. A word that is no pair
-/// clears R first; a trap leaves it.
-fn perform(regs: &mut Regs, stack: &mut Stack, program: &Program) -> Option<Result<(), Trap>> {
-    let Fetched::Word(word) = program.fetch(regs.seg, regs.p) else {
-        return None;
-    };
-    let instruction = decode(word);
-    if let Instr::Pair { left, right } = instruction {
-        return Some(pair(left, right, regs, stack));
-    }
-    let right = regs.right;
-    regs.right = false;
-    let answer = whole_word(instruction, regs, stack, program);
-    if !matches!(answer, Some(Ok(()))) {
-        regs.right = right;
-    }
-    answer
-}
-
-/// The ending of a session that ran, by what its step answered.
-fn ending(answer: Result<(), Trap>) -> Ending {
-    match answer {
-        Ok(()) => Ending::Running,
-        Err(trap) => Ending::Trapped(trap),
+        None
     }
 }
 
@@ -164,56 +169,4 @@ fn has_extra(stack: &mut Stack, words: &[u16]) -> bool {
         address = address.wrapping_add(1);
     }
     stack.read_db(address).is_err()
-}
-
-/// The first field in which registers and a stack differ from a state.
-fn difference(
-    regs: &Regs,
-    stack: &mut Stack,
-    ending: Ending,
-    wanted: &State,
-) -> Option<&'static str> {
-    let tests = [
-        (regs.seg == wanted.regs.seg, "SEG"),
-        (regs.p == wanted.regs.p, "P"),
-        (regs.right == wanted.regs.right, "R"),
-        (regs.x == wanted.regs.x, "X"),
-        (regs.q == wanted.regs.q, "Q"),
-        (regs.traps == wanted.regs.traps, "TRAPS"),
-        (regs.overflow == wanted.regs.overflow, "OVERFLOW"),
-        (regs.carry == wanted.regs.carry, "CARRY"),
-        (regs.code == wanted.regs.code, "CODE"),
-        (stack.is_split() == wanted.split, "SPLIT"),
-        (stack.sr == wanted.in_registers, "SR"),
-        (stack.fills == wanted.fills, "FILLS"),
-        (stack.spills == wanted.spills, "SPILLS"),
-        (ending == wanted.ending, "ENDING"),
-        (has_words(stack, &wanted.stack), "STACK"),
-        (has_extra(stack, &wanted.extra), "EXTRA"),
-    ];
-    for (same, name) in tests {
-        if !same {
-            return Some(name);
-        }
-    }
-    None
-}
-
-/// Makes the step over registers, and answers the first field that differs from what must follow, if any does.
-/// The outer answer is none where the instruction has no call there.
-pub fn step(
-    alloc: Global,
-    program: &Program,
-    limit: u16,
-    before: &State,
-    wanted: &State,
-) -> Result<Option<Option<&'static str>>, AllocError> {
-    let Some(mut stack) = stack_of(alloc, before, limit)? else {
-        return Ok(Some(Some("BEFORE")));
-    };
-    let mut regs = before.regs;
-    let Some(answer) = perform(&mut regs, &mut stack, program) else {
-        return Ok(None);
-    };
-    Ok(Some(difference(&regs, &mut stack, ending(answer), wanted)))
 }
