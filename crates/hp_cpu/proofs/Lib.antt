@@ -4,4 +4,4 @@ pub mod CameLemmas
 pub mod ReadyLemmas
 pub mod StepLemmas
 pub mod SuitLemmas
-pub mod KnownSteps
+mod KnownSteps
