@@ -1,7 +1,6 @@
 -- What a step keeps.
--- 1. the memory that is reserved       (acted_reserve)
--- 2. in a valid program the lengths    (acted_lengths), by the law of the flat machine's rows
--- 3. and that processor and program suit each other (acted_suits): a call goes where its label leads
+-- 1. the room of both lists                                            (acted_room)
+-- 2. in a valid program that processor and program suit each other     (acted_suits): a call goes where its label leads
 use Rattle.std.proofs.Common.{◌≡◌, ℕ, ◌<◌, ◌≤◌, Bool, true, false, List, slice_get, length, refl, sym, ap, subst, ◌∙◌, arith}
 use Rattle.std.specs.Prelude.{◌==◌, ◌||◌, nat_lt, nat_le, Result, Ok, Err, Option, None, Some, if◌then◌else◌}
 use Rattle.std.proofs.lemmas.Bool.Decides.{nat_tests}
@@ -39,15 +38,34 @@ use Rattle.hp_cpu.specs.Gates.{label_called}
 use Rattle.hp_cpu.specs.Acts.{Acts}
 use Rattle.hp_cpu.specs.Answers.{phase_left, stepped}
 use Rattle.hp_cpu.specs.Steps.{Goes}
-use Rattle.hp_cpu.specs.Suits.{AreValid, IsTransferOf, KeepsLengths, KeepsReserve, Suits}
+use Rattle.hp_cpu.specs.Suits.{AreValid, IsTransferOf, KeepsRoom, Suits}
+use Rattle.hp_cpu.proofs.RoomLemmas.{answered-sized}
 use Rattle.hp_cpu.proofs.StepLemmas.{acted, some_machine, same_registers}
 
--- What was reserved
+-- Room
 
-pub acted_reserve : (program : List (List ℕ)) (old : Cpu) (regs : Regs) (w : ℕ) (answer : Result Called Trap) (next : Regs) (phase : Phase) (stack : Stack)
+-- what a word leaves
+pub acted_room : (program : List (List ℕ)) (held : ℕ → Option (List ℕ)) (old : Cpu) (regs : Regs) (w : ℕ)
+    → HoldsOf program held → arrived held old.phase ≡ Ok tt → regs ≡ finished held old.phase old.regs → fetched (held regs.seg) regs.p ≡ Word w
+    → (answer : Result Called Trap) (next : Regs) (stack : Stack)
     → Acts program (row program (instruction w)) (instruction w) regs (seen old.stack) answer next (seen stack)
-    → KeepsReserve old (record old { regs = next; phase = phase; stack = stack })
-acted_reserve program old regs w answer next phase stack a = record { same_capacity = a.same_capacity; same_extra_capacity = a.same_extra_capacity }
+    → KeepsRoom old (record old { regs = next; phase = phase_left answer Ready; stack = stack })
+acted_room program held old regs w of here is fetch (Ok (Went phase)) next stack a =
+    let goes = acted program held old regs w of here is fetch (Ok (Went phase)) next stack a in
+    let sized = answered-sized program _ _ (goes.goes some_machine) in
+    record { same_limit = sized.same_limit; same_size = sized.same_size; same_capacity = a.same_capacity; same_extra_capacity = a.same_extra_capacity }
+acted_room program held old regs w of here is fetch (Ok (Gate i)) next stack a = record {
+  same_limit = ap (λ (m : Machine). m.stack_limit) (a.goes some_machine).1;
+  same_size = ap (λ (m : Machine). length m.extra) (a.goes some_machine).1;
+  same_capacity = a.same_capacity;
+  same_extra_capacity = a.same_extra_capacity;
+}
+acted_room program held old regs w of here is fetch (Err t) next stack a = record {
+  same_limit = ap (λ (m : Machine). m.stack_limit) (a.goes some_machine).1;
+  same_size = ap (λ (m : Machine). length m.extra) (a.goes some_machine).1;
+  same_capacity = a.same_capacity;
+  same_extra_capacity = a.same_extra_capacity;
+}
 
 -- Where a valid program's transfers lead
 
@@ -113,21 +131,6 @@ module _ (program : List (List ℕ)) (main entry : ℕ) (globals : List ℕ) (va
 
   module _ (held : ℕ → Option (List ℕ)) (old : Cpu) (regs : Regs) (w : ℕ) (of : HoldsOf program held) (here : arrived held old.phase ≡ Ok tt)
       (is : regs ≡ finished held old.phase old.regs) (fetch : fetched (held regs.seg) regs.p ≡ Word w) where
-    pub acted_lengths : (answer : Result Called Trap) (next : Regs) (stack : Stack)
-        → Acts program (row program (instruction w)) (instruction w) regs (seen old.stack) answer next (seen stack)
-        → KeepsLengths old (record old { regs = next; phase = phase_left answer Ready; stack = stack })
-    acted_lengths (Ok (Went phase)) next stack a =
-        let on = goes_on held old _ (acted program held old regs w of here is fetch (Ok (Went phase)) next stack a) in
-        record { same_limit = on.same_limit; same_size = on.same_size }
-    acted_lengths (Ok (Gate i)) next stack a = record {
-      same_limit = ap (λ (m : Machine). m.stack_limit) (a.goes some_machine).1;
-      same_size = ap (λ (m : Machine). length m.extra) (a.goes some_machine).1;
-    }
-    acted_lengths (Err t) next stack a = record {
-      same_limit = ap (λ (m : Machine). m.stack_limit) (a.goes some_machine).1;
-      same_size = ap (λ (m : Machine). length m.extra) (a.goes some_machine).1;
-    }
-
     -- the segment in which the step was made
     stood_in : Suits program old → regs.seg < length program
     stood_in suits = subst (λ (r : Regs). r.seg < length program) (same_registers program held old regs of here is)

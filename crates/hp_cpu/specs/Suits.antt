@@ -1,4 +1,4 @@
--- What a step keeps: the memory that is reserved, and, in a valid program, that processor and program suit each other.
+-- What a step keeps: the room of both lists, and, in a valid program, that processor and program suit each other.
 use Rattle.std.specs.Prelude.{◌≡◌, ℕ, ◌<◌, true, List, length, slice_get, None, ⊤}
 use Rattle.hp_program.specs.Valid.{first_defect, is_local_entry}
 use Rattle.hp_tos.specs.StackView.{seen}
@@ -6,15 +6,13 @@ use Rattle.hp_calls.specs.declared.phases.Phase.{Phase}
 use Rattle.hp_calls.specs.declared.phases.Phase.TheVariants.{Ready, Entering, Returning}
 use Rattle.hp_cpu.specs.declared.cpu.Cpu.{Cpu}
 
--- memory is reserved for as many words of the stack and of the extra segment as before
-pub record KeepsReserve (old new : Cpu) : Type 0 where
-  pub same_capacity : (seen new.stack).capacity ≡ (seen old.stack).capacity
-  pub same_extra_capacity : (seen new.stack).extra_capacity ≡ (seen old.stack).extra_capacity
-
--- STACK and the number of words in the extra segment are as before
-pub record KeepsLengths (old new : Cpu) : Type 0 where
+-- the room of both lists: STACK and the number of words in the extra segment are as before, and memory is reserved for as many
+-- words of each
+pub record KeepsRoom (old new : Cpu) : Type 0 where
   pub same_limit : (seen new.stack).limit ≡ (seen old.stack).limit
   pub same_size : length (seen new.stack).extra ≡ length (seen old.stack).extra
+  pub same_capacity : (seen new.stack).capacity ≡ (seen old.stack).capacity
+  pub same_extra_capacity : (seen new.stack).extra_capacity ≡ (seen old.stack).extra_capacity
 
 -- a transfer of a program: a return leads into one of its segments, and a call to a local entry of one
 abbrev pub IsTransferOf : List (List ℕ) → Phase → Type 0

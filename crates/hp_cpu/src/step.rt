@@ -13,23 +13,22 @@ impl Cpu {
     ghost use Rattle.hp_calls.specs.Phases.{HoldsOf};
     ghost use Rattle.hp_cpu.specs.Answers.{CanBeServed};
     ghost use Rattle.hp_cpu.specs.Steps.{Steps};
-    ghost use Rattle.hp_cpu.specs.Suits.{AreValid, KeepsLengths, KeepsReserve, Suits};
+    ghost use Rattle.hp_cpu.specs.Suits.{AreValid, KeepsRoom, Suits};
 
     /// One step, with the code that a store holds. A transfer that is under way is finished first.
     ///
-    /// What the store holds are segments of one program, with as many segments as the processor's: the step is then the flat
-    /// machine's in that program. It needs one segment. Where the store does not hold that one the answer is `Absent`, as often
-    /// as the step is tried, and nothing at all has changed. A trap, and the call of an intrinsic, leave the list of words, the
-    /// extra segment, all registers and the mode as they were; words may have moved between registers and memory by then.
-    /// An intrinsic that is called finds whole mode and every word in memory, so it can be served at once. Takes no memory.
+    /// What the store holds are segments of one program, of as many segments as the processor's number says: the step is then
+    /// the flat machine's in that program. It needs one segment. Where the store does not hold that one the answer is `Absent`,
+    /// as often as the step is tried, and nothing at all has changed. A trap, and the call of an intrinsic, leave the list of
+    /// words, the extra segment, all registers and the mode as they were; words may have moved between registers and memory by
+    /// then. An intrinsic that is called finds whole mode and every word in memory, so it can be served at once. Takes no
+    /// memory.
     #[inline(always)]
     pub fn step<C: CodeStore>(&mut self, code: &C) -> Stepped
         ensures steps { (program : List (List ℕ)) → HoldsOf program (C.held code.now) → length program ≡ self.old.segments
             → Steps program (C.held code.now) self.old result self.new }
-        ensures reserved { (program : List (List ℕ)) → HoldsOf program (C.held code.now) → length program ≡ self.old.segments → KeepsReserve self.old self.new }
-        // in a valid program
-        ensures lengths { (program : List (List ℕ)) (main entry : ℕ) (globals : List ℕ) → AreValid program main entry globals
-            → HoldsOf program (C.held code.now) → length program ≡ self.old.segments → KeepsLengths self.old self.new }
+        ensures room { (program : List (List ℕ)) → HoldsOf program (C.held code.now) → length program ≡ self.old.segments → KeepsRoom self.old self.new }
+        // in a valid program its calls and returns lead somewhere
         ensures suits { (program : List (List ℕ)) (main entry : ℕ) (globals : List ℕ) → AreValid program main entry globals
             → HoldsOf program (C.held code.now) → Suits program self.old → Suits program self.new }
         // whatever the store holds

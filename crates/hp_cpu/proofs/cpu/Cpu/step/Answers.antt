@@ -6,9 +6,9 @@ use Rattle.hp_cpu.specs.declared.cpu.Cpu.{Cpu}
 use Rattle.hp_cpu.specs.declared.cpu.Stepped.{Stepped}
 use Rattle.hp_cpu.specs.Answers.{stepped}
 use Rattle.hp_cpu.specs.Steps.{Steps}
-use Rattle.hp_cpu.specs.Suits.{KeepsLengths, KeepsReserve, Suits}
+use Rattle.hp_cpu.specs.Suits.{KeepsRoom, Suits}
 use Rattle.hp_cpu.proofs.StepLemmas.{acted, acting, fetch_waited, outside, waited}
-use Rattle.hp_cpu.proofs.SuitLemmas.{acted_lengths, acted_reserve, acted_suits, no_word_suits}
+use Rattle.hp_cpu.proofs.SuitLemmas.{acted_room, acted_suits, no_word_suits}
 use Rattle.hp_cpu.proofs.cpu.Cpu.step.Goals as goal
 
 -- a transfer waits
@@ -17,8 +17,7 @@ returns-in-Err g c =
     let stays = ap (λ (r : Regs). record c.args.self.now { regs = r }) c.in-Err.ensures.err in
     record {
       steps = λ program of count. waited program (g.C.CodeStore.held c.args.code.now) c.args.self.now _ c.in-Err.seg (sym c.finish_transfer.ensures.value ∙ c.in-Err.is) stays;
-      reserved = λ program of count. record { same_capacity = refl; same_extra_capacity = refl };
-      lengths = λ program main entry globals valid of count. record { same_limit = refl; same_size = refl };
+      room = λ program of count. record { same_limit = refl; same_size = refl; same_capacity = refl; same_extra_capacity = refl };
       suits = λ program main entry globals valid of suits. subst (Suits program) (sym stays) suits;
       ready = tt;
     }
@@ -31,8 +30,7 @@ returns-in-Absent g c =
     record {
       steps = λ program of count. fetch_waited program held c.args.self.now _ c.finish_transfer.new.regs here c.in_default.ensures.ok refl
           (sym c.fetch.ensures ∙ c.in-Absent.is);
-      reserved = λ program of count. record { same_capacity = refl; same_extra_capacity = refl };
-      lengths = λ program main entry globals valid of count. record { same_limit = refl; same_size = refl };
+      room = λ program of count. record { same_limit = refl; same_size = refl; same_capacity = refl; same_extra_capacity = refl };
       suits = λ program main entry globals valid of suits. no_word_suits program held c.args.self.now c.finish_transfer.new.regs of here c.in_default.ensures.ok suits;
       ready = tt;
     }
@@ -44,8 +42,7 @@ returns-in-Outside g c =
     let here = sym c.finish_transfer.ensures.value ∙ c.in_default.is in
     record {
       steps = λ program of count. outside program held c.args.self.now c.finish_transfer.new.regs of here c.in_default.ensures.ok (sym c.fetch.ensures ∙ c.in-Outside.is);
-      reserved = λ program of count. record { same_capacity = refl; same_extra_capacity = refl };
-      lengths = λ program main entry globals valid of count. record { same_limit = refl; same_size = refl };
+      room = λ program of count. record { same_limit = refl; same_size = refl; same_capacity = refl; same_extra_capacity = refl };
       suits = λ program main entry globals valid of suits. no_word_suits program held c.args.self.now c.finish_transfer.new.regs of here c.in_default.ensures.ok suits;
       ready = tt;
     }
@@ -67,13 +64,10 @@ returns-in-Word g c =
           subst (λ (a : Stepped). Steps program held old a (record old { regs = next; phase = c.act.new.phase; stack = stack })) (sym came.told)
           (subst (λ (p : Phase). Steps program held old (stepped came.answer) (record old { regs = next; phase = p; stack = stack })) (sym came.left)
           (acted program held old regs c.in-Word.w of here is fetch came.answer next stack came.acts));
-      reserved = λ program of count.
+      room = λ program of count.
           let came = c.act.ensures.came program count (acting program held old regs of c.in-Word.w fetch) refl in
-          acted_reserve program old regs c.in-Word.w came.answer next c.act.new.phase stack came.acts;
-      lengths = λ program main entry globals valid of count.
-          let came = c.act.ensures.came program count (acting program held old regs of c.in-Word.w fetch) refl in
-          subst (λ (p : Phase). KeepsLengths old (record old { regs = next; phase = p; stack = stack })) (sym came.left)
-          (acted_lengths program main entry globals valid held old regs c.in-Word.w of here is fetch came.answer next stack came.acts);
+          subst (λ (p : Phase). KeepsRoom old (record old { regs = next; phase = p; stack = stack })) (sym came.left)
+          (acted_room program held old regs c.in-Word.w of here is fetch came.answer next stack came.acts);
       suits = λ program main entry globals valid of suits.
           let came = c.act.ensures.came program suits.count (acting program held old regs of c.in-Word.w fetch) refl in
           subst (λ (p : Phase). Suits program (record old { regs = next; phase = p; stack = stack })) (sym came.left)
