@@ -3,8 +3,8 @@
 -- 2. calls and returns               (call_acts, exit_acts)
 -- 3. a word done with R cleared      (at_left_acts)
 -- 4. the pair in a word of major 0   (stack_pair, stack_illegal)
-use Rattle.std.proofs.Common.{◌≡◌, ℕ, ◌+◌, ◌/◌, ◌%◌, ◌^◌, ◌<◌, Bool, true, false, List, slice_get, length, refl, sym, ap, subst, ◌∙◌, arith, []}
-use Rattle.std.specs.Prelude.{◌≢◌, ◌&&◌, ◌==◌, nat_le, Result, Ok, Err, Option, None, Some, IfOk, OnOk, MatchResult, ⊤, ◌-◌, if◌then◌else◌}
+use Rattle.std.proofs.Common.{◌≡◌, ℕ, ◌+◌, ◌/◌, ◌%◌, ◌^◌, ◌<◌, Bool, true, false, List, length, refl, sym, ap, subst, ◌∙◌, arith, []}
+use Rattle.std.specs.Prelude.{◌≢◌, ◌&&◌, ◌==◌, nat_le, Result, Ok, Err, None, IfOk, OnOk, MatchResult, ⊤, ◌-◌, if◌then◌else◌}
 use Rattle.std.proofs.lemmas.Bool.Decides.{nat_tests}
 use Rattle.hp_word.specs.declared.endings.Trap.{Trap}
 use Rattle.hp_word.specs.declared.endings.Trap.TheVariants as traps
@@ -27,7 +27,7 @@ use Rattle.hp_tos.specs.Calls.{flushed}
 use Rattle.hp_session.specs.declared.registers.Regs.{Regs}
 use Rattle.hp_session.specs.State.{Machine, Outcome, Does, opened, then_with, passing}
 use Rattle.hp_rows.specs.Standing.{standing}
-use Rattle.hp_rows.specs.Numbers.{Numbers, numbers, exchanging, moved}
+use Rattle.hp_rows.specs.Numbers.{numbers, exchanging, moved}
 use Rattle.hp_rows.specs.Performs.{Performs}
 use Rattle.hp_rows.specs.Flushes.{Flushes, flush_moved}
 use Rattle.hp_call_rows.specs.declared.call_rows.Frame.{Frame}
@@ -39,19 +39,18 @@ use Rattle.hp_fields.specs.FieldUses.{field_uses}
 use Rattle.hp_memref.specs.ReferenceRows.{reference_row}
 use Rattle.hp_memref.specs.ReferenceUses.{reference_uses}
 use Rattle.hp_moves.specs.declared.steps.MoveStep.{MoveStep}
-use Rattle.hp_moves.specs.declared.steps.MoveStep.TheVariants.{Moving, Moved}
 use Rattle.hp_moves.specs.MoveSteps.{MovesOn, as_step, instruction_row, is_over, place_after}
-use Rattle.hp_moves.specs.MoveUses.{ending_with, move_uses, step_uses}
+use Rattle.hp_moves.specs.MoveUses.{move_uses}
 use Rattle.hp_calls.specs.declared.phases.Phase.{Phase}
 use Rattle.hp_calls.specs.declared.phases.Phase.TheVariants.{Ready, Entering, Returning}
 use Rattle.hp_calls.specs.declared.phases.Called.{Called}
 use Rattle.hp_calls.specs.declared.phases.Called.TheVariants.{Went, Gate}
 use Rattle.hp_calls.specs.Phases.{finished}
-use Rattle.hp_calls.specs.Transfers.{GoesAs, IsThrough, Transfers, Waits, handed_on, wanted, went}
+use Rattle.hp_calls.specs.Transfers.{IsThrough, Transfers, Waits, handed_on, wanted, went}
 use Rattle.hp_flat.specs.Step.{at_left, control_row, pair_row, row, word_row}
 use Rattle.hp_cpu.specs.Gates.{gate_of, label_called}
 use Rattle.hp_cpu.specs.Counts.{call_pushes, group_numbers, has_passed, instruction_numbers}
-use Rattle.hp_cpu.specs.Acts.{Acts, Counted, IsLed}
+use Rattle.hp_cpu.specs.Acts.{Acts, IsLed}
 use Rattle.hp_cpu.specs.Answers.{done}
 use Rattle.hp_cpu.specs.Restored.{cleared, restored}
 use Rattle.hp_cpu.proofs.RowLemmas.{call_codes, field_is, reference_is, move_is, illegal_is, whole_is, no_gate}

@@ -1,11 +1,10 @@
 -- What the definitions give for small programs and stacks, worked by hand from the rules.
-use Rattle.std.proofs.Common.{◌≡◌, ℕ, true, false, List, [], ◌∷◌, slice_get, refl}
-use Rattle.std.specs.Prelude.{Option, None, Some, Result, Ok, Err}
+use Rattle.std.proofs.Common.{◌≡◌, ℕ, true, false, List, [], ◌∷◌, refl}
+use Rattle.std.specs.Prelude.{None, Some, Result, Ok, Err}
 use Rattle.hp_word.specs.declared.arithmetic.Code.TheVariants.{Less}
 use Rattle.hp_word.specs.declared.endings.Trap.{Trap}
 use Rattle.hp_word.specs.declared.endings.Trap.TheVariants as traps
 use Rattle.hp_word.specs.declared.intrinsics.Intrinsic.TheVariants.{Print}
-use Rattle.hp_instr.specs.Bits.{bits, bit}
 use Rattle.hp_instr.specs.Fields.{is_control, is_op}
 use Rattle.hp_instr.specs.Instructions.{instruction, pair, control, op}
 use Rattle.hp_instr.specs.Labels.{label}
@@ -25,7 +24,7 @@ use Rattle.hp_calls.specs.declared.phases.Phase.TheVariants.{Ready, Entering, Re
 use Rattle.hp_calls.specs.Phases.{finished}
 use Rattle.hp_cpu.specs.declared.cpu.Cpu.{Cpu}
 use Rattle.hp_cpu.specs.Stood.{needed, registers}
-use Rattle.hp_cpu.specs.Gates.{called_gate, gate_of, instruction_at}
+use Rattle.hp_cpu.specs.Gates.{called_gate, gate_of}
 use Rattle.hp_cpu.specs.Counts.{instruction_numbers, numbers_after}
 
 -- the first segment begins with PCAL 2 and a pair of NOPs; its entries are local offset 0 and PRINT. The second has the entry 3

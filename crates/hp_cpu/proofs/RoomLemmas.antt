@@ -14,9 +14,9 @@ use Rattle.hp_instr.specs.declared.labels.Label.TheVariants.{Local, External, Ba
 use Rattle.hp_instr.specs.Instructions.{instruction}
 use Rattle.hp_program.specs.Programs.{code_word, words_of}
 use Rattle.hp_program.specs.Valid.{label_of}
-use Rattle.hp_session.specs.State.{Machine, Outcome, passing, pushing_all, then_with}
+use Rattle.hp_session.specs.State.{Machine, Outcome, passing, then_with}
 use Rattle.hp_session.proofs.KeepingForms.{Keeps}
-use Rattle.hp_session.proofs.KeepingLaws.{after_row, either, passing-kept, same}
+use Rattle.hp_session.proofs.KeepingLaws.{after_row, either, passing-kept}
 use Rattle.hp_stack_rows.proofs.StackKeeping.{operated-kept}
 use Rattle.hp_word_rows.specs.WordRows.{count_row}
 use Rattle.hp_word_rows.proofs.WordKeeping.{shifting-kept, short_branch-kept, immediate_row-kept, count_row-kept}

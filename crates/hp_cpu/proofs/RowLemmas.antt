@@ -1,6 +1,6 @@
 -- The row of an instruction, by its group.
-use Rattle.std.proofs.Common.{◌≡◌, ℕ, ◌<◌, Bool, true, false, List, refl, arith}
-use Rattle.std.specs.Prelude.{◌≢◌, ◌==◌, nat_le, Ok, Err, Option, None, Some, if◌then◌else◌}
+use Rattle.std.proofs.Common.{◌≡◌, ℕ, Bool, true, false, List, refl, arith}
+use Rattle.std.specs.Prelude.{◌≢◌, ◌==◌, nat_le, Err, None, if◌then◌else◌}
 use Rattle.std.proofs.lemmas.Bool.Decides.{nat_tests}
 use Rattle.hp_word.specs.declared.endings.Trap.TheVariants as traps
 use Rattle.hp_instr.specs.declared.groups.Group.{Group}
@@ -8,7 +8,7 @@ use Rattle.hp_instr.specs.declared.groups.Group.TheVariants.{Stack, Field, Refer
 use Rattle.hp_instr.specs.declared.instruction.Instr.{Instr}
 use Rattle.hp_instr.specs.declared.instruction.Instr.TheVariants as words
 use Rattle.hp_instr.specs.Groups.{control_group, group}
-use Rattle.hp_session.specs.State.{Machine, Outcome, passing}
+use Rattle.hp_session.specs.State.{Machine, passing}
 use Rattle.hp_word_rows.specs.WordRows.{count_row}
 use Rattle.hp_memory_rows.specs.MoveRows.{move_row}
 use Rattle.hp_fields.specs.FieldRows.{field_act, field_row}

@@ -1,41 +1,37 @@
 -- What is said of a step, from the segment that it needs, its word and what that did.
-use Rattle.std.proofs.Common.{◌≡◌, ℕ, Bool, true, false, List, [], slice_get, length, refl, sym, ap, subst, ◌∙◌}
-use Rattle.std.specs.Prelude.{◌==◌, IsSome, IfSome, Result, Ok, Err, Option, None, Some, option_and_then, option_map, unwrap_or, if◌then◌else◌}
+use Rattle.std.proofs.Common.{◌≡◌, ℕ, Bool, true, false, List, [], slice_get, refl, sym, ap, subst, ◌∙◌}
+use Rattle.std.specs.Prelude.{IsSome, IfSome, Result, Ok, Err, Option, None, Some, option_and_then, option_map, unwrap_or}
 use Rattle.hp_word.specs.declared.endings.Trap.{Trap}
 use Rattle.hp_word.specs.declared.endings.Trap.TheVariants.{CodeBounds}
 use Rattle.hp_word.specs.declared.intrinsics.Intrinsic.{Intrinsic}
-use Rattle.hp_instr.specs.declared.instruction.Instr.{Instr}
 use Rattle.hp_instr.specs.declared.labels.Label.{Label}
 use Rattle.hp_instr.specs.Instructions.{instruction}
 use Rattle.hp_program.specs.Programs.{code_word}
 use Rattle.hp_program.specs.declared.store.Fetched.TheVariants.{Word, Absent as Missing, Outside}
 use Rattle.hp_program.specs.Stores.{fetched, word_or_outside}
 use Rattle.hp_tos.specs.declared.stack.Stack.{Stack}
-use Rattle.hp_tos.specs.Seen.{Seen}
-use Rattle.hp_tos.specs.Calls.{flushed}
 use Rattle.hp_tos.specs.StackView.{seen}
 use Rattle.hp_session.specs.declared.registers.Regs.{Regs}
 use Rattle.hp_session.specs.State.{Machine, opened, passing}
 use Rattle.hp_call_rows.specs.GateRows.{performed}
 use Rattle.hp_rows.specs.Standing.{standing}
-use Rattle.hp_rows.specs.Numbers.{Numbers, numbers}
+use Rattle.hp_rows.specs.Numbers.{Numbers}
 use Rattle.hp_calls.specs.declared.phases.Phase.{Phase}
 use Rattle.hp_calls.specs.declared.phases.Phase.TheVariants.{Ready, Entering, Returning}
 use Rattle.hp_calls.specs.declared.phases.Called.{Called}
 use Rattle.hp_calls.specs.declared.phases.Called.TheVariants as called
 use Rattle.hp_calls.specs.Phases.{HoldsOf, arrived, destination, finished, present}
-use Rattle.hp_calls.specs.Transfers.{GoesAs, handed_on, wanted}
+use Rattle.hp_calls.specs.Transfers.{wanted}
 use Rattle.hp_calls.proofs.PhaseLaws.{finished_of}
 use Rattle.hp_flat.specs.Step.{by_word, outcome, row}
 use Rattle.hp_cpu.specs.declared.cpu.Cpu.{Cpu}
-use Rattle.hp_cpu.specs.declared.cpu.Stepped.{Stepped}
-use Rattle.hp_cpu.specs.declared.cpu.Stepped.TheVariants.{Went, Absent, Gate, Trapped}
+use Rattle.hp_cpu.specs.declared.cpu.Stepped.TheVariants.{Absent, Trapped}
 use Rattle.hp_cpu.specs.Stood.{needed, registers, stood}
-use Rattle.hp_cpu.specs.Gates.{called_gate, gate_at, gate_of, instruction_at, label_called}
-use Rattle.hp_cpu.specs.Counts.{instruction_numbers, numbers_after}
-use Rattle.hp_cpu.specs.Acts.{Acts, Counted, IsLed}
+use Rattle.hp_cpu.specs.Gates.{called_gate, gate_at, instruction_at}
+use Rattle.hp_cpu.specs.Counts.{numbers_after}
+use Rattle.hp_cpu.specs.Acts.{Acts}
 use Rattle.hp_cpu.specs.Answers.{phase_left, stepped}
-use Rattle.hp_cpu.specs.Steps.{Steps, Waits, Goes, Traps, Calls}
+use Rattle.hp_cpu.specs.Steps.{Steps}
 
 -- The segment that is needed
 

@@ -1,8 +1,8 @@
 -- What a step keeps.
 -- 1. the room of both lists                                            (acted_room)
 -- 2. in a valid program that processor and program suit each other     (acted_suits): a call goes where its label leads
-use Rattle.std.proofs.Common.{◌≡◌, ℕ, ◌<◌, ◌≤◌, Bool, true, false, List, slice_get, length, refl, sym, ap, subst, ◌∙◌, arith}
-use Rattle.std.specs.Prelude.{◌==◌, ◌||◌, nat_lt, nat_le, Result, Ok, Err, Option, None, Some, if◌then◌else◌}
+use Rattle.std.proofs.Common.{◌≡◌, ℕ, ◌<◌, ◌≤◌, Bool, true, false, List, slice_get, length, refl, sym, ap, subst, arith}
+use Rattle.std.specs.Prelude.{◌==◌, ◌||◌, nat_lt, Result, Ok, Err, Option, None, Some, if◌then◌else◌}
 use Rattle.std.proofs.lemmas.Bool.Decides.{nat_tests}
 use Rattle.std.proofs.lemmas.Option.{slice_get_within}
 use Rattle.hp_word.specs.declared.endings.Trap.{Trap}
@@ -14,9 +14,8 @@ use Rattle.hp_instr.specs.declared.labels.Label.TheVariants.{External}
 use Rattle.hp_instr.specs.Instructions.{instruction}
 use Rattle.hp_instr.specs.Labels.{label}
 use Rattle.hp_program.specs.declared.store.Fetched.TheVariants.{Word}
-use Rattle.hp_program.specs.Programs.{words_of}
 use Rattle.hp_program.specs.Stores.{fetched}
-use Rattle.hp_program.specs.Valid.{entries_of, first_defect, is_external, is_head, is_local_entry, label_of, leads}
+use Rattle.hp_program.specs.Valid.{entries_of, is_external, is_head, is_local_entry, label_of, leads}
 use Rattle.hp_program.proofs.ValidLaws.{labels_lead, right_head}
 use Rattle.hp_tos.specs.declared.stack.Stack.{Stack}
 use Rattle.hp_tos.specs.StackView.{seen}
@@ -30,13 +29,13 @@ use Rattle.hp_calls.specs.declared.phases.Phase.TheVariants.{Ready, Entering, Re
 use Rattle.hp_calls.specs.declared.phases.Called.{Called}
 use Rattle.hp_calls.specs.declared.phases.Called.TheVariants.{Went, Gate}
 use Rattle.hp_calls.specs.Phases.{HoldsOf, arrived, finished}
-use Rattle.hp_flat.specs.Step.{outcome, row}
+use Rattle.hp_flat.specs.Step.{row}
 use Rattle.hp_flat.proofs.StepKeeping.{answered-continues}
 use Rattle.hp_cpu.specs.declared.cpu.Cpu.{Cpu}
-use Rattle.hp_cpu.specs.Stood.{registers, stood}
+use Rattle.hp_cpu.specs.Stood.{stood}
 use Rattle.hp_cpu.specs.Gates.{label_called}
 use Rattle.hp_cpu.specs.Acts.{Acts}
-use Rattle.hp_cpu.specs.Answers.{phase_left, stepped}
+use Rattle.hp_cpu.specs.Answers.{phase_left}
 use Rattle.hp_cpu.specs.Steps.{Goes}
 use Rattle.hp_cpu.specs.Suits.{AreValid, IsTransferOf, KeepsRoom, Suits}
 use Rattle.hp_cpu.proofs.RoomLemmas.{answered-sized}

@@ -1,5 +1,5 @@
 -- What is said of one word that was fetched, over registers and a stack.
-use Rattle.std.specs.Prelude.{◌≡◌, ℕ, List, slice_get, Result, Ok, Err, ⊤}
+use Rattle.std.specs.Prelude.{◌≡◌, ℕ, List, Result, Ok, Err, ⊤}
 use Rattle.hp_word.specs.declared.endings.Trap.{Trap}
 use Rattle.hp_instr.specs.declared.instruction.Instr.{Instr}
 use Rattle.hp_instr.specs.declared.labels.Label.TheVariants.{External}

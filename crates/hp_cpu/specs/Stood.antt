@@ -1,5 +1,5 @@
 -- For which session of the flat machine a processor stands, and which segment its next step needs.
-use Rattle.std.specs.Prelude.{ℕ, List, slice_get, Option, unwrap_or}
+use Rattle.std.specs.Prelude.{ℕ, List, slice_get, unwrap_or}
 use Rattle.hp_session.specs.declared.registers.Regs.{Regs}
 use Rattle.hp_session.specs.State.{Machine}
 use Rattle.hp_tos.specs.StackView.{seen}

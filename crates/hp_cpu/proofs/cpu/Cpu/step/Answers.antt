@@ -1,8 +1,7 @@
 -- By what the store answers.
-use Rattle.std.proofs.Common.{◌≡◌, ◌∙◌, ap, refl, sym, subst}
+use Rattle.std.proofs.Common.{◌∙◌, ap, refl, sym, subst}
 use Rattle.hp_session.specs.declared.registers.Regs.{Regs}
 use Rattle.hp_calls.specs.declared.phases.Phase.{Phase}
-use Rattle.hp_cpu.specs.declared.cpu.Cpu.{Cpu}
 use Rattle.hp_cpu.specs.declared.cpu.Stepped.{Stepped}
 use Rattle.hp_cpu.specs.Answers.{stepped}
 use Rattle.hp_cpu.specs.Steps.{Steps}
