@@ -1,4 +1,6 @@
 //! A processor between two steps, and what a step answers.
+ghost use Rattle.std.specs.Prelude.{◌≡◌};
+
 use hp_calls::Phase;
 use hp_session::Regs;
 use hp_tos::Stack;
@@ -30,4 +32,18 @@ pub enum Stepped {
     Gate(Intrinsic),
     /// The step trapped, and the session is as it was.
     Trapped(Trap),
+}
+
+impl Cpu {
+    ghost use Rattle.hp_cpu.specs.Stood.{needed};
+
+    /// The number of the one segment that the next step needs.
+    pub fn needed_segment(&self) -> u8
+        ensures { result ≡ needed self.now }
+    {
+        match self.phase {
+            Phase::Ready => self.regs.seg,
+            Phase::Entering { seg, .. } | Phase::Returning { seg, .. } => seg,
+        }
+    }
 }

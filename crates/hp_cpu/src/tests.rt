@@ -511,6 +511,7 @@ fn a_call_waits_for_its_segment(rt: HostRuntime) -> Result<(), Fail> {
     // the call is a step, though its segment is not there
     assert_eq!(rt; cpu.step(&store), Stepped::Went);
     assert_eq!(rt; cpu.phase, Phase::Entering { seg: 1, entry: 1 });
+    assert_eq!(rt; cpu.needed_segment(), 1);
     assert!(rt; has_words(&cpu.stack, &[10, 20, 7, 1, 0o23000, 4]));
     let waiting = state(&cpu);
     for _ in 0..3u8 {
