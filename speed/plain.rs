@@ -1,6 +1,6 @@
-//! The same loop as `hp_speed` has, by an emulator as one would write it without proofs: registers and a stack in one struct,
-//! one function for a step, one `match` on the word's major. Its stack has the same three numbers: how many words count as
-//! standing in registers, fills and spills.
+//! The same loop as `hp_speed` has, by an emulator as one would write it without proofs: registers and a stack in one struct, a
+//! word decoded to an enum, one function for a step. It decodes every word of the table, but does a dozen instructions alone.
+//! Its stack has the same three numbers: how many words count as standing in registers, fills and spills.
 
 use std::io::Read;
 
@@ -12,6 +12,96 @@ enum Trap {
     StackUnderflow,
     Illegal,
     CodeBounds,
+}
+
+#[derive(Clone, Copy)]
+enum Mode {
+    DbPlus(u8),
+    QPlus(u8),
+    QMinus(u8),
+    SMinus(u8),
+}
+
+#[derive(Clone, Copy)]
+#[allow(dead_code)]
+enum Instr {
+    Pair { left: u8, right: u8 },
+    Shifted { kind: u8, count: u8 },
+    Short { test: u8, back: bool, d: u8 },
+    Immediate { which: u8, n: u8 },
+    Control { which: u8, n: u8 },
+    Memory { major: u8, second: bool, x: bool, i: bool, mode: Mode },
+    LoadCode { back: bool, d: u8 },
+    Branch { i: bool, back: bool, d: u8 },
+    OnCode { mask: u8, back: bool, d: u8 },
+    Loop { modify: bool, back: bool, d: u8 },
+    Illegal,
+}
+
+/// Bit k is one where code k is a stack operation.
+const OPERATIONS: u64 = 0x71FF_407F_FEFF_E7FF;
+
+fn bit(w: u16, n: u32) -> bool {
+    w >> (15 - n) & 1 == 1
+}
+
+fn decode(w: u16) -> Instr {
+    let (which, n) = ((w >> 8 & 15) as u8, w as u8);
+    match w >> 12 {
+        0 => {
+            let (left, right) = ((w >> 6) as u8, (w & 63) as u8);
+            if OPERATIONS >> left & OPERATIONS >> right & 1 == 1 {
+                Instr::Pair { left, right }
+            } else {
+                Instr::Illegal
+            }
+        }
+        1 => match (w >> 6 & 31) as u8 {
+            _ if bit(w, 4) => Instr::Illegal,
+            kind @ 0..=5 => Instr::Shifted { kind, count: (w & 63) as u8 },
+            test @ 8..=18 => Instr::Short { test, back: w & 32 != 0, d: (w & 31) as u8 },
+            _ => Instr::Illegal,
+        },
+        2 => {
+            let length = if n % 16 == 0 { 16 } else { n % 16 };
+            match which {
+                0 if n != 1 && n != 2 => Instr::Illegal,
+                11 | 12 if n / 16 + length > 16 => Instr::Illegal,
+                _ => Instr::Immediate { which, n },
+            }
+        }
+        3 => match which {
+            9 | 10 | 14 if n > 1 => Instr::Illegal,
+            11 if !matches!(n, 1..=3 | 6 | 7) => Instr::Illegal,
+            12 | 13 if n > 0 => Instr::Illegal,
+            15 => Instr::Illegal,
+            _ => Instr::Control { which, n },
+        },
+        major => reference(w, major as u8),
+    }
+}
+
+fn reference(w: u16, major: u8) -> Instr {
+    let (second, back, d) = (bit(w, 6), bit(w, 7), w as u8);
+    match (major, second) {
+        (4, false) if !bit(w, 4) && !bit(w, 5) => Instr::LoadCode { back, d },
+        (5, false) if !bit(w, 4) => Instr::Loop { modify: bit(w, 5), back, d },
+        (12, false) if !bit(w, 4) => Instr::Branch { i: bit(w, 5), back, d },
+        (12, true) if !bit(w, 4) => Instr::OnCode { mask: (w >> 6 & 7) as u8, back: w & 32 != 0, d: (w & 31) as u8 },
+        (4..=9 | 11 | 15, true) | (10 | 13 | 14, _) => {
+            let mode = if !bit(w, 7) {
+                Mode::DbPlus(d)
+            } else if !bit(w, 8) {
+                Mode::QPlus(d & 127)
+            } else if !bit(w, 9) {
+                Mode::QMinus(d & 63)
+            } else {
+                Mode::SMinus(d & 63)
+            };
+            Instr::Memory { major, second, x: bit(w, 4), i: bit(w, 5), mode }
+        }
+        _ => Instr::Illegal,
+    }
 }
 
 enum Stepped {
@@ -91,7 +181,7 @@ impl Machine {
         self.code = (w as i16).signum() as i8;
     }
 
-    fn operation(&mut self, code: u16) -> Result<(), Trap> {
+    fn operation(&mut self, code: u8) -> Result<(), Trap> {
         match code {
             0o00 => {}
             0o20 => {
@@ -137,8 +227,7 @@ impl Machine {
         Ok(())
     }
 
-    fn pair(&mut self, word: u16) -> Result<(), Trap> {
-        let (left, right) = (word / 64, word % 64);
+    fn pair(&mut self, left: u8, right: u8) -> Result<(), Trap> {
         if self.right {
             self.operation(right)?;
             self.right = false;
@@ -154,37 +243,54 @@ impl Machine {
         Ok(())
     }
 
-    fn address(&self, word: u16) -> Result<u16, Trap> {
-        let base = if word & 0o400 == 0 {
-            word & 0o377
-        } else if word & 0o200 == 0 {
-            self.q.wrapping_add(word & 0o177)
-        } else if word & 0o100 == 0 {
-            self.q.wrapping_sub(word & 0o77)
-        } else {
-            self.words.wrapping_sub(1).wrapping_sub(word & 0o77)
+    fn address(&self, x: bool, i: bool, mode: Mode) -> Result<u16, Trap> {
+        let base = match mode {
+            Mode::DbPlus(d) => d as u16,
+            Mode::QPlus(d) => self.q.wrapping_add(d as u16),
+            Mode::QMinus(d) => self.q.wrapping_sub(d as u16),
+            Mode::SMinus(d) => self.words.wrapping_sub(1).wrapping_sub(d as u16),
         };
-        let at = if word & 0o2000 == 0 { base } else { self.read(base)? };
-        Ok(if word & 0o4000 == 0 { at } else { at.wrapping_add(self.x) })
+        let at = if i { self.read(base)? } else { base };
+        Ok(if x { at.wrapping_add(self.x) } else { at })
     }
 
-    fn memory(&mut self, word: u16) -> Result<(), Trap> {
-        match word >> 12 {
+    fn memory(&mut self, major: u8, x: bool, i: bool, mode: Mode) -> Result<(), Trap> {
+        match major {
             4 => {
-                let at = self.address(word)?;
+                let at = self.address(x, i, mode)?;
                 let w = self.read(at)?;
-                self.push(w)?;
+                self.push(w)
             }
             5 => {
                 self.need(1)?;
-                let at = self.address(word)?;
+                let at = self.address(x, i, mode)?;
                 let a = self.word(0);
                 self.write(at, a)?;
                 self.pop();
+                Ok(())
             }
-            12 => {
-                let d = word & 0o377;
-                self.p = if word & 0o400 == 0 { self.p.wrapping_add(d) } else { self.p.wrapping_sub(d) };
+            _ => Err(Trap::Illegal),
+        }
+    }
+
+    fn immediate(&mut self, which: u8, n: u8) -> Result<(), Trap> {
+        match which {
+            1 => self.push(n as u16),
+            2 => {
+                self.x = n as u16;
+                Ok(())
+            }
+            _ => Err(Trap::Illegal),
+        }
+    }
+
+    fn whole_word(&mut self, instruction: Instr) -> Result<(), Trap> {
+        match instruction {
+            Instr::Immediate { which, n } => self.immediate(which, n)?,
+            Instr::Memory { major, x, i, mode, .. } => self.memory(major, x, i, mode)?,
+            Instr::Branch { i: false, back, d } => {
+                let d = d as u16;
+                self.p = if back { self.p.wrapping_sub(d) } else { self.p.wrapping_add(d) };
                 return Ok(());
             }
             _ => return Err(Trap::Illegal),
@@ -193,31 +299,19 @@ impl Machine {
         Ok(())
     }
 
-    fn immediate(&mut self, word: u16) -> Result<(), Trap> {
-        let n = word & 0o377;
-        match word >> 8 & 15 {
-            1 => self.push(n)?,
-            2 => self.x = n,
-            _ => return Err(Trap::Illegal),
-        }
-        self.p = self.p.wrapping_add(1);
-        Ok(())
-    }
-
     fn act(&mut self, word: u16) -> Result<(), Trap> {
-        if word < 4096 {
-            return self.pair(word);
+        match decode(word) {
+            Instr::Pair { left, right } => self.pair(left, right),
+            instruction => {
+                let right = self.right;
+                self.right = false;
+                let answer = self.whole_word(instruction);
+                if answer.is_err() {
+                    self.right = right;
+                }
+                answer
+            }
         }
-        let right = self.right;
-        self.right = false;
-        let answer = match word >> 12 {
-            2 => self.immediate(word),
-            _ => self.memory(word),
-        };
-        if answer.is_err() {
-            self.right = right;
-        }
-        answer
     }
 
     fn step(&mut self, segment: &[u16]) -> Stepped {
@@ -250,14 +344,16 @@ fn main() {
         fills: 0,
         spills: 0,
     };
-    for _ in 0..steps {
+    let mut made = 0;
+    while made < steps {
         if let Stepped::Trapped(trap) = machine.step(&segment) {
-            println!("{trap:?} at {}", machine.p);
+            println!("{trap:?}");
             break;
         }
+        made += 1;
     }
     println!(
-        "p {} words {} sr {} fills {} spills {} flags {} {} {} word {}",
-        machine.p, machine.words, machine.registers, machine.fills, machine.spills, machine.overflow, machine.carry, machine.code, machine.stack[0]
+        "{made} steps, P {}, {} words, the first is {}",
+        machine.p, machine.words, machine.stack[0]
     );
 }
