@@ -1,4 +1,4 @@
-"""What the text of a unit comes to, by a reader that shares nothing with the program that it is compared with.
+"""What the text of a unit comes to, by a reader that shares no code with the program that it is compared with.
 
 `comes_to(text)` is None where the text spells a unit, and else the first fault: its kind, line and column.
 """
