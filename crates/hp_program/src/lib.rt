@@ -6,7 +6,7 @@ mod segments;
 mod store;
 mod valid;
 
-pub use program::{Defect, NoMemory, Program};
+pub use program::{Defect, Program};
 pub use segments::{fetch, segment_words};
 pub use store::{CodeStore, Fetched};
 pub use valid::{entry_count, label_word};

@@ -1,9 +1,9 @@
 //! Programs: segments of code words, and what is wrong with one.
-ghost use Rattle.std.specs.Prelude.{◌≡◌, ℕ, List, map, Option, None, IfOk, ⊤};
+ghost use Rattle.std.specs.Prelude.{◌≡◌, ℕ, List, map, Option, None, IfOk};
 ghost use Rattle.hp_program.specs.Valid.{first_defect};
 
 use crate::valid::find_defect;
-use std::alloc::{AllocError, Global};
+use std::alloc::{AllocError as NoMemory, Global};
 
 /// A program, valid by its type.
 #[derive(Debug, Drop)]
@@ -32,21 +32,9 @@ pub enum Defect {
     Main,
 }
 
-/// Memory is wanting.
-#[derive(Clone, Copy, Debug, PartialEq, Eq)]
-pub struct NoMemory;
-
-impl From<AllocError> for NoMemory {
-    ghost from_gives = { λ _ e. ⊤ };
-
-    fn from(_e: AllocError) -> NoMemory {
-        NoMemory
-    }
-}
-
 /// Equal segments.
 #[tactic(auto, using(crate::proofs::SegmentLemmas::segment_steps))]
-fn copy_segments(alloc: Global, segments: &[Vec<u16>]) -> Result<Vec<Vec<u16>>, AllocError>
+fn copy_segments(alloc: Global, segments: &[Vec<u16>]) -> Result<Vec<Vec<u16>>, NoMemory>
     ensures { IfOk result (λ copies. map (λ s. s.items) copies.items ≡ map (λ s. s.items) segments.now) }
 {
     let mut copies = Vec::with_capacity(alloc, segments.len())?;
@@ -81,7 +69,7 @@ impl Program {
         }
     }
 
-    /// An equal program.
+    /// An equal program. Only memory may be wanting.
     pub fn copy(&self, alloc: Global) -> Result<Program, NoMemory>
         ensures { IfOk result (λ p. (segments_of p ≡ segments_of self.now) × (p.main ≡ self.now.main) × (p.entry ≡ self.now.entry) × (p.globals.items ≡ self.now.globals.items)) }
     {
