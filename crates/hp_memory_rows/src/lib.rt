@@ -8,4 +8,4 @@ mod move_rows;
 
 pub use jump_rows::{branch, branch_on_code, step_loop, test_loop};
 pub use memory_rows::{load_code, with_memory_operand};
-pub use move_rows::move_element;
+pub use move_rows::{as_moved, is_of_class, move_element, nearer, onward};

@@ -11,10 +11,10 @@ use hp_program::Program;
 use hp_session::{Place, Session, byte_of};
 use hp_word::{Code, Trap};
 
-/// The number after `a` in the direction of a count.
+/// The address after `a` in the direction of a count: upwards where that is positive, downwards where it is negative.
 #[inline]
 #[tactic(auto, unfolding(crate::specs::MoveRows::onward))]
-fn onward(count: u16, a: u16) -> u16
+pub fn onward(count: u16, a: u16) -> u16
     ensures { result ≡ onward count a }
 {
     if count < 32768 {
@@ -27,7 +27,7 @@ fn onward(count: u16, a: u16) -> u16
 /// A count one nearer to 0.
 #[inline]
 #[tactic(auto, unfolding(crate::specs::MoveRows::nearer))]
-fn nearer(count: u16) -> u16
+pub fn nearer(count: u16) -> u16
     ensures { result ≡ nearer count }
 {
     if count < 32768 {
@@ -37,9 +37,9 @@ fn nearer(count: u16) -> u16
     }
 }
 
-/// Whether a byte is of the class of an MVBW.
+/// Whether a byte is of the class of an MVBW: 1 in its number is for digits, 2 for letters.
 #[tactic(auto, unfolding(crate::specs::MoveRows::is_of_class))]
-fn of_class(n: u8, byte: u8) -> bool
+pub fn is_of_class(n: u8, byte: u8) -> bool
     ensures { result ≡ is_of_class n byte }
 {
     let digit = b'0' <= byte && byte <= b'9';
@@ -47,9 +47,9 @@ fn of_class(n: u8, byte: u8) -> bool
     n % 2 == 1 && digit || n / 2 % 2 == 1 && letter
 }
 
-/// A byte as an MVBW moves it.
+/// A byte as an MVBW moves it: with 4 in its number small letters become capitals.
 #[tactic(auto, unfolding(crate::specs::MoveRows::as_moved))]
-fn as_moved(n: u8, byte: u8) -> u8
+pub fn as_moved(n: u8, byte: u8) -> u8
     ensures { result ≡ as_moved n byte }
 {
     if n / 4 % 2 == 1 && b'a' <= byte && byte <= b'z' {
@@ -137,7 +137,7 @@ fn move_byte_while(session: &mut Session, n: u8) -> Result<(), Trap>
     session.need(2)?;
     let (b, a) = (session.word(1), session.word(0));
     let byte = session.read_byte(Place::Db(a))?;
-    if !of_class(n, byte) {
+    if !is_of_class(n, byte) {
         session.delete(1);
         session.pass();
         return Ok(());

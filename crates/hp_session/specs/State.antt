@@ -119,6 +119,6 @@ opened globals main start lines stack extra room = record {
 abbrev pub Does : Outcome → Machine → Result (Unit {0}) Trap → Machine → Type 0
 Does expected old answer new = MatchResult answer (λ _. expected ≡ Ok new) (λ t. (expected ≡ Err t) × (new ≡ old))
 
--- DEL, DDEL, DELB: words deleted
+-- words deleted from the top: one by DEL, two by DDEL, n by SUBS
 unfoldable pub deleted : ℕ → Machine → Outcome
 deleted n m = taking n m (Ok (without n m))

@@ -9,7 +9,7 @@ use hp_word::{Arith, Code, Trap, Wide};
 
 /// The condition code of a byte as a character.
 #[tactic(auto, unfolding(crate::specs::StackRows::character_code))]
-fn character(byte: u8) -> Code
+pub fn character(byte: u8) -> Code
     ensures { result ≡ character_code byte }
 {
     match byte {

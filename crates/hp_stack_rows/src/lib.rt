@@ -5,4 +5,5 @@ mod arithmetic_rows;
 mod placing_rows;
 mod stack_rows;
 
+pub use arithmetic_rows::character;
 pub use stack_rows::operate;

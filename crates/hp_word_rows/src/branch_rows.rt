@@ -10,7 +10,7 @@ use hp_word::{Code, Shift, Trap, shift_word};
 
 /// The shift with a code.
 #[tactic(auto, unfolding(crate::specs::WordRows::shift_of))]
-fn shift_of(kind: u8) -> Shift
+pub fn shift_of(kind: u8) -> Shift
     ensures { result ≡ shift_of kind }
 {
     match kind {
@@ -25,7 +25,7 @@ fn shift_of(kind: u8) -> Shift
 
 /// Where X stands to the range from B to A.
 #[tactic(auto, unfolding(crate::specs::WordRows::range_code))]
-fn range(x: u16, b: u16, a: u16) -> Code
+pub fn range(x: u16, b: u16, a: u16) -> Code
     ensures { result ≡ range_code x b a }
 {
     if signed_word(x) < signed_word(b) {

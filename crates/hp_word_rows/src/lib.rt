@@ -4,5 +4,5 @@
 mod branch_rows;
 mod word_rows;
 
-pub use branch_rows::{shift_top, short_branch};
+pub use branch_rows::{range, shift_of, shift_top, short_branch};
 pub use word_rows::{count_words, with_immediate};
