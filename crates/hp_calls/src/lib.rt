@@ -15,6 +15,3 @@ pub use calls::{exit, pcal};
 pub use phases::{Called, Phase};
 pub use subroutines::{scal, sxit};
 pub use transfers::finish_transfer;
-
-#[cfg(test)]
-mod tests;

@@ -3,7 +3,7 @@
 -- 2. calls and returns               (call_acts, exit_acts)
 -- 3. a word done with R cleared      (at_left_acts)
 -- 4. the pair in a word of major 0   (stack_pair, stack_illegal)
-use Rattle.std.proofs.Common.{◌≡◌, ℕ, ◌+◌, ◌/◌, ◌%◌, ◌^◌, ◌<◌, Bool, true, false, List, length, refl, sym, ap, subst, ◌∙◌, arith, []}
+use Rattle.std.proofs.Common.{◌≡◌, ℕ, ◌+◌, ◌/◌, ◌%◌, ◌^◌, ◌<◌, Bool, true, false, List, length, slice_get, refl, sym, ap, subst, ◌∙◌, arith, []}
 use Rattle.std.specs.Prelude.{◌≢◌, ◌&&◌, ◌==◌, nat_le, Result, Ok, Err, None, IfOk, OnOk, MatchResult, ⊤, ◌-◌, if◌then◌else◌}
 use Rattle.std.proofs.lemmas.Bool.Decides.{nat_tests}
 use Rattle.hp_word.specs.declared.endings.Trap.{Trap}
@@ -21,10 +21,10 @@ use Rattle.hp_instr.specs.declared.instruction.Op.{Op}
 use Rattle.hp_instr.specs.declared.instruction.Instr.{Instr}
 use Rattle.hp_instr.specs.declared.instruction.Instr.TheVariants as words
 use Rattle.hp_instr.specs.declared.labels.Label.{Label}
-use Rattle.hp_instr.specs.declared.labels.Label.TheVariants.{Local, External, Bad}
 use Rattle.hp_tos.specs.Seen.{Seen}
 use Rattle.hp_tos.specs.Calls.{flushed}
 use Rattle.hp_session.specs.declared.registers.Regs.{Regs}
+use Rattle.hp_session.specs.Places.{read_at, area}
 use Rattle.hp_session.specs.State.{Machine, Outcome, Does, opened, then_with, passing}
 use Rattle.hp_rows.specs.Standing.{standing}
 use Rattle.hp_rows.specs.Numbers.{numbers, exchanging, moved}
@@ -49,11 +49,12 @@ use Rattle.hp_calls.specs.Phases.{finished}
 use Rattle.hp_calls.specs.Transfers.{IsThrough, Transfers, Waits, handed_on, wanted, went}
 use Rattle.hp_flat.specs.Step.{at_left, control_row, pair_row, row, word_row}
 use Rattle.hp_cpu.specs.Gates.{gate_of, label_called}
+use Rattle.hp_cpu.specs.Left.{phase_by_label, phase_by_marker, phase_of}
 use Rattle.hp_cpu.specs.Counts.{call_pushes, group_numbers, has_passed, instruction_numbers}
-use Rattle.hp_cpu.specs.Acts.{Acts, IsLed}
+use Rattle.hp_cpu.specs.Acts.{Acts}
 use Rattle.hp_cpu.specs.Answers.{done}
 use Rattle.hp_cpu.specs.Restored.{cleared, restored}
-use Rattle.hp_cpu.proofs.RowLemmas.{call_codes, field_is, reference_is, move_is, illegal_is, whole_is, no_gate}
+use Rattle.hp_cpu.proofs.RowLemmas.{call_codes, field_is, reference_is, move_is, illegal_is, whole_is, no_gate, no_phase}
 
 -- Answers with no transfer
 
@@ -61,19 +62,20 @@ use Rattle.hp_cpu.proofs.RowLemmas.{call_codes, field_is, reference_is, move_is,
 plain_acts : (program : List (List ℕ)) (shown : Machine → Outcome) (i : Instr) (regs : Regs) (s : Seen) (answer : Result (Unit {0}) Trap) (next : Regs) (after : Seen)
     → ((rest : Machine) → Does (shown (standing regs s rest)) (standing regs s rest) answer (standing next after rest))
     → ((rest : Machine) → gate_of program i (standing regs s rest) ≡ None)
+    → ((rest : Machine) → phase_of program i (standing regs s rest) ≡ Ready)
     → numbers after ≡ instruction_numbers i regs s answer next
     → after.capacity ≡ s.capacity → after.extra_capacity ≡ s.extra_capacity
     → Acts program shown i regs s (done answer) next after
 unfolding finished
-plain_acts program shown i regs s (Ok u) next after does none counted capacity extra_capacity = record {
+plain_acts program shown i regs s (Ok u) next after does none ready counted capacity extra_capacity = record {
   goes = λ rest. (does rest, tt);
   gate = λ rest. sym (none rest);
-  led = λ rest. tt;
+  led = λ rest. sym (ready rest);
   counts = counted;
   same_capacity = capacity;
   same_extra_capacity = extra_capacity;
 }
-plain_acts program shown i regs s (Err t) next after does none counted capacity extra_capacity = record {
+plain_acts program shown i regs s (Err t) next after does none ready counted capacity extra_capacity = record {
   goes = does;
   gate = λ rest. sym (none rest);
   led = λ rest. tt;
@@ -125,12 +127,12 @@ module _ (program : List (List ℕ)) (i : Instr) (regs : Regs) (s : Seen) (next 
   pub field_acts : (answer : Result (Unit {0}) Trap) → group i ≡ Field → Performs (field_row i) (field_uses i) regs s answer next after
       → Acts program (word_row program i) i regs s (done answer) next after
   field_acts answer h p = plain_acts program _ i regs s answer next after (λ rest. renamed _ _ _ answer _ (field_is program i _ h) (p.does rest))
-      (λ rest. no_gate program i _ (λ k. cc)) (p.moves ∙ sym (numbers_in Field i regs s answer next h)) p.same_capacity p.same_extra_capacity
+      (λ rest. no_gate program i _ (λ k. cc)) (λ rest. no_phase program i _ (λ k. cc)) (p.moves ∙ sym (numbers_in Field i regs s answer next h)) p.same_capacity p.same_extra_capacity
 
   pub reference_acts : (answer : Result (Unit {0}) Trap) → group i ≡ Reference → Performs (reference_row program i) (reference_uses i s) regs s answer next after
       → Acts program (word_row program i) i regs s (done answer) next after
   reference_acts answer h p = plain_acts program _ i regs s answer next after (λ rest. renamed _ _ _ answer _ (reference_is program i _ h) (p.does rest))
-      (λ rest. no_gate program i _ (λ k. cc)) (p.moves ∙ sym (numbers_in Reference i regs s answer next h)) p.same_capacity p.same_extra_capacity
+      (λ rest. no_gate program i _ (λ k. cc)) (λ rest. no_phase program i _ (λ k. cc)) (p.moves ∙ sym (numbers_in Reference i regs s answer next h)) p.same_capacity p.same_extra_capacity
 
   pub move_acts : (answer : Result MoveStep Trap) → group i ≡ Move → MovesOn (instruction_row program i) (move_uses i) regs s answer next after
       → Acts program (word_row program i) i regs s (done (as_step answer)) next after
@@ -138,7 +140,7 @@ module _ (program : List (List ℕ)) (i : Instr) (regs : Regs) (s : Seen) (next 
       let over = over_is regs s answer next after p.place (λ rest. left_alone _ _ (as_step answer) _ (p.performs.does rest)) in
       plain_acts program _ i regs s (as_step answer) next after
       (λ rest. renamed _ _ _ (as_step answer) _ (move_is program i _ h) (p.performs.does rest))
-      (λ rest. no_gate program i _ (λ k. cc))
+      (λ rest. no_gate program i _ (λ k. cc)) (λ rest. no_phase program i _ (λ k. cc))
       (p.performs.moves ∙ ap (λ (b : Bool). moved (move_uses i b) (as_step answer) s) (sym over) ∙ sym (numbers_in Move i regs s (as_step answer) next h))
       p.performs.same_capacity p.performs.same_extra_capacity
 
@@ -146,7 +148,7 @@ module _ (program : List (List ℕ)) (i : Instr) (regs : Regs) (s : Seen) (next 
 pub illegal_acts : (program : List (List ℕ)) (i : Instr) (regs : Regs) (s : Seen) → group i ≡ Illegal
     → Acts program (word_row program i) i regs s (Err traps.Illegal) regs s
 illegal_acts program i regs s h = plain_acts program _ i regs s (Err traps.Illegal) regs s (λ rest. (illegal_is program i _ h, refl))
-    (λ rest. no_gate program i _ (λ k. cc)) (sym (numbers_in Illegal i regs s (Err traps.Illegal) regs h)) refl refl
+    (λ rest. no_gate program i _ (λ k. cc)) (λ rest. no_phase program i _ (λ k. cc)) (sym (numbers_in Illegal i regs s (Err traps.Illegal) regs h)) refl refl
 
 -- Calls and returns
 
@@ -157,45 +159,26 @@ exchanging_none s =
     ap (λ (n : ℕ). numbers (record (flushed s) { spills = n })) e
 
 module _ (program : List (List ℕ)) (n : ℕ) (regs : Regs) (s : Seen) (next : Regs) (after : Seen) where
-  -- a call that goes to an entry of another segment went through its label
-  call_led : (m : Machine) (out : Machine) (seg entry : ℕ) → called program n m ≡ Ok out
-      → IfOk (label_at program n m) (λ l. IsThrough l (Went (Entering seg entry)))
-      → label_at program n m ≡ Ok (External seg entry)
+  -- a call that is done went on through its label
+  call_led : (m : Machine) (out : Machine) (phase : Phase) → called program n m ≡ Ok out
+      → IfOk (label_at program n m) (λ l. IsThrough l (Went phase)) → phase ≡ phase_by_label (label_at program n m)
   unfolding called
-  call_led m out seg entry goes through = by m.split (label_at program n m) goes through where
+  call_led m out phase goes through = by m.split (label_at program n m) goes through where
     by : (split : Bool) (l : Result Label Trap) → (if split then Err traps.Mode else then_with l (λ l. called_through program l m)) ≡ Ok out
-        → IfOk l (λ l. IsThrough l (Went (Entering seg entry))) → l ≡ Ok (External seg entry)
+        → IfOk l (λ l. IsThrough l (Went phase)) → phase ≡ phase_by_label l
     by true l g t = cc
     by false (Err trap) g t = cc
-    by false (Ok (Local offset)) g t = cc
-    by false (Ok (External to first)) g t = cc
-    by false (Ok (Bad w)) g t = cc
+    by false (Ok l) g t = t
 
   pub call_acts : (answer : Result Called Trap) → Transfers program (called program n) 4 regs s answer next after
       → ((rest : Machine) → IfOk answer (λ c. IfOk (label_at program n (standing regs s rest)) (λ l. IsThrough l c)))
       → ((rest : Machine) → handed_on answer ≡ wanted s.split (label_at program n (standing regs s rest)))
       → Acts program (word_row program (words.Control 0 n)) (words.Control 0 n) regs s answer next after
   unfolding word_row control_row instruction_numbers
-  call_acts (Ok (Went Ready)) t through gate = record {
+  call_acts (Ok (Went phase)) t through gate = record {
     goes = t.goes;
     gate = gate;
-    led = λ rest. tt;
-    counts = t.moves;
-    same_capacity = t.same_capacity;
-    same_extra_capacity = t.same_extra_capacity;
-  }
-  call_acts (Ok (Went (Entering seg entry))) t through gate = record {
-    goes = t.goes;
-    gate = gate;
-    led = λ rest. call_led (standing regs s rest) _ seg entry (t.goes rest).0 (through rest);
-    counts = t.moves;
-    same_capacity = t.same_capacity;
-    same_extra_capacity = t.same_extra_capacity;
-  }
-  call_acts (Ok (Went (Returning seg offset))) t through gate = record {
-    goes = t.goes;
-    gate = gate;
-    led = λ rest. tt;
+    led = λ rest. call_led (standing regs s rest) _ phase (t.goes rest).0 (through rest);
     counts = t.moves;
     same_capacity = t.same_capacity;
     same_extra_capacity = t.same_extra_capacity;
@@ -217,45 +200,37 @@ module _ (program : List (List ℕ)) (n : ℕ) (regs : Regs) (s : Seen) (next : 
     same_extra_capacity = t.same_extra_capacity;
   }
 
-  -- a return goes to no entry
-  exit_led : (m : Machine) (out : Machine) (seg entry : ℕ) → exited program n m ≡ Ok out
-      → IfOk (marker_at m.regs.q m) (λ k. Entering seg entry ≡ Returning (bits 8 15 k.status) k.offset) → ⊥
+  -- a return that is done goes by its marker
+  exit_led : (m : Machine) (out : Machine) (phase : Phase) → exited program n m ≡ Ok out
+      → IfOk (marker_at m.regs.q m) (λ k. phase ≡ Returning (bits 8 15 k.status) k.offset) → phase ≡ phase_by_marker (marker_at m.regs.q m)
   unfolding exited
-  exit_led m out seg entry goes through = by m.split (marker_at m.regs.q m) goes through where
+  exit_led m out phase goes through = by m.split (marker_at m.regs.q m) goes through where
     by : (split : Bool) (k : Result Frame Trap) → (if split then Err traps.Mode else then_with k (λ k. returned program n k m)) ≡ Ok out
-        → IfOk k (λ k. Entering seg entry ≡ Returning (bits 8 15 k.status) k.offset) → ⊥
+        → IfOk k (λ k. phase ≡ Returning (bits 8 15 k.status) k.offset) → phase ≡ phase_by_marker k
     by true k g t = cc
     by false (Err trap) g t = cc
-    by false (Ok k) g t = cc
-
-  exit_went : (phase : Phase) → Transfers program (exited program n) 0 regs s (Ok (Went phase)) next after
-      → ((rest : Machine) → IfOk (marker_at regs.q (standing regs s rest)) (λ k. phase ≡ Returning (bits 8 15 k.status) k.offset))
-      → Acts program (word_row program (words.Control 1 n)) (words.Control 1 n) regs s (Ok (Went phase)) next after
-  unfolding word_row control_row instruction_numbers
-  exit_went Ready t through = record {
-    goes = t.goes;
-    gate = λ rest. refl;
-    led = λ rest. tt;
-    counts = t.moves;
-    same_capacity = t.same_capacity;
-    same_extra_capacity = t.same_extra_capacity;
-  }
-  exit_went (Entering seg entry) t through = absurd (exit_led (standing regs s some_machine) _ seg entry (t.goes some_machine).0 (through some_machine))
-  exit_went (Returning seg offset) t through = record {
-    goes = t.goes;
-    gate = λ rest. refl;
-    led = λ rest. tt;
-    counts = t.moves;
-    same_capacity = t.same_capacity;
-    same_extra_capacity = t.same_extra_capacity;
-  }
+    by false (Ok k) g t = t
 
   pub exit_acts : (answer : Result Phase Trap) → Transfers program (exited program n) 0 regs s (went answer) next after
       → ((rest : Machine) → IfOk answer (λ phase. IfOk (marker_at regs.q (standing regs s rest)) (λ k. phase ≡ Returning (bits 8 15 k.status) k.offset)))
       → Acts program (word_row program (words.Control 1 n)) (words.Control 1 n) regs s (went answer) next after
   unfolding word_row control_row instruction_numbers
-  exit_acts (Ok phase) t through = exit_went phase t through
-  exit_acts (Err trap) t through = plain_acts program _ (words.Control 1 n) regs s (Err trap) next after t.goes (λ rest. refl) t.moves t.same_capacity t.same_extra_capacity
+  exit_acts (Ok phase) t through = record {
+    goes = t.goes;
+    gate = λ rest. refl;
+    led = λ rest. exit_led (standing regs s rest) _ phase (t.goes rest).0 (through rest);
+    counts = t.moves;
+    same_capacity = t.same_capacity;
+    same_extra_capacity = t.same_extra_capacity;
+  }
+  exit_acts (Err trap) t through = record {
+    goes = t.goes;
+    gate = λ rest. refl;
+    led = λ rest. tt;
+    counts = t.moves;
+    same_capacity = t.same_capacity;
+    same_extra_capacity = t.same_extra_capacity;
+  }
 
 -- after a flush no answer but a trap says more than how many words were pushed
 flushed_is : (i : Instr) (left : ℕ) (regs : Regs) (s : Seen) (answer : Result (Unit {0}) Trap) (next : Regs) → group i ≡ Call → call_pushes i ≡ left
@@ -266,13 +241,13 @@ module _ (program : List (List ℕ)) (n : ℕ) (regs : Regs) (s : Seen) (next : 
   pub subroutine_left_acts : (answer : Result (Unit {0}) Trap) → Flushes (subroutine_left n) 0 regs s answer next after
       → Acts program (word_row program (words.Control 2 n)) (words.Control 2 n) regs s (done answer) next after
   unfolding word_row control_row
-  subroutine_left_acts answer f = plain_acts program _ (words.Control 2 n) regs s answer next after f.does (λ rest. refl)
+  subroutine_left_acts answer f = plain_acts program _ (words.Control 2 n) regs s answer next after f.does (λ rest. refl) (λ rest. refl)
       (f.moves ∙ sym (flushed_is (words.Control 2 n) 0 regs s answer next refl refl)) f.same_capacity f.same_extra_capacity
 
   pub subroutine_called_acts : (answer : Result (Unit {0}) Trap) → Flushes (subroutine_called program n) 1 regs s answer next after
       → Acts program (word_row program (words.Control 3 n)) (words.Control 3 n) regs s (done answer) next after
   unfolding word_row control_row
-  subroutine_called_acts answer f = plain_acts program _ (words.Control 3 n) regs s answer next after f.does (λ rest. refl)
+  subroutine_called_acts answer f = plain_acts program _ (words.Control 3 n) regs s answer next after f.does (λ rest. refl) (λ rest. refl)
       (f.moves ∙ sym (flushed_is (words.Control 3 n) 1 regs s answer next refl refl)) f.same_capacity f.same_extra_capacity
 
 -- a call that is neither PCAL, EXIT nor SXIT is SCAL
@@ -330,12 +305,20 @@ waits_left Ready regs next w = tt
 waits_left (Entering seg entry) regs next w = w
 waits_left (Returning seg offset) regs next w = w
 
-led_left : (program : List (List ℕ)) (i : Instr) (m : Machine) (answer : Result Called Trap) → IsLed program i (at_left m) answer → IsLed program i m answer
-led_left program i m (Ok (Went Ready)) l = tt
-led_left program i m (Ok (Went (Entering seg entry))) l = sym (label_left program i m) ∙ l
-led_left program i m (Ok (Went (Returning seg offset))) l = tt
-led_left program i m (Ok (Gate g)) l = tt
-led_left program i m (Err t) l = tt
+-- nor does the phase that an instruction leaves
+phase_left : (program : List (List ℕ)) (i : Instr) (m : Machine) → phase_of program i (at_left m) ≡ phase_of program i m
+unfolding label_at marker_at read_at area
+phase_left program (words.Pair left right) m = refl
+phase_left program (words.Shifted kind count) m = refl
+phase_left program (words.Short test back d) m = refl
+phase_left program (words.Immediate which n) m = refl
+phase_left program (words.Control which n) m = refl
+phase_left program (words.Memory major second x i mode) m = refl
+phase_left program (words.LoadCode back d) m = refl
+phase_left program (words.Branch i back d) m = refl
+phase_left program (words.OnCode mask back d) m = refl
+phase_left program (words.Loop modify back d) m = refl
+phase_left program (words.Illegal w) m = refl
 
 pub at_left_acts : (program : List (List ℕ)) (i : Instr) (regs : Regs) (s : Seen) (answer : Result Called Trap) (next : Regs) (after : Seen) → group i ≢ Stack
     → Acts program (word_row program i) i (cleared regs) s answer next after
@@ -343,8 +326,9 @@ pub at_left_acts : (program : List (List ℕ)) (i : Instr) (regs : Regs) (s : Se
 at_left_acts program i regs s (Ok (Went phase)) next after other a = record {
   goes = λ rest. (whole_is program i (standing regs s rest) other ∙ (a.goes rest).0, waits_left phase regs next (a.goes rest).1);
   gate = λ rest. a.gate rest ∙ ap (wanted s.split) (label_left program i (standing regs s rest));
-  led = λ rest. led_left program i (standing regs s rest) (Ok (Went phase)) (a.led rest);
-  counts = a.counts ∙ numbers_left i regs s (Ok tt) next next.right other;
+  led = λ rest. a.led rest ∙ phase_left program i (standing regs s rest);
+  counts = a.counts
+      ∙ numbers_left i regs s (Ok tt) (finished (slice_get program) phase next) (finished (slice_get program) phase next).right other;
   same_capacity = a.same_capacity;
   same_extra_capacity = a.same_extra_capacity;
 }
@@ -372,7 +356,7 @@ pub pair_acts : (program : List (List ℕ)) (left right : Op) (regs : Regs) (s :
     → Acts program (row program (words.Pair left right)) (words.Pair left right) regs s (done answer) next after
 unfolding row instruction_numbers
 pair_acts program left right regs s answer next after p =
-    plain_acts program _ (words.Pair left right) regs s answer next after p.does (λ rest. refl) p.moves p.same_capacity p.same_extra_capacity
+    plain_acts program _ (words.Pair left right) regs s answer next after p.does (λ rest. refl) (λ rest. refl) p.moves p.same_capacity p.same_extra_capacity
 
 -- a word below 4,096 has its operations in its upper and its lower six bits
 by_halves : (w : ℕ) → w < 4096

@@ -15,7 +15,9 @@ use Rattle.hp_fields.specs.FieldRows.{field_act, field_row}
 use Rattle.hp_memref.specs.ReferenceRows.{reference_row}
 use Rattle.hp_moves.specs.MoveSteps.{instruction_row}
 use Rattle.hp_flat.specs.Step.{at_left, control_row, row, word_row}
+use Rattle.hp_calls.specs.declared.phases.Phase.TheVariants.{Ready}
 use Rattle.hp_cpu.specs.Gates.{label_called, gate_of}
+use Rattle.hp_cpu.specs.Left.{phase_of}
 
 -- Codes of major 3
 
@@ -173,3 +175,30 @@ no_label segments (words.Illegal w) m h = refl
 
 pub no_gate : (segments : List (List ℕ)) (i : Instr) (m : Machine) → group i ≢ Call → gate_of segments i m ≡ None
 no_gate segments i m h = rw (no_label segments i m h) refl
+
+-- only calls and returns leave a transfer under way
+pub no_phase : (segments : List (List ℕ)) (i : Instr) (m : Machine) → group i ≢ Call → phase_of segments i m ≡ Ready
+no_phase segments (words.Pair left right) m h = refl
+no_phase segments (words.Shifted kind count) m h = refl
+no_phase segments (words.Short test back d) m h = refl
+no_phase segments (words.Immediate which n) m h = refl
+no_phase segments (words.Control which n) m h = by (which == 0) (which == 1) refl refl where
+  calls : (which : ℕ) → nat_le which 3 ≡ true → control_group which ≡ Call
+  calls which low = rw low refl
+
+  low_zero : (which : ℕ) → (which == 0) ≡ true → nat_le which 3 ≡ true
+  low_zero which is = grind (arith, nat_tests)
+
+  low_one : (which : ℕ) → (which == 1) ≡ true → nat_le which 3 ≡ true
+  low_one which is = grind (arith, nat_tests)
+
+  by : (c d : Bool) → (which == 0) ≡ c → (which == 1) ≡ d → phase_of segments (words.Control which n) m ≡ Ready
+  by true d is other = absurd (h (calls which (low_zero which is)))
+  by false true is other = absurd (h (calls which (low_one which other)))
+  by false false is other = rw (is, other) refl
+no_phase segments (words.Memory major second x i mode) m h = refl
+no_phase segments (words.LoadCode back d) m h = refl
+no_phase segments (words.Branch i back d) m h = refl
+no_phase segments (words.OnCode mask back d) m h = refl
+no_phase segments (words.Loop modify back d) m h = refl
+no_phase segments (words.Illegal w) m h = refl

@@ -21,13 +21,14 @@ use Rattle.hp_calls.specs.declared.phases.Phase.TheVariants.{Ready, Entering, Re
 use Rattle.hp_calls.specs.declared.phases.Called.{Called}
 use Rattle.hp_calls.specs.declared.phases.Called.TheVariants as called
 use Rattle.hp_calls.specs.Phases.{HoldsOf, arrived, destination, finished, present}
-use Rattle.hp_calls.specs.Transfers.{wanted}
+use Rattle.hp_calls.specs.Transfers.{Waits, wanted}
 use Rattle.hp_calls.proofs.PhaseLaws.{finished_of}
 use Rattle.hp_flat.specs.Step.{by_word, outcome, row}
 use Rattle.hp_cpu.specs.declared.cpu.Cpu.{Cpu}
 use Rattle.hp_cpu.specs.declared.cpu.Stepped.TheVariants.{Absent, Trapped}
 use Rattle.hp_cpu.specs.Stood.{needed, registers, stood}
 use Rattle.hp_cpu.specs.Gates.{called_gate, gate_at, instruction_at}
+use Rattle.hp_cpu.specs.Left.{phase_after, phase_at}
 use Rattle.hp_cpu.specs.Counts.{numbers_after}
 use Rattle.hp_cpu.specs.Acts.{Acts}
 use Rattle.hp_cpu.specs.Answers.{phase_left, stepped}
@@ -161,6 +162,11 @@ module _ (program : List (List ℕ)) (old : Cpu) (regs : Regs) (w : Option ℕ)
   gate_is rest = ap (λ (m : Machine). gate_at program (instruction_at program m.regs) m) (at rest)
       ∙ ap (λ (o : Option ℕ). gate_at program (option_map instruction o) (standing regs (seen old.stack) rest)) word
 
+  phase_is : (rest : Machine) → phase_after program (stood program old rest) ≡ phase_at program (option_map instruction w) (standing regs (seen old.stack) rest)
+  unfolding phase_after
+  phase_is rest = ap (λ (m : Machine). phase_at program (instruction_at program m.regs) m) (at rest)
+      ∙ ap (λ (o : Option ℕ). phase_at program (option_map instruction o) (standing regs (seen old.stack) rest)) word
+
   numbers_is : (answer : Result (Unit {0}) Trap) (next : Regs) → numbers_after (instruction_at program (registers program old)) (registers program old) (seen old.stack) answer next
       ≡ numbers_after (option_map instruction w) regs (seen old.stack) answer next
   numbers_is answer next = ap (λ (r : Regs). numbers_after (instruction_at program r) r (seen old.stack) answer next) same
@@ -214,7 +220,9 @@ acted program held old regs w of here is fetch = λ answer next stack a. by answ
     present = present_is program held old regs is there.0;
     goes = λ rest. outcome_is program old regs (Some w) same word rest ∙ (a.goes rest).0;
     no_gate = λ rest. gate_is program old regs (Some w) same word rest ∙ sym (a.gate rest);
-    counts = a.counts ∙ sym (numbers_is program old regs (Some w) same word (Ok tt) next);
+    phase = λ rest. a.led rest ∙ sym (phase_is program old regs (Some w) same word rest);
+    waits = subst (λ (r : Regs). Waits phase r next) (sym same) (a.goes some_machine).1;
+    counts = a.counts ∙ sym (numbers_is program old regs (Some w) same word (Ok tt) (finished (slice_get program) phase next));
     same_segments = refl;
   }
   by (Ok (called.Gate i)) next stack a = record {

@@ -10,7 +10,7 @@ use Rattle.hp_word.specs.declared.endings.Trap.TheVariants.{BadEntry}
 use Rattle.hp_instr.specs.declared.instruction.Instr.{Instr}
 use Rattle.hp_instr.specs.declared.instruction.Instr.TheVariants as words
 use Rattle.hp_instr.specs.declared.labels.Label.{Label}
-use Rattle.hp_instr.specs.declared.labels.Label.TheVariants.{External}
+use Rattle.hp_instr.specs.declared.labels.Label.TheVariants.{Local, External, Bad}
 use Rattle.hp_instr.specs.Instructions.{instruction}
 use Rattle.hp_instr.specs.Labels.{label}
 use Rattle.hp_program.specs.declared.store.Fetched.TheVariants.{Word}
@@ -23,7 +23,8 @@ use Rattle.hp_session.specs.declared.registers.Regs.{Regs}
 use Rattle.hp_session.specs.Keeping.{Continues}
 use Rattle.hp_session.specs.State.{Machine}
 use Rattle.hp_rows.specs.Standing.{standing}
-use Rattle.hp_call_rows.specs.CallRows.{current, label_at}
+use Rattle.hp_call_rows.specs.declared.call_rows.Frame.{Frame}
+use Rattle.hp_call_rows.specs.CallRows.{current, label_at, marker_at}
 use Rattle.hp_calls.specs.declared.phases.Phase.{Phase}
 use Rattle.hp_calls.specs.declared.phases.Phase.TheVariants.{Ready, Entering, Returning}
 use Rattle.hp_calls.specs.declared.phases.Called.{Called}
@@ -34,6 +35,7 @@ use Rattle.hp_flat.proofs.StepKeeping.{answered-continues}
 use Rattle.hp_cpu.specs.declared.cpu.Cpu.{Cpu}
 use Rattle.hp_cpu.specs.Stood.{stood}
 use Rattle.hp_cpu.specs.Gates.{label_called}
+use Rattle.hp_cpu.specs.Left.{phase_by_label, phase_by_marker, phase_of}
 use Rattle.hp_cpu.specs.Acts.{Acts}
 use Rattle.hp_cpu.specs.Answers.{phase_left}
 use Rattle.hp_cpu.specs.Steps.{Goes}
@@ -123,6 +125,30 @@ module _ (program : List (List ℕ)) (main entry : ℕ) (globals : List ℕ) (va
   call_leads (words.Loop modify back d) m seg first here there is = cc
   call_leads (words.Illegal w) m seg first here there is = cc
 
+  -- a call on its way to another segment went through a label to it
+  entering_through : (i : Instr) (m : Machine) (seg first : ℕ) → Entering seg first ≡ phase_of program i m → label_called program i m ≡ Ok (External seg first)
+  entering_through (words.Pair left right) m seg first is = cc
+  entering_through (words.Shifted kind count) m seg first is = cc
+  entering_through (words.Short test back d) m seg first is = cc
+  entering_through (words.Immediate which n) m seg first is = cc
+  entering_through (words.Control which n) m seg first is = by (which == 0) (which == 1) (label_at program n m) (marker_at m.regs.q m) is where
+    by : (pcal exit : Bool) (l : Result Label Trap) (k : Result Frame Trap)
+        → Entering seg first ≡ (if pcal then phase_by_label l else if exit then phase_by_marker k else Ready)
+        → (if pcal then l else Err BadEntry) ≡ Ok (External seg first)
+    by true exit (Ok (Local offset)) k e = cc
+    by true exit (Ok (External to entry)) k e = cc
+    by true exit (Ok (Bad w)) k e = cc
+    by true exit (Err t) k e = cc
+    by false true l (Ok k) e = cc
+    by false true l (Err t) e = cc
+    by false false l k e = cc
+  entering_through (words.Memory major second x i mode) m seg first is = cc
+  entering_through (words.LoadCode back d) m seg first is = cc
+  entering_through (words.Branch i back d) m seg first is = cc
+  entering_through (words.OnCode mask back d) m seg first is = cc
+  entering_through (words.Loop modify back d) m seg first is = cc
+  entering_through (words.Illegal w) m seg first is = cc
+
   -- a step that is done goes on from the session before it
   goes_on : (held : ℕ → Option (List ℕ)) (old new : Cpu) → Goes program held old new
       → Continues (length program) (stood program old some_machine) (stood program new some_machine)
@@ -148,7 +174,8 @@ module _ (program : List (List ℕ)) (main entry : ℕ) (globals : List ℕ) (va
         record {
           count = suits.count;
           current = subst (λ (k : ℕ). k < length program) (sym (a.goes some_machine).1.0) (stood_in suits);
-          transfer = call_leads (instruction w) (standing regs (seen old.stack) some_machine) seg first (stood_in suits) there (a.led some_machine);
+          transfer = call_leads (instruction w) (standing regs (seen old.stack) some_machine) seg first (stood_in suits) there
+              (entering_through (instruction w) (standing regs (seen old.stack) some_machine) seg first (a.led some_machine));
         }
     acted_suits (Ok (Went (Returning seg offset))) next stack a suits =
         let on = goes_on held old _ (acted program held old regs w of here is fetch (Ok (Went (Returning seg offset))) next stack a) in

@@ -1,7 +1,8 @@
--- In reading order: for which session a processor stands, which intrinsic a step calls, how the registers' numbers move, what is
+-- In reading order: for which session a processor stands, which intrinsic a step calls, in which phase it leaves, how the registers' numbers move, what is
 -- said of one word, and what is said of a step.
 pub mod Stood
 pub mod Gates
+pub mod Left
 pub mod Counts
 pub mod Answers
 pub mod Restored

@@ -8,18 +8,20 @@ use Rattle.hp_session.specs.State.{Machine, passing}
 use Rattle.hp_rows.specs.Numbers.{Numbers, numbers}
 use Rattle.hp_call_rows.specs.GateRows.{performed}
 use Rattle.hp_calls.specs.declared.phases.Phase.TheVariants.{Ready}
+use Rattle.hp_calls.specs.Transfers.{Waits as StillAt}
 use Rattle.hp_flat.specs.Step.{outcome}
 use Rattle.hp_cpu.specs.declared.cpu.Cpu.{Cpu}
 use Rattle.hp_cpu.specs.declared.cpu.Stepped.{Stepped}
 use Rattle.hp_cpu.specs.declared.cpu.Stepped.TheVariants.{Went, Absent, Gate, Trapped}
 use Rattle.hp_cpu.specs.Stood.{needed, registers, stood}
 use Rattle.hp_cpu.specs.Gates.{called_gate, instruction_at}
+use Rattle.hp_cpu.specs.Left.{phase_after}
 use Rattle.hp_cpu.specs.Counts.{numbers_after}
 
--- the numbers of the stack in registers after a step with an answer
+-- the numbers of the stack in registers after a step with an answer; a transfer that the step leaves under way counts as finished
 abbrev pub numbers_left : List (List ℕ) → Cpu → Result (Unit {0}) Trap → Cpu → Numbers
 numbers_left program old answer new =
-    numbers_after (instruction_at program (registers program old)) (registers program old) (seen old.stack) answer new.regs
+    numbers_after (instruction_at program (registers program old)) (registers program old) (seen old.stack) answer (registers program new)
 
 -- the segment that was needed is absent, and nothing has changed
 pub record Waits (held : ℕ → Option (List ℕ)) (old : Cpu) (seg : ℕ) (new : Cpu) : Type 0 where
@@ -27,11 +29,14 @@ pub record Waits (held : ℕ → Option (List ℕ)) (old : Cpu) (seg : ℕ) (new
   pub absent : held seg ≡ None
   pub same : new ≡ old
 
--- the flat machine's step, whatever terminal the session has
+-- The flat machine's step, whatever terminal the session has. The phase is that of the label or of the marker; while a transfer is under
+-- way the segment and the offset of P are those of the word that began it.
 pub record Goes (program : List (List ℕ)) (held : ℕ → Option (List ℕ)) (old new : Cpu) : Type 0 where
   pub present : IsSome (held (needed old))
   pub goes : (rest : Machine) → outcome program (stood program old rest) ≡ Ok (stood program new rest)
   pub no_gate : (rest : Machine) → called_gate program (stood program old rest) ≡ None
+  pub phase : (rest : Machine) → new.phase ≡ phase_after program (stood program old rest)
+  pub waits : StillAt new.phase (registers program old) new.regs
   pub counts : numbers (seen new.stack) ≡ numbers_left program old (Ok tt) new
   pub same_segments : new.segments ≡ old.segments
 

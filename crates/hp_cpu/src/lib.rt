@@ -12,6 +12,3 @@ pub use cpu::{Cpu, Stepped};
 pub use hp_calls::Phase;
 pub use hp_session::Regs;
 pub use hp_tos::Stack;
-
-#[cfg(test)]
-mod tests;

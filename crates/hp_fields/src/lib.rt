@@ -9,6 +9,3 @@ mod numbers;
 mod shifts;
 
 pub use instructions::field_op;
-
-#[cfg(test)]
-mod tests;

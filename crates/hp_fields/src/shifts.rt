@@ -1,30 +1,15 @@
 //! Shifts of the top word.
 ghost use Rattle.std.specs.Prelude.{◌≡◌, ◌<◌};
 ghost use Rattle.hp_tos.specs.StackView.{seen};
-ghost use Rattle.hp_word_rows.specs.WordRows.{shift_of, shifting};
+ghost use Rattle.hp_word_rows.specs.WordRows.{shifting};
 ghost use Rattle.hp_rows.specs.Numbers.{uses};
 ghost use Rattle.hp_rows.specs.Performs.{Performs};
 
-use hp_instr::shift;
 use hp_rows::{leave_coded, need};
 use hp_session::Regs;
 use hp_tos::Stack;
-use hp_word::{Shift, Trap, shift_word};
-
-/// The shift with a code.
-#[tactic(auto, unfolding(hp_word_rows::specs::WordRows::shift_of))]
-fn shift_of(kind: u8) -> Shift
-    ensures { result ≡ shift_of kind }
-{
-    match kind {
-        shift::ASL => Shift::Asl,
-        shift::ASR => Shift::Asr,
-        shift::LSL => Shift::Lsl,
-        shift::LSR => Shift::Lsr,
-        shift::CSL => Shift::Csl,
-        _ => Shift::Csr,
-    }
-}
+use hp_word::{Trap, shift_word};
+use hp_word_rows::shift_of;
 
 /// A shift of A by `count` places.
 #[tactic(auto, unfolding(hp_word_rows::specs::WordRows::shifting))]

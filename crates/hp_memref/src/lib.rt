@@ -9,6 +9,3 @@ mod wide;
 mod words;
 
 pub use instructions::memory_op;
-
-#[cfg(test)]
-mod tests;

@@ -1,7 +1,7 @@
 //! Short branches: on A, on X, on a range, and on the flags.
 ghost use Rattle.std.specs.Prelude.{◌≡◌, ◌+◌, Ok};
 ghost use Rattle.hp_session.specs.State.{branching, taking, word, wrapped};
-ghost use Rattle.hp_word_rows.specs.WordRows.{branch_on_parity, branch_on_range, branch_on_top, branch_on_x, range_code, short_branch};
+ghost use Rattle.hp_word_rows.specs.WordRows.{branch_on_parity, branch_on_range, branch_on_top, branch_on_x, short_branch};
 ghost use Rattle.hp_tos.specs.StackView.{seen};
 ghost use Rattle.hp_rows.specs.Numbers.{uses};
 ghost use Rattle.hp_rows.specs.Performs.{Performs};
@@ -10,9 +10,10 @@ ghost use Rattle.hp_memref.specs.ReferenceUses.{short_uses};
 
 use hp_instr::short;
 use hp_rows::{delete_coded, need};
-use hp_session::{Regs, displacement, signed_word};
+use hp_session::{Regs, displacement};
 use hp_tos::Stack;
 use hp_word::{Code, Trap};
+use hp_word_rows::range;
 
 /// Branches where `taken`, and else goes on past the word at P.
 pub(crate) fn branch_where(regs: &mut Regs, taken: bool, back: bool, d: u8)
@@ -24,20 +25,6 @@ pub(crate) fn branch_where(regs: &mut Regs, taken: bool, back: bool, d: u8)
         regs.p.wrapping_add(1)
     };
     regs.right = false;
-}
-
-/// Where X stands to the range from B to A.
-#[tactic(auto, unfolding(hp_word_rows::specs::WordRows::range_code))]
-fn range(x: u16, b: u16, a: u16) -> Code
-    ensures { result ≡ range_code x b a }
-{
-    if signed_word(x) < signed_word(b) {
-        Code::Less
-    } else if signed_word(a) < signed_word(x) {
-        Code::Greater
-    } else {
-        Code::Equal
-    }
 }
 
 /// IABZ and DABZ: A plus a word, which is 1 or that of -1; a branch where the sum is 0.

@@ -10,6 +10,3 @@ mod steps;
 
 pub use instructions::move_op;
 pub use steps::MoveStep;
-
-#[cfg(test)]
-mod tests;

@@ -5,9 +5,10 @@ ghost use Rattle.hp_tos.specs.StackView.{seen};
 ghost use Rattle.hp_moves.specs.MoveUses.{ending_with};
 ghost use Rattle.hp_moves.specs.MoveSteps.{MovesOn};
 
-use crate::elements::{Element, as_moved, go_on, is_of_class, next_element};
+use crate::elements::{Element, go_on, next_element};
 use crate::sources::{source_byte, source_word};
 use crate::steps::MoveStep;
+use hp_memory_rows::{as_moved, is_of_class};
 use hp_program::CodeStore;
 use hp_rows::{need, pass, read_byte, write_at, write_byte};
 use hp_session::{Place, Regs};

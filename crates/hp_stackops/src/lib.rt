@@ -9,6 +9,3 @@ mod placing;
 mod results;
 
 pub use operations::stack_op;
-
-#[cfg(test)]
-mod tests;

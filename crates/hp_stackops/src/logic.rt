@@ -1,7 +1,7 @@
 //! Logical operations, bits, comparisons and tests of words. B is the lower operand, A the one on top.
 ghost use Rattle.std.specs.Prelude.{◌≡◌, bit_and, bit_or, bit_xor};
 ghost use Rattle.hp_word.specs.Words.{logically_added, logically_compared, logically_subtracted, words_compared};
-ghost use Rattle.hp_stack_rows.specs.StackRows.{bitwise, byte_tested, character_code, comparison, inverted, logical_binary, logical_product, tested};
+ghost use Rattle.hp_stack_rows.specs.StackRows.{bitwise, byte_tested, comparison, inverted, logical_binary, logical_product, tested};
 ghost use Rattle.hp_tos.specs.StackView.{seen};
 ghost use Rattle.hp_rows.specs.Numbers.{uses};
 ghost use Rattle.hp_rows.specs.Performs.{Performs};
@@ -9,20 +9,9 @@ ghost use Rattle.hp_rows.specs.Performs.{Performs};
 use crate::results::settle_logical;
 use hp_rows::{delete_coded, leave_coded, need};
 use hp_session::{Regs, code_of, high_of, low_of};
+use hp_stack_rows::character;
 use hp_tos::Stack;
-use hp_word::{Code, Trap};
-
-/// The condition code of a byte as a character: a letter CCE, a digit CCG, any other CCL.
-#[tactic(auto, unfolding(hp_stack_rows::specs::StackRows::character_code))]
-fn character(byte: u8) -> Code
-    ensures { result ≡ character_code byte }
-{
-    match byte {
-        b'A'..=b'Z' | b'a'..=b'z' => Code::Equal,
-        b'0'..=b'9' => Code::Greater,
-        _ => Code::Less,
-    }
-}
+use hp_word::Trap;
 
 /// LADD: B plus A, modulo 65,536. The overflow bit stays.
 #[tactic(auto, unfolding(hp_stack_rows::specs::StackRows::logical_binary, hp_session::specs::Results::logical))]
