@@ -12,9 +12,9 @@ use crate::loaded::Loaded;
 use crate::room::make_room;
 use crate::view::View;
 use crate::words::{copy_words, find_segment, key, segment_of};
-use hp_program::{NoMemory, Program};
+use hp_program::Program;
 use mpe_regions::Regions;
-use std::alloc::Global;
+use std::alloc::{AllocError as NoMemory, Global};
 
 /// How many regions there is room for: a key for each of 256 segments of 16 programs.
 const ROOM: u16 = 4096;

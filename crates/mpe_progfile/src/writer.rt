@@ -3,14 +3,14 @@ ghost use Rattle.std.specs.Prelude.{◌≡◌, ◌≤◌, ◌<◌, ◌++◌, map
 ghost use Rattle.hp_program.specs.Valid.{bad_segment};
 ghost use Rattle.mpe_progfile.specs.Files.{word_bytes, words_bytes, segment_bytes, segments_bytes, IsFile};
 
-use hp_program::{NoMemory, Program};
-use std::alloc::{AllocError, Global};
+use hp_program::Program;
+use std::alloc::{AllocError as NoMemory, Global};
 
 /// The first four bytes of each file.
 const MAGIC: &[u8] = b"MPEP";
 
 /// Appends a word, high byte first.
-fn push_word(bytes: &mut Vec<u8>, word: u16) -> Result<(), AllocError>
+fn push_word(bytes: &mut Vec<u8>, word: u16) -> Result<(), NoMemory>
     ensures { OnOk result (bytes.new.items ≡ bytes.old.items ++ word_bytes word) }
 {
     bytes.extend_from_slice(&word.to_be_bytes())
@@ -18,7 +18,7 @@ fn push_word(bytes: &mut Vec<u8>, word: u16) -> Result<(), AllocError>
 
 /// Appends words.
 #[tactic(auto, using(crate::proofs::WriteLemmas::word_turns))]
-fn push_words(bytes: &mut Vec<u8>, words: &[u16]) -> Result<(), AllocError>
+fn push_words(bytes: &mut Vec<u8>, words: &[u16]) -> Result<(), NoMemory>
     ensures { OnOk result (bytes.new.items ≡ bytes.old.items ++ words_bytes words.now) }
 {
     for word in words {
@@ -29,7 +29,7 @@ fn push_words(bytes: &mut Vec<u8>, words: &[u16]) -> Result<(), AllocError>
 
 /// Appends segments, each with its size.
 #[tactic(auto, using(crate::proofs::WriteLemmas::segment_turns))]
-fn push_segments(bytes: &mut Vec<u8>, segments: &[Vec<u16>]) -> Result<(), AllocError>
+fn push_segments(bytes: &mut Vec<u8>, segments: &[Vec<u16>]) -> Result<(), NoMemory>
     requires { bad_segment 0 (map (λ s. s.items) segments.now) ≡ None }
     ensures { OnOk result (bytes.new.items ≡ bytes.old.items ++ segments_bytes (map (λ s. s.items) segments.now)) }
 {
