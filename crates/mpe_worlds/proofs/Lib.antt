@@ -1,0 +1,5 @@
+pub mod ListLemmas
+pub mod CountLemmas
+pub mod RunLaws
+pub mod AloneLaws
+mod KnownWorlds
