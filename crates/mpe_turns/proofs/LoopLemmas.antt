@@ -1,0 +1,113 @@
+-- Many steps of a session, over one view and over several.
+-- 1. it begins, goes on by a step, and is over               (begins, one_more, one_last)
+-- 2. what views hold, one after another                      (holds_by, over_twice)
+-- 3. all steps of a turn were made                           (all_made, none_left)
+use Rattle.std.proofs.Common.{◌≡◌, ℕ, suc, ◌+◌, ◌-◌, ◌<◌, ◌≤◌, Bool, true, false, List, Option, None, Some, refl, sym, ap, ◌∙◌, arith}
+use Rattle.std.specs.Prelude.{◌&&◌, IfSome, slice_get, option_map}
+use Rattle.std.proofs.lemmas.Bool.{true≢false}
+use Rattle.std.proofs.lemmas.Option.{slice_get-map}
+use Rattle.hp_program.specs.declared.program.Program.{Program}
+use Rattle.hp_program.specs.Programs.{segments_of}
+use Rattle.hp_calls.specs.Phases.{HoldsOf}
+use Rattle.hp_flat.specs.Step.{is_running}
+use Rattle.mpe_regions.specs.Area.{Area, is_live}
+use Rattle.mpe_regions.specs.Kept.{Kept}
+use Rattle.mpe_overlay.specs.declared.overlay.Overlay.{Overlay}
+use Rattle.mpe_overlay.specs.declared.view.SegmentView.{SegmentView}
+use Rattle.mpe_overlay.specs.declared.view.View.{View}
+use Rattle.mpe_overlay.specs.Codes.{codes_of}
+use Rattle.mpe_overlay.specs.Held.{held_in}
+use Rattle.mpe_worlds.specs.Worlds.{Run}
+use Rattle.mpe_worlds.specs.RunSteps.{can_step, key_needed, stepped, stepping}
+use Rattle.mpe_worlds.proofs.RunLaws.{stepping-more, stepping-none, stepping-one, stepping-stays}
+use Rattle.mpe_turns.specs.declared.session.Session.{Session}
+use Rattle.mpe_turns.specs.Stands.{IsSessionOf, run_of}
+use Rattle.mpe_turns.specs.Steps.{MakesOne, MakesSome, RunsOver, area_of, held_by}
+
+module _ (p : Program) (a : Area) (until : ℕ) where
+  pub begins : (s : Session) → IsSessionOf p s → MakesSome p a until s true s
+  begins s is = record { rest = refl; over = λ e. absurd (true≢false e); session = is }
+
+  -- what is left after a step is what was left before it
+  one_less : (t u : Session) → run_of (segments_of p) u ≡ stepping (segments_of p) a 1 (run_of (segments_of p) t) → u.steps ≡ t.steps + 1 → t.steps < until
+      → stepping (segments_of p) a (until - u.steps) (run_of (segments_of p) u) ≡ stepping (segments_of p) a (until - t.steps) (run_of (segments_of p) t)
+  one_less t u is steps lt =
+      let less : suc (until - u.steps) ≡ until - t.steps = omega arith in
+      ap (stepping (segments_of p) a (until - u.steps)) is
+      ∙ stepping-more (segments_of p) a (until - u.steps) (run_of (segments_of p) t)
+      ∙ ap (λ (n : ℕ). stepping (segments_of p) a n (run_of (segments_of p) t)) less
+
+  pub one_more : (s t u : Session) → MakesSome p a until s true t → t.steps < until → MakesOne p a t true u → u.steps ≡ t.steps + 1
+      → MakesSome p a until s true u
+  one_more s t u some lt one steps = record {
+    rest = one_less t u one.steps steps lt ∙ some.rest;
+    over = λ e. absurd (true≢false e);
+    session = one.session;
+  }
+
+  -- a step that was the last, or that could not be made
+  pub one_last : (s t u : Session) → MakesSome p a until s true t → t.steps < until → MakesOne p a t false u → MakesSome p a until s false u
+  one_last s t u some lt one = by (can_step a (run_of (segments_of p) t)) refl where
+    by : (can : Bool) → can_step a (run_of (segments_of p) t) ≡ can → MakesSome p a until s false u
+    by true is =
+        let stepped_once : run_of (segments_of p) u ≡ stepped (segments_of p) (run_of (segments_of p) t) = one.steps ∙ stepping-one (segments_of p) a _ is in
+        let ended : is_running u.ending ≡ false = sym (one.told ∙ ap (λ (b : Bool). b && is_running u.ending) is) in
+        record {
+          rest = one_less t u one.steps (ap (λ (r : Run). r.steps) stepped_once) lt ∙ some.rest;
+          over = λ e. ap (λ (b : Bool). b && is_live (key_needed (run_of (segments_of p) u)) a) ended;
+          session = one.session;
+        }
+    by false is =
+        let same : run_of (segments_of p) u ≡ run_of (segments_of p) t = one.steps ∙ stepping-stays (segments_of p) a 1 _ is in
+        record {
+          rest = ap (λ (r : Run). stepping (segments_of p) a (until - r.steps) r) same ∙ some.rest;
+          over = λ e. ap (can_step a) same ∙ is;
+          session = one.session;
+        }
+
+  -- some steps, and then some more
+  pub over_twice : (s t u : Session) (on : Bool) → MakesSome p a until s true t → MakesSome p a until t on u → MakesSome p a until s on u
+  over_twice s t u on first second = record { rest = second.rest ∙ first.rest; over = second.over; session = second.session }
+
+  -- a session that can make no step more has made them all, and so has one that has made `until`
+  pub none_left : (s u : Session) → MakesSome p a until s false u
+      → run_of (segments_of p) u ≡ stepping (segments_of p) a (until - s.steps) (run_of (segments_of p) s)
+  none_left s u some = sym (stepping-stays (segments_of p) a (until - u.steps) (run_of (segments_of p) u) (some.over refl)) ∙ some.rest
+
+  pub all_made : (s u : Session) → MakesSome p a until s true u → until ≤ u.steps
+      → run_of (segments_of p) u ≡ stepping (segments_of p) a (until - s.steps) (run_of (segments_of p) s)
+  all_made s u some le =
+      let none : until - u.steps ≡ 0 = omega arith in
+      sym (ap (λ (n : ℕ). stepping (segments_of p) a n (run_of (segments_of p) u)) none ∙ stepping-none (segments_of p) a (run_of (segments_of p) u)) ∙ some.rest
+
+-- what a store holds are segments of a program, said word by word
+pub holds_by : (segments : List (List ℕ)) (held : ℕ → Option (List ℕ))
+    → ((seg : ℕ) (words : List ℕ) → held seg ≡ Some words → slice_get segments seg ≡ Some words) → HoldsOf segments held
+holds_by segments held h seg = by (held seg) refl where
+  by : (o : Option (List ℕ)) → held seg ≡ o → IfSome o (λ words. slice_get segments seg ≡ Some words)
+  by None is = tt
+  by (Some words) is = h seg words is
+
+-- the area that a view of an overlay sees
+pub area_seen : (overlay : Overlay) (view : View) (code : SegmentView) → code.view.regions ≡ view.regions → view.regions.now ≡ overlay.regions
+    → area_of code ≡ overlay.regions.area
+area_seen overlay view code first second =
+    let same : code.view.regions.now ≡ overlay.regions = rw first second in
+    ap (λ (k : Kept). k.area) same
+
+-- a session of a program runs over the view of that program
+pub runs_over : (overlay : Overlay) (view : View) (code : SegmentView) (p : Program) (s : Session)
+    → code.view.area ≡ view.area → code.view.regions ≡ view.regions → code.view.program ≡ view.program → view.program ≡ s.program
+    → ((segments : List (List ℕ)) (seg : ℕ) (words : List ℕ) → slice_get (codes_of overlay.programs.items) s.program ≡ Some segments
+    → held_in view.area.now.items view.regions.now.area view.program seg ≡ Some words → slice_get segments seg ≡ Some words)
+    → slice_get overlay.programs.items s.program ≡ Some p → IsSessionOf p s → RunsOver p code s
+runs_over overlay view code p s area regions program same holds of session = record {
+  session = session;
+  holds = holds_by (segments_of p) (held_by code) (λ seg words h. holds (segments_of p) seg words at (sym (shown seg) ∙ h));
+  same_program = sym (program ∙ same);
+} where
+  at : slice_get (codes_of overlay.programs.items) s.program ≡ Some (segments_of p)
+  at = slice_get-map segments_of overlay.programs.items s.program ∙ ap (option_map segments_of) of
+
+  shown : (seg : ℕ) → held_by code seg ≡ held_in view.area.now.items view.regions.now.area view.program seg
+  shown seg = rw (area, regions, program) refl
