@@ -7,7 +7,8 @@ use Rattle.hp_word.specs.declared.endings.Ending.TheVariants.{Terminated, Quit, 
 use Rattle.hp_word.specs.declared.endings.Trap.TheVariants.{BadEntry}
 use Rattle.hp_word.specs.Texts.{octal_text_of}
 use Rattle.hp_instr.specs.declared.labels.Label.TheVariants.{Local, External}
-use Rattle.job_report.specs.declared.refusals.UnitRefusal.TheVariants.{OpenComment, Rule}
+use Rattle.job_report.specs.declared.refusals.UnitRefusal.TheVariants.{Text, Rule}
+use Rattle.spl_tree.specs.declared.fault_kinds.FaultKind.TheVariants.{OpenComment}
 use Rattle.job_report.specs.declared.refusals.FileRefusal.TheVariants.{Label}
 use Rattle.job_report.specs.Reports.{Reported, session_text, report_of}
 use Rattle.job_report.specs.Refusals.{job_refused, unit_refused, stack_refused, file_refused}
@@ -44,7 +45,7 @@ job : job_refused 1 1 ≡ codes "REFUSED JOB LINE 1 RULE 1\n"
 unfolding digits
 job = refl
 
-comment : unit_refused (codes "A") (record { unit = 1; line = 1; column = 7 }) OpenComment ≡ codes "REFUSED PROGRAM A UNIT 1 LINE 1 COLUMN 7 OPENCOMMENT\n"
+comment : unit_refused (codes "A") (record { unit = 1; line = 1; column = 7 }) (Text OpenComment) ≡ codes "REFUSED PROGRAM A UNIT 1 LINE 1 COLUMN 7 OPENCOMMENT\n"
 unfolding digits
 comment = refl
 

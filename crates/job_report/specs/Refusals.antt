@@ -2,8 +2,9 @@
 use Rattle.std.specs.Prelude.{ℕ, ◌+◌, List, [], ◌∷◌, codes}
 use Rattle.std.specs.Fmt.{decimal}
 use Rattle.spl_tree.specs.declared.names_and_places.At.{At}
+use Rattle.spl_tree.specs.FaultKinds.{kind_name}
 use Rattle.job_report.specs.declared.refusals.UnitRefusal.{UnitRefusal}
-use Rattle.job_report.specs.declared.refusals.UnitRefusal.TheVariants.{BadByte, BadCommand, OpenString, OpenComment, NameTooLong, NumberTooLarge, BadDefine, TooManyTokens, Syntax, TooDeep, Rule, Limit}
+use Rattle.job_report.specs.declared.refusals.UnitRefusal.TheVariants.{Text, Rule, Limit}
 use Rattle.job_report.specs.declared.refusals.ModulesRefusal.{ModulesRefusal}
 use Rattle.job_report.specs.declared.refusals.ModulesRefusal.TheVariants.{NoMain, TwoMains, Doubled, Unresolved, SegmentsFull, EntriesFull, SegmentFull}
 use Rattle.job_report.specs.declared.refusals.FileRefusal.{FileRefusal}
@@ -14,16 +15,7 @@ use Rattle.job_report.specs.Lines.{line}
 
 -- what is wrong at a place of a unit
 abbrev pub unit_word : UnitRefusal → List ℕ
-unit_word BadByte = codes "BADBYTE"
-unit_word BadCommand = codes "BADCOMMAND"
-unit_word OpenString = codes "OPENSTRING"
-unit_word OpenComment = codes "OPENCOMMENT"
-unit_word NameTooLong = codes "NAMETOOLONG"
-unit_word NumberTooLarge = codes "NUMBERTOOLARGE"
-unit_word BadDefine = codes "BADDEFINE"
-unit_word TooManyTokens = codes "TOOMANYTOKENS"
-unit_word Syntax = codes "SYNTAX"
-unit_word TooDeep = codes "TOODEEP"
+unit_word (Text kind) = kind_name kind
 unit_word (Rule r) = codes "RULE "
 unit_word (Limit k) = codes "LIMIT "
 

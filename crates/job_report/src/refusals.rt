@@ -5,22 +5,14 @@ ghost use Rattle.job_report.specs.Refusals.{unit_word, unit_number, modules_word
 use crate::lines::push_line;
 use crate::numbers::{Digits, number};
 use arrayvec::ArrayVec;
-use spl_tree::{At, Name};
+use spl_tree::{At, FaultKind, Name};
 use std::alloc::{AllocError as NoMemory, Global};
 
 /// What is wrong at a place of a unit's text.
 #[derive(Clone, Copy, Debug, PartialEq, Eq)]
 pub enum UnitRefusal {
-    BadByte,
-    BadCommand,
-    OpenString,
-    OpenComment,
-    NameTooLong,
-    NumberTooLarge,
-    BadDefine,
-    TooManyTokens,
-    Syntax,
-    TooDeep,
+    /// A fault of the text.
+    Text(FaultKind),
     /// A rule of the language, by its number.
     Rule(u8),
     /// A limit of the compiler, by its number.
@@ -94,16 +86,7 @@ fn unit_word(fault: &UnitRefusal) -> &[u8]
     ensures { result.now ≡ unit_word fault.now }
 {
     match fault {
-        UnitRefusal::BadByte => b"BADBYTE",
-        UnitRefusal::BadCommand => b"BADCOMMAND",
-        UnitRefusal::OpenString => b"OPENSTRING",
-        UnitRefusal::OpenComment => b"OPENCOMMENT",
-        UnitRefusal::NameTooLong => b"NAMETOOLONG",
-        UnitRefusal::NumberTooLarge => b"NUMBERTOOLARGE",
-        UnitRefusal::BadDefine => b"BADDEFINE",
-        UnitRefusal::TooManyTokens => b"TOOMANYTOKENS",
-        UnitRefusal::Syntax => b"SYNTAX",
-        UnitRefusal::TooDeep => b"TOODEEP",
+        UnitRefusal::Text(kind) => kind.name().as_bytes(),
         UnitRefusal::Rule(_) => b"RULE ",
         UnitRefusal::Limit(_) => b"LIMIT ",
     }

@@ -4,7 +4,7 @@ use super::*;
 use arrayvec::ArrayVec;
 use hp_program::Program;
 use hp_word::{Ending, Trap};
-use spl_tree::{At, Chars, Name};
+use spl_tree::{At, Chars, FaultKind, Name};
 use std::alloc::{AllocError, Global};
 use std::process::Abort;
 use std::test::Fail;
@@ -150,43 +150,43 @@ fn a_unit_is_refused_at_its_place(rt: HostRuntime) -> Result<(), Fail> {
     let alloc = rt.alloc();
     let cases: [(UnitRefusal, &str); 12] = [
         (
-            UnitRefusal::BadByte,
+            UnitRefusal::Text(FaultKind::BadByte),
             "REFUSED PROGRAM A UNIT 2 LINE 30 COLUMN 400 BADBYTE\n",
         ),
         (
-            UnitRefusal::BadCommand,
+            UnitRefusal::Text(FaultKind::BadCommand),
             "REFUSED PROGRAM A UNIT 2 LINE 30 COLUMN 400 BADCOMMAND\n",
         ),
         (
-            UnitRefusal::OpenString,
+            UnitRefusal::Text(FaultKind::OpenString),
             "REFUSED PROGRAM A UNIT 2 LINE 30 COLUMN 400 OPENSTRING\n",
         ),
         (
-            UnitRefusal::OpenComment,
+            UnitRefusal::Text(FaultKind::OpenComment),
             "REFUSED PROGRAM A UNIT 2 LINE 30 COLUMN 400 OPENCOMMENT\n",
         ),
         (
-            UnitRefusal::NameTooLong,
+            UnitRefusal::Text(FaultKind::NameTooLong),
             "REFUSED PROGRAM A UNIT 2 LINE 30 COLUMN 400 NAMETOOLONG\n",
         ),
         (
-            UnitRefusal::NumberTooLarge,
+            UnitRefusal::Text(FaultKind::NumberTooLarge),
             "REFUSED PROGRAM A UNIT 2 LINE 30 COLUMN 400 NUMBERTOOLARGE\n",
         ),
         (
-            UnitRefusal::BadDefine,
+            UnitRefusal::Text(FaultKind::BadDefine),
             "REFUSED PROGRAM A UNIT 2 LINE 30 COLUMN 400 BADDEFINE\n",
         ),
         (
-            UnitRefusal::TooManyTokens,
+            UnitRefusal::Text(FaultKind::TooManyTokens),
             "REFUSED PROGRAM A UNIT 2 LINE 30 COLUMN 400 TOOMANYTOKENS\n",
         ),
         (
-            UnitRefusal::Syntax,
+            UnitRefusal::Text(FaultKind::Syntax),
             "REFUSED PROGRAM A UNIT 2 LINE 30 COLUMN 400 SYNTAX\n",
         ),
         (
-            UnitRefusal::TooDeep,
+            UnitRefusal::Text(FaultKind::TooDeep),
             "REFUSED PROGRAM A UNIT 2 LINE 30 COLUMN 400 TOODEEP\n",
         ),
         (

@@ -4,7 +4,7 @@ use Rattle.std.specs.Prelude.{slice_get}
 use Rattle.job_lines.specs.Says.{Said}
 use Rattle.job_text.specs.States.{State}
 use Rattle.job_text.specs.Rules.{first_failing, kept, broken, is_in_limits, is_well_named, has_room}
-use Rattle.job_text.proofs.ListLemmas.{fronted, dropped}
+use Rattle.job_lines.proofs.ListLemmas.{fronted, dropped}
 
 -- a test that is passed
 pub passed_on : (tests : List Bool) (i n : ℕ) (t : Bool) → i < length tests → t ≡ get_or tests i t → t ≡ true

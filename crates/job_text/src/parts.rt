@@ -8,7 +8,6 @@ ghost use Rattle.job_lines.specs.Sizes.{sizes_fit};
 ghost use Rattle.job_text.specs.Views.{text_value, seat_value};
 
 use crate::job::Text;
-use arrayvec::ArrayVec;
 use hp_session::Line;
 use job_lines::{Size, Sizes, same};
 use mpe_session::Seat;
@@ -21,9 +20,7 @@ fn name_of(bytes: &[u8]) -> Name
     requires { is_program_name bytes.now ≡ true }
     ensures { result.text.items ≡ bytes.now }
 {
-    let mut text = ArrayVec::new();
-    text.try_extend_from_slice(bytes).unwrap();
-    Name { text }
+    Name::new(bytes)
 }
 
 /// The place of the program with this name, if there is one.
