@@ -314,3 +314,38 @@ faults_end unit limit text _ at (c.FirstFault.many v) =
       subst (λ (p : At). EndsBehind unit limit text k.TooManyTokens p n) (sym v.is)
           (e.EndsBehind.many v.front v.rest v.what n v.cut v.few v.stands v.allowed v.takes v.many (omega (arith, l, a))),
     )
+
+-- a fault whose piece ends somewhere is a first one
+pub ends_first : (unit limit : ℕ) (text : List ℕ) (kind : LexKind) (at : At) (size : ℕ) → EndsBehind unit limit text kind at size
+    → FirstFault unit limit text kind at
+ends_first unit limit text _ _ _ (e.EndsBehind.piece {there} {s} front rest kind size cut few v long) =
+    c.FirstFault.bad s.count (record { there = there; state = s; left = front ++ rest; cut = cut; counted = refl; fault = c.Fault.piece front rest kind v }) few
+ends_first unit limit text _ _ _ (e.EndsBehind.byte {there} {s} good more rest b item size cut few v al na long) =
+    c.FirstFault.bad s.count (record {
+      there = there;
+      state = s;
+      left = (good ++ b ∷ more) ++ rest;
+      cut = cut;
+      counted = refl;
+      fault = c.Fault.byte good more rest b item v al na;
+    }) few
+ends_first unit limit text _ _ _ (e.EndsBehind.breaking {there} {s} front rest x size cut few v al b long) =
+    c.FirstFault.bad s.count (record { there = there; state = s; left = front ++ rest; cut = cut; counted = refl; fault = c.Fault.breaking front rest x v al b }) few
+ends_first unit limit text _ _ _ (e.EndsBehind.end {there} {s} cut few o) =
+    c.FirstFault.bad s.count (record { there = there; state = s; left = []; cut = cut; counted = refl; fault = c.Fault.end o }) few
+ends_first unit limit text _ _ _ (e.EndsBehind.many {there} {s} {next} front rest x size cut few v al t m long) =
+    c.FirstFault.many (record {
+      there = there;
+      state = s;
+      next = next;
+      front = front;
+      rest = rest;
+      what = x;
+      cut = cut;
+      few = few;
+      stands = v;
+      allowed = al;
+      takes = t;
+      many = m;
+      is = refl;
+    })

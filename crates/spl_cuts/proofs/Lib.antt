@@ -9,3 +9,4 @@ pub mod TextReads
 pub mod TextCuts
 pub mod FewSegments
 pub mod Fixed
+pub mod WholeLemmas

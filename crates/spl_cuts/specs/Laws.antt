@@ -6,6 +6,7 @@ use Rattle.spl_cuts.specs.declared.faults.LexKind.TheVariants as k
 use Rattle.spl_cuts.specs.Signs.{Listed}
 use Rattle.spl_cuts.specs.Cutting.{Cuts, CutsWithin, Bad, FirstFault}
 use Rattle.spl_cuts.specs.FaultEnds.{EndsBehind}
+use Rattle.spl_cuts.specs.Whole.{IsWhole}
 use Rattle.spl_cuts.specs.Reading.{read_text}
 
 -- a text is read as the list that it is cut into
@@ -54,6 +55,12 @@ FaultsEnd =
     (unit limit : ℕ) (text : List ℕ) (kind : LexKind) (at : At) → FirstFault unit limit text kind at
     → (size : ℕ) × EndsBehind unit limit text kind at size
 
+-- a fault whose piece ends somewhere is a first fault
+abbrev pub EndedFaultsAreFirst : Type 0
+EndedFaultsAreFirst =
+    (unit limit : ℕ) (text : List ℕ) (kind : LexKind) (at : At) (size : ℕ) → EndsBehind unit limit text kind at size
+    → FirstFault unit limit text kind at
+
 -- A text with the same bytes up to the end of that piece, and the same byte behind it, is not cut, unless the fault is that too
 -- many tokens arise, and then too many do in that text. Where the piece ends the text, the other text is the same.
 abbrev pub FaultsStand : Type 0
@@ -61,3 +68,8 @@ FaultsStand =
     (unit limit : ℕ) (text : List ℕ) (kind : LexKind) (at : At) (size : ℕ) → EndsBehind unit limit text kind at size
     → (other : List ℕ) → take (size + 1) other ≡ take (size + 1) text → (count : ℕ) (x : Listed) → Cuts unit count other x
     → (kind ≡ k.TooManyTokens) × (limit < count)
+
+-- A list that a text is cut into within a limit has at most so many tokens before its end, which is its last token and no other; and
+-- each token has the number of the unit, and that of a segment of the list.
+abbrev pub CutsAreWhole : Type 0
+CutsAreWhole = (unit limit : ℕ) (text : List ℕ) (x : Listed) → CutsWithin unit limit text x → IsWhole unit limit x

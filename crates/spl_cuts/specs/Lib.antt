@@ -4,6 +4,8 @@ pub mod Commands
 pub mod Pieces
 pub mod Defines
 pub mod Cutting
+pub mod Lexemes
+pub mod Whole
 pub mod FaultEnds
 pub mod Reading
 pub mod Laws

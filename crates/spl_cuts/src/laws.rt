@@ -1,5 +1,5 @@
 //! Laws of cutting, each as the contract of a function that does nothing.
-ghost use Rattle.spl_cuts.specs.Laws.{CutsAreRead, TextsAreCut, FaultsAreRead, FaultsAreFirst, CutsAreUnique, CutsAreSound, BadPiecesAreUnique, FaultsAreUnique, SegmentsAreFew, FaultsEnd, FaultsStand};
+ghost use Rattle.spl_cuts.specs.Laws.{CutsAreRead, TextsAreCut, FaultsAreRead, FaultsAreFirst, CutsAreUnique, CutsAreSound, BadPiecesAreUnique, FaultsAreUnique, SegmentsAreFew, FaultsEnd, FaultsStand, CutsAreWhole, EndedFaultsAreFirst};
 
 /// A text is read as the list that it is cut into.
 pub fn cuts_are_read()
@@ -51,8 +51,18 @@ pub fn faults_end()
     ensures { FaultsEnd }
 {}
 
+/// A fault whose piece ends somewhere is a first fault.
+pub fn ended_faults_are_first()
+    ensures { EndedFaultsAreFirst }
+{}
+
 /// A text that begins as one with a fault, up to the end of the fault's piece and one byte more, is not cut; or too many tokens
 /// arise in both.
 pub fn faults_stand()
     ensures { FaultsStand }
+{}
+
+/// A list that a text is cut into ends with its only end, and each of its tokens has the unit's number and one of its segments.
+pub fn cuts_are_whole()
+    ensures { CutsAreWhole }
 {}

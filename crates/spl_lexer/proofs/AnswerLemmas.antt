@@ -13,8 +13,8 @@ use Rattle.spl_cuts.proofs.TextReads.{cuts_read, fault_is_read}
 use Rattle.spl_cuts.proofs.TextCuts.{texts_cut, faults_first}
 use Rattle.spl_lexer.specs.TokenViews.{listed_of}
 use Rattle.spl_lexer.specs.ReaderViews.{Answers, Faults, Gives, Refuses}
-use Rattle.spl_lexer.specs.Whole.{IsWhole}
-use Rattle.spl_lexer.proofs.WholeLemmas.{cut_whole}
+use Rattle.spl_cuts.specs.Whole.{IsWhole}
+use Rattle.spl_cuts.proofs.WholeLemmas.{cut_whole}
 
 -- a fault of another kind than memory is the one that is read
 fault_is : (answer : Result Listed (LexKind × At)) (kind : LexKind) (at : At) → Faults answer kind at

@@ -4,5 +4,4 @@ pub mod UseLemmas
 pub mod PhaseLemmas
 pub mod SettingLemmas
 pub mod StepLemmas
-pub mod WholeLemmas
 pub mod AnswerLemmas

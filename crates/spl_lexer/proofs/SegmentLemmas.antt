@@ -60,16 +60,7 @@ number_append (m ∷ ns) ms n l = by (pointwise nat_eq n m) l (λ k. number_appe
     by true l k = refl
     by false l k = ap (λ (i : ℕ). i + 1) (k (omega (arith, l)))
 
--- a name that is there has a number of theirs, and one that is not has the next
-pub has_number : (ns : List (List ℕ)) (n : List ℕ) → has_name ns n ≡ true → number_of ns n < length ns
-has_number [] n h = cc
-has_number (m ∷ ns) n h = by (pointwise nat_eq n m) h (λ k. has_number ns n k)
-  where
-    by : (b : Bool) → (b || has_name ns n) ≡ true → (has_name ns n ≡ true → number_of ns n < length ns)
-        → (if b then 0 else number_of ns n + 1) < suc (length ns)
-    by true h k = omega arith
-    by false h k = let l = k h in omega (arith, l)
-
+-- a name that is not there has the next number
 new_number : (ns : List (List ℕ)) (n : List ℕ) → has_name ns n ≡ false → number_of (ns ++ n ∷ []) n ≡ number_of ns n
 new_number [] n h = rw (same_self n) refl
 new_number (m ∷ ns) n h = by (pointwise nat_eq n m) h (λ k. new_number ns n k)

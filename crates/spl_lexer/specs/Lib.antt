@@ -2,4 +2,3 @@ pub mod TokenViews
 pub mod DefineViews
 pub mod StateViews
 pub mod ReaderViews
-pub mod Whole

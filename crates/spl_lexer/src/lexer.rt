@@ -8,7 +8,7 @@ ghost use Rattle.spl_cuts.specs.Cutting.{CutsWithin, FirstFault};
 ghost use Rattle.spl_cuts.specs.declared.faults.LexKind as kinds;
 ghost use Rattle.spl_lexer.specs.TokenViews.{listed_of};
 ghost use Rattle.spl_lexer.specs.ReaderViews.{Answers, Gives, Refuses};
-ghost use Rattle.spl_lexer.specs.Whole.{IsWhole};
+ghost use Rattle.spl_cuts.specs.Whole.{IsWhole};
 
 use crate::reader::{Here, Reader};
 use crate::state::State;

@@ -13,3 +13,4 @@ mod state;
 mod tests;
 
 pub use lexer::tokens;
+pub use spl_cuts::{LexFault, LexKind};

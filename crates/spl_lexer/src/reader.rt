@@ -8,7 +8,6 @@ ghost use Rattle.spl_lexer.specs.StateViews.{phase_of};
 ghost use Rattle.spl_lexer.specs.ReaderViews.{here_of};
 
 use crate::listing::Listing;
-use crate::segments::name_of;
 use crate::state::{Phase, State};
 use spl_cuts::{LexFault, LexKind};
 use spl_pieces::{Item, Setting, past_all};
@@ -41,7 +40,7 @@ impl Here {
                 line: 1,
                 column: 1,
             },
-            segment: name_of(b"SEG'"),
+            segment: Name::new(b"SEG'"),
             subprogram: false,
         }
     }

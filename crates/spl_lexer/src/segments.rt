@@ -23,23 +23,6 @@ impl Model for Segments {
     ghost view = { λ s. map (λ n. n.items) s.names.keys };
 }
 
-/// A name with these letters, which are capitals.
-pub fn name_of(letters: &[u8]) -> Name
-    requires { length letters.now ≤ 15 }
-    ensures { result.text.items ≡ letters.now }
-{
-    let mut text = ArrayVec::new();
-    text.try_extend_from_slice(letters).unwrap();
-    Name { text }
-}
-
-/// A name equal to another.
-pub fn copy_of(name: &Name) -> Name
-    ensures { result.text.items ≡ name.now.text.items }
-{
-    name_of(name.text.as_slice())
-}
-
 impl Segments {
     /// No name.
     pub fn new(alloc: Global) -> Self
@@ -57,7 +40,7 @@ impl Segments {
         ensures within { IfOk result (λ n. n < length self.new) }
         ensures err { OnErr result (self.new ≡ self.old) }
     {
-        let Name { text } = copy_of(name);
+        let Name { text } = name.copy();
         let (number, _) = self.names.insert_full(text)?;
         Ok(number)
     }

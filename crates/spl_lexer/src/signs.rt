@@ -3,7 +3,6 @@ ghost use Rattle.std.specs.Prelude.{◌≡◌, ◌++◌, map, IfOk, OnOk};
 ghost use Rattle.spl_cuts.specs.Defines as df;
 ghost use Rattle.spl_pieces.specs.SignViews.{sign_of};
 
-use crate::segments::copy_of;
 use spl_tree::{Chars, What};
 use std::alloc::{AllocError, Global};
 
@@ -32,7 +31,7 @@ pub fn copy(alloc: Global, what: &What) -> Result<What, AllocError>
     ensures { IfOk result (λ w. sign_of w ≡ sign_of what.now) }
 {
     match what {
-        What::Word(name) => Ok(What::Word(copy_of(name))),
+        What::Word(name) => Ok(What::Word(name.copy())),
         What::Number(n) => Ok(What::Number(*n)),
         What::Wide(n) => Ok(What::Wide(*n)),
         What::Text(chars) => Ok(What::Text(Chars {

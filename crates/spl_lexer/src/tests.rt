@@ -133,7 +133,7 @@ fn numbers(rt: HostRuntime) -> Result<(), Fail> {
 #[test]
 fn strings(rt: HostRuntime) -> Result<(), Fail> {
     // Strings stand between quotes on one line.
-    let cases: [(&[u8], &str); 9] = [
+    let cases: [(&[u8], &str); 10] = [
         (b"\"\"", "\"\" end"),
         (b"\"\"\"\"", "\"\"\" end"),
         (b"\"\"\"", "OpenString 1 1"),
@@ -142,6 +142,7 @@ fn strings(rt: HostRuntime) -> Result<(), Fail> {
         (b"A \"B\n\"", "OpenString 1 3"),
         (b"\"AB", "OpenString 1 1"),
         (b"\"A\r\nB\"", "OpenString 1 1"),
+        (b"\"A\rB\"", "\"A\rB\" end"),
         (b"\"\t<<$;\"", "\"\t<<$;\" end"),
     ];
     compare(&rt, rt.alloc(), &cases)
@@ -199,7 +200,7 @@ fn command_lines(rt: HostRuntime) -> Result<(), Fail> {
 #[test]
 fn bytes_that_are_allowed_nowhere(rt: HostRuntime) -> Result<(), Fail> {
     // Bad bytes alone and in comments, command lines and strings.
-    let cases: [(&[u8], &str); 14] = [
+    let cases: [(&[u8], &str); 15] = [
         (b"A\x07", "BadByte 1 2"),
         (b"\x80", "BadByte 1 1"),
         (b"A ~", "BadByte 1 3"),
@@ -207,6 +208,8 @@ fn bytes_that_are_allowed_nowhere(rt: HostRuntime) -> Result<(), Fail> {
         (b"A?B", "BadByte 1 2"),
         (b"\"A\x07\x08\"", "BadByte 1 3"),
         (b"\"A\x07", "OpenString 1 1"),
+        // the byte comes before the DEFINE that the string breaks
+        (b"DEFINE \"a\x80b\"=1#;", "BadByte 1 10"),
         (b"<<A\n\x80>>", "BadByte 2 1"),
         (b"<<\x80", "OpenComment 1 1"),
         (b"COMMENT \x01;", "BadByte 1 9"),

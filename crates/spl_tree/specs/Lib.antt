@@ -13,3 +13,4 @@ pub mod OpenDeclarations
 pub mod OpenExpressions
 pub mod Views
 pub mod Spells
+pub mod FaultKinds

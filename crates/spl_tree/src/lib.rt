@@ -3,6 +3,7 @@
 
 mod declarations;
 mod expressions;
+mod fault_kinds;
 mod marks;
 mod names_and_places;
 mod statements;
@@ -12,9 +13,10 @@ mod units;
 
 pub use declarations::{Body, Decl, Heading, Item, Shape, Spec};
 pub use expressions::{Const, Expr, Kind, Ref};
+pub use fault_kinds::FaultKind;
 pub use marks::{binary, class, mark, relation, shift, unary};
 pub use names_and_places::{At, Chars, Name};
 pub use statements::{Effect, Source, Stmt, Target, Test};
 pub use symbols::{Reserved, Symbol};
 pub use tokens::{Lexed, Token, What};
-pub use units::{Sound, SplUnit};
+pub use units::SplUnit;

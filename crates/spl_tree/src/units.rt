@@ -16,9 +16,3 @@ pub struct SplUnit {
     /// The place of its first token.
     pub at: At,
 }
-
-/// Units that keep every rule of the language.
-#[derive(Debug, Drop)]
-pub struct Sound {
-    pub units: Vec<SplUnit>,
-}

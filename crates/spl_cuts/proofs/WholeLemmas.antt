@@ -2,7 +2,7 @@
 -- 1. a piece gives no end, so no token and no DEFINE has one      (takes_plain)
 -- 2. places stay in the unit                                       (cut_plain)
 -- 3. each token's segment is among the names of all               (all_named)
-use Rattle.std.proofs.Common.{◌≡◌, ℕ, ◌+◌, ◌<◌, ◌≤◌, Bool, true, false, List, [], ◌∷◌, ◌++◌, length, map, nat_eq, Some, refl, sym, subst, ◌∙◌, arith, length-append}
+use Rattle.std.proofs.Common.{◌≡◌, ℕ, suc, ◌+◌, ◌<◌, ◌≤◌, Bool, true, false, List, [], ◌∷◌, ◌++◌, length, map, nat_eq, Some, refl, sym, subst, ◌∙◌, arith, length-append}
 use Rattle.std.specs.Prelude.{◌||◌, ◌==◌, if◌then◌else◌}
 use Rattle.std.proofs.lemmas.List.{length-map}
 use lib.Pointwise.{pointwise}
@@ -17,9 +17,20 @@ use Rattle.spl_cuts.specs.Cutting as c
 use Rattle.spl_cuts.specs.Cutting.{Here, here, after, start, fresh, has_name, with_name, with_names, number_of, placed, Adds, Cut, CutsWithin}
 use Rattle.spl_cuts.proofs.Fronts.{some_is}
 use Rattle.spl_cuts.proofs.FewSegments.{has_with}
-use Rattle.spl_lexer.specs.Whole as w
-use Rattle.spl_lexer.specs.Whole.{is_end, IsIn, Ends, IsWhole}
-use Rattle.spl_lexer.proofs.SegmentLemmas.{has_number}
+use Rattle.spl_cuts.specs.Whole as w
+use Rattle.spl_cuts.specs.Whole.{is_end, IsIn, Ends, IsWhole}
+
+-- ---- numbers of names
+
+-- a name that is there has a number of theirs
+pub has_number : (ns : List (List ℕ)) (n : List ℕ) → has_name ns n ≡ true → number_of ns n < length ns
+has_number [] n h = cc
+has_number (m ∷ ns) n h = by (pointwise nat_eq n m) h (λ k. has_number ns n k)
+  where
+    by : (b : Bool) → (b || has_name ns n) ≡ true → (has_name ns n ≡ true → number_of ns n < length ns)
+        → (if b then 0 else number_of ns n + 1) < suc (length ns)
+    by true h k = omega arith
+    by false h k = let l = k h in omega (arith, l)
 
 -- ---- no end
 
