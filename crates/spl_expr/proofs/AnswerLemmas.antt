@@ -7,7 +7,7 @@ use Rattle.spl_tree.specs.Symbols.{Lexeme, lexeme_of}
 use Rattle.spl_tree.specs.OpenExpressions.{limit}
 use Rattle.spl_tree.specs.Trees.{Tree}
 use Rattle.spl_tree.specs.Views as view
-use Rattle.spl_grammar.specs.Readers.{Outcome, Got, Bad, Deep}
+use Rattle.spl_reading.specs.Readers.{Outcome, Got, Bad, Deep}
 use Rattle.spl_grammar.specs.Ends.{Ended, last, before}
 use Rattle.spl_grammar.proofs.LocalReaders.{Left, entire, cut, left_then, end_of}
 use Rattle.spl_verdicts.specs.PartVerdicts.{Verdict, spelled, refused, too_deep, read}

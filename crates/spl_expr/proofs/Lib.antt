@@ -1,3 +1,1 @@
-pub mod ViewLemmas
-pub mod LevelLemmas
 pub mod AnswerLemmas

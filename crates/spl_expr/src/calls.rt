@@ -4,7 +4,7 @@ ghost use Rattle.spl_tree.specs.Symbols.{lexeme_of};
 ghost use Rattle.spl_grammar.specs.Ends.{Ended};
 ghost use Rattle.spl_expr.specs.Answers.{Answers, Exact, answer_at};
 
-use crate::expressions::{condition_within, expression_within};
+use spl_levels::{condition_within, expression_within};
 use spl_tokens::{Fault, ParseFault, Tokens};
 use spl_tree::{Expr, Token};
 use std::alloc::Global;

@@ -10,9 +10,9 @@ use Rattle.spl_tree.specs.Symbols.{Lexeme}
 use Rattle.spl_tree.specs.DeclarationTrees as decl
 use Rattle.spl_tree.specs.DeclarationTrees.{Placed}
 use Rattle.spl_tree.specs.Declarations.{Options, pointers}
-use Rattle.spl_grammar.specs.Readers.{Outcome, Got, Bad, Parser, expect, by_symbol, refuse, same_symbol, take, pure}
-use Rattle.spl_grammar.specs.ReadExpressions.{constant, is}
-use Rattle.spl_grammar.specs.ReadDeclarations.{more_parts, separated, name, names, item, shape, array, more_arrays, arrays, more_terms, equal, option_among, option_behind, more_options, options, parameters, spec_names, spec_behind, spec_by, more_specs, heading_tail, heading, BodyRead, array_data, item_data, behind_heading, procedure, subroutine, owned_by, typed_by, typed, by_word, declaration_by, declaration, more_declarations, declaration_list, body, unit}
+use Rattle.spl_reading.specs.Readers.{Outcome, Got, Bad, Parser, expect, by_symbol, refuse, same_symbol, take, pure}
+use Rattle.spl_reading.specs.ReadExpressions.{constant, is}
+use Rattle.spl_reading.specs.ReadDeclarations.{more_parts, separated, name, names, item, shape, array, more_arrays, arrays, more_terms, equal, option_among, option_behind, more_options, options, parameters, spec_names, spec_behind, spec_by, more_specs, heading_tail, heading, BodyRead, array_data, item_data, behind_heading, procedure, subroutine, owned_by, typed_by, typed, by_word, declaration_by, declaration, more_declarations, declaration_list, body, unit}
 use Rattle.spl_grammar.proofs.CalmReaders.{Calm, calm_pure, calm_refuse, calm_take, calm_then, calm_symbol, calm_token, calm_if, calm_expect, calm_repeat, calm_constant, calm_statement, calm_list, calm_segment, calms}
 
 -- parts with commas between
@@ -107,7 +107,7 @@ calm_more_specs : {n : ℕ} (ss : List decl.Spec) → Calm n (more_specs ss)
 unfolding more_specs
 calm_more_specs ss = calm_symbol (calm_spec_by ss)
 
-calm_specs : {n : ℕ} (ss : List decl.Spec) → Calm n (Rattle.spl_grammar.specs.Readers.repeat more_specs ss)
+calm_specs : {n : ℕ} (ss : List decl.Spec) → Calm n (Rattle.spl_reading.specs.Readers.repeat more_specs ss)
 calm_specs ss = calm_repeat ss calm_more_specs
 
 calm_tail : {n : ℕ} → Calm n heading_tail

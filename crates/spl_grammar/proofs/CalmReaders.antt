@@ -3,12 +3,12 @@ use Rattle.std.proofs.Common.{ℕ, zero, suc, ◌≤◌, Bool, true, false, List
 use Rattle.spl_tree.specs.declared.symbols.Symbol.{Symbol}
 use Rattle.spl_tree.specs.Symbols.{Lexeme}
 use Rattle.spl_tree.specs.OpenExpressions.{Part}
-use Rattle.spl_grammar.specs.Readers.{Outcome, Got, Bad, Deep, Parser, and_then, followed, pure, refuse, by_symbol, take, expect, same_symbol, turns, repeat}
+use Rattle.spl_reading.specs.Readers.{Outcome, Got, Bad, Deep, Parser, and_then, followed, pure, refuse, by_symbol, take, expect, same_symbol, turns, repeat}
 use Rattle.spl_grammar.specs.Answers.{Explains}
 use Rattle.spl_grammar.specs.Answers as an
-use Rattle.spl_grammar.specs.ReadDeclarations.{by_token, next_segment}
-use Rattle.spl_grammar.specs.ReadExpressions.{constant}
-use Rattle.spl_grammar.specs.ReadStatements.{statement, statement_list}
+use Rattle.spl_reading.specs.ReadDeclarations.{by_token, next_segment}
+use Rattle.spl_reading.specs.ReadExpressions.{constant}
+use Rattle.spl_reading.specs.ReadStatements.{statement, statement_list}
 use Rattle.spl_grammar.proofs.LocalReaders.{end_of, local_take}
 use Rattle.spl_grammar.proofs.LocalExpressions.{local_constant}
 use Rattle.spl_grammar.proofs.LocalStatements.{local_statement, local_list}

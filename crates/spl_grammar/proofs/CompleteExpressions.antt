@@ -11,8 +11,8 @@ use Rattle.spl_tree.specs.Symbols.{Lexeme, Is}
 use Rattle.spl_tree.specs.Operators.{Form, reference, other, form_of_call, negated}
 use Rattle.spl_tree.specs.Expressions as g
 use Rattle.spl_tree.specs.Trees as tree
-use Rattle.spl_grammar.specs.Readers.{Outcome, Got, Parser, followed, by_symbol, pure, same_symbol, symbol_number}
-use Rattle.spl_grammar.specs.ReadExpressions.{Found, plain, is, constant, bits, field, negative_by, enter, more_arguments, arguments, named, addressed, primary_by, inverse, primary, unary_step, level, unary, within}
+use Rattle.spl_reading.specs.Readers.{Outcome, Got, Parser, followed, by_symbol, pure, same_symbol, symbol_number}
+use Rattle.spl_reading.specs.ReadExpressions.{Found, plain, is, constant, bits, field, negative_by, enter, more_arguments, arguments, named, addressed, primary_by, inverse, primary, unary_step, level, unary, within}
 use Rattle.spl_grammar.specs.Following.{Follow, behind}
 use Rattle.spl_grammar.proofs.LocalExpressions.{takes_more, local_within}
 use Rattle.spl_grammar.proofs.NearReaders.{Near, near_to, near_from, near_then, near_pure, near_take, near_place, near_symbol, near_head, near_if, near_else, near_expect, near_allowed, near_turn, near_last, same_self}

@@ -10,9 +10,9 @@ use Rattle.spl_tree.specs.DeclarationTrees as decl
 use Rattle.spl_tree.specs.DeclarationTrees.{Placed}
 use Rattle.spl_tree.specs.Declarations as dl
 use Rattle.spl_tree.specs.Declarations.{Separated, one, more, Options, both, fit, option_of, no_options}
-use Rattle.spl_grammar.specs.Readers.{Outcome, Got, Parser, ◌>>=◌, by_symbol, pure, refuse, take, repeat, same_symbol, symbol_number, reserved_number}
-use Rattle.spl_grammar.specs.ReadExpressions.{is}
-use Rattle.spl_grammar.specs.ReadDeclarations.{by_token, option_among, option_behind, more_options, options, parameters, spec_names, spec_behind, spec_by, more_specs, heading_tail}
+use Rattle.spl_reading.specs.Readers.{Outcome, Got, Parser, ◌>>=◌, by_symbol, pure, refuse, take, repeat, same_symbol, symbol_number, reserved_number}
+use Rattle.spl_reading.specs.ReadExpressions.{is}
+use Rattle.spl_reading.specs.ReadDeclarations.{by_token, option_among, option_behind, more_options, options, parameters, spec_names, spec_behind, spec_by, more_specs, heading_tail}
 use Rattle.spl_grammar.proofs.LocalDeclarations.{takes_more_options, takes_more_specs}
 use Rattle.spl_grammar.proofs.NearReaders.{Near, near_to, near_from, near_then, near_pure, near_take, near_symbol, near_head, near_if, near_else, near_expect, near_turn, near_last, same_self}
 use Rattle.spl_grammar.proofs.CompleteParts.{Ends, semicolon, close, no_comma, choose_else, names_read}

@@ -8,8 +8,8 @@ use Rattle.spl_tree.specs.Symbols.{Lexeme, Is}
 use Rattle.spl_tree.specs.Operators.{Form, comparison, other, compared, bytes_of, binds, is_sign, sign_number, is_number, shift_of}
 use Rattle.spl_tree.specs.Expressions as g
 use Rattle.spl_tree.specs.Trees as tree
-use Rattle.spl_grammar.specs.Readers.{Got, same_symbol, symbol_number}
-use Rattle.spl_grammar.specs.ReadExpressions.{Found, operator_of, constant, counted, signed_by_next, first, join, shifted, bytes, turn, turn_by, unary}
+use Rattle.spl_reading.specs.Readers.{Got, same_symbol, symbol_number}
+use Rattle.spl_reading.specs.ReadExpressions.{Found, operator_of, constant, counted, signed_by_next, first, join, shifted, bytes, turn, turn_by, unary}
 use Rattle.spl_grammar.proofs.LocalExpressions.{takes_turn, local_level, local_unary}
 use Rattle.spl_grammar.proofs.NearReaders.{Near, near_to, near_then, near_pure, near_take, near_symbol, near_head, near_if, near_else, near_expect, near_allowed, near_numbered, near_turn, near_last}
 use Rattle.spl_grammar.proofs.FirstTokens as ft

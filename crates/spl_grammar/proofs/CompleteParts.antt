@@ -11,9 +11,9 @@ use Rattle.spl_tree.specs.DeclarationTrees as decl
 use Rattle.spl_tree.specs.DeclarationTrees.{Placed}
 use Rattle.spl_tree.specs.Declarations as dl
 use Rattle.spl_tree.specs.Declarations.{Separated, one, more, Options, both, fit, option_of, no_options}
-use Rattle.spl_grammar.specs.Readers.{Outcome, Got, Parser, by_symbol, repeat, same_symbol, symbol_number}
-use Rattle.spl_grammar.specs.ReadExpressions.{is, operator_of, constant}
-use Rattle.spl_grammar.specs.ReadDeclarations.{more_parts, separated, name, names, item, shape, array, with_values, more_arrays, arrays, more_terms, equal}
+use Rattle.spl_reading.specs.Readers.{Outcome, Got, Parser, by_symbol, repeat, same_symbol, symbol_number}
+use Rattle.spl_reading.specs.ReadExpressions.{is, operator_of, constant}
+use Rattle.spl_reading.specs.ReadDeclarations.{more_parts, separated, name, names, item, shape, array, with_values, more_arrays, arrays, more_terms, equal}
 use Rattle.spl_grammar.proofs.LocalReaders.{IsLocal}
 use Rattle.spl_grammar.proofs.LocalExpressions.{local_constant}
 use Rattle.spl_grammar.proofs.LocalDeclarations.{takes_more_parts, takes_more_arrays, takes_more_terms, local_name, local_item, local_equal}

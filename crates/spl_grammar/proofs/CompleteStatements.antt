@@ -11,9 +11,9 @@ use Rattle.spl_tree.specs.StatementTrees as stat
 use Rattle.spl_tree.specs.StatementTrees.{closed, statements}
 use Rattle.spl_tree.specs.Statements as st
 use Rattle.spl_tree.specs.Statements.{class_of, is_relation}
-use Rattle.spl_grammar.specs.Readers.{Got, Parser, refuse, repeat, same_symbol, symbol_number, reserved_number}
-use Rattle.spl_grammar.specs.ReadExpressions.{is, enter}
-use Rattle.spl_grammar.specs.ReadStatements.{stepped, go_name, more_statements, statement_list, labelled, named_statement, block, else_behind, if_statement, while_statement, do_statement, for_statement, case_statement, go_statement, effect_statement, by_word, statement_by, statement_step, statement}
+use Rattle.spl_reading.specs.Readers.{Got, Parser, refuse, repeat, same_symbol, symbol_number, reserved_number}
+use Rattle.spl_reading.specs.ReadExpressions.{is, enter}
+use Rattle.spl_reading.specs.ReadStatements.{stepped, go_name, more_statements, statement_list, labelled, named_statement, block, else_behind, if_statement, while_statement, do_statement, for_statement, case_statement, go_statement, effect_statement, by_word, statement_by, statement_step, statement}
 use Rattle.spl_grammar.specs.Following.{Follow, behind, Stops, After}
 use Rattle.spl_grammar.specs.Following as af
 use Rattle.spl_grammar.proofs.LocalStatements.{takes_more_statements, local_statement}

@@ -8,10 +8,10 @@ use Rattle.spl_tree.specs.DeclarationTrees as decl
 use Rattle.spl_tree.specs.DeclarationTrees.{Placed}
 use Rattle.spl_tree.specs.Declarations as dl
 use Rattle.spl_tree.specs.Declarations.{Separated, one, more, Options, both, fit, option_of, no_options, can_be_body, is_subroutine, pointers}
-use Rattle.spl_grammar.specs.Readers.{Outcome, Got, Parser, ◌>>=◌, pure, refuse, repeat, same_symbol, symbol_number, reserved_number}
-use Rattle.spl_grammar.specs.ReadExpressions.{is}
-use Rattle.spl_grammar.specs.ReadDeclarations.{more_parts, separated, name, names, item, shape, array, with_values, more_arrays, arrays, more_terms, equal, by_token, option_among, option_behind, more_options, options, parameters, spec_names, spec_behind, spec_by, more_specs, heading_tail, heading, BodyRead, array_data, item_data, behind_heading, procedure, subroutine, owned_by, typed_by, typed, by_word, declaration_by, declaration, declares, more_declarations, declaration_list, body, next_segment, of_segment}
-use Rattle.spl_grammar.specs.ReadDeclarations as rd
+use Rattle.spl_reading.specs.Readers.{Outcome, Got, Parser, ◌>>=◌, pure, refuse, repeat, same_symbol, symbol_number, reserved_number}
+use Rattle.spl_reading.specs.ReadExpressions.{is}
+use Rattle.spl_reading.specs.ReadDeclarations.{more_parts, separated, name, names, item, shape, array, with_values, more_arrays, arrays, more_terms, equal, by_token, option_among, option_behind, more_options, options, parameters, spec_names, spec_behind, spec_by, more_specs, heading_tail, heading, BodyRead, array_data, item_data, behind_heading, procedure, subroutine, owned_by, typed_by, typed, by_word, declaration_by, declaration, declares, more_declarations, declaration_list, body, next_segment, of_segment}
+use Rattle.spl_reading.specs.ReadDeclarations as rd
 use Rattle.spl_grammar.proofs.NearReaders.{Near, near_same, near_to, near_then, near_pure, near_take, near_symbol, near_if, near_else, near_expect, near_turn, near_last, same_self}
 use Rattle.spl_grammar.proofs.CompleteParts.{Ends, semicolon, choose_else, names_read, items_read, equals_read, arrays_read}
 use Rattle.spl_grammar.proofs.CompleteHeadings.{goes_on, options_read}

@@ -6,10 +6,10 @@ use Rattle.spl_tree.specs.Symbols.{Lexeme}
 use Rattle.spl_tree.specs.Parts as part
 use Rattle.spl_tree.specs.DeclarationTrees.{UnitTree}
 use Rattle.spl_tree.specs.Units.{Unit_of}
-use Rattle.spl_grammar.specs.Readers.{Outcome, Got, Bad, Deep, Parser, followed, and_then, ◌>>=◌, pure, refuse, take, by_symbol, expect, same_symbol}
-use Rattle.spl_grammar.specs.ReadStatements.{statement, statement_list}
-use Rattle.spl_grammar.specs.ReadDeclarations.{declaration_list, body, next_segment, of_segment}
-use Rattle.spl_grammar.specs.ReadDeclarations as rd
+use Rattle.spl_reading.specs.Readers.{Outcome, Got, Bad, Deep, Parser, followed, and_then, ◌>>=◌, pure, refuse, take, by_symbol, expect, same_symbol}
+use Rattle.spl_reading.specs.ReadStatements.{statement, statement_list}
+use Rattle.spl_reading.specs.ReadDeclarations.{declaration_list, body, next_segment, of_segment}
+use Rattle.spl_reading.specs.ReadDeclarations as rd
 use Rattle.spl_grammar.specs.Answers.{Explains, got, bad, deep, Agrees, end_of}
 use Rattle.spl_grammar.specs.UnitLaws.{SpelledUnit}
 use Rattle.spl_grammar.proofs.LocalReaders as lr

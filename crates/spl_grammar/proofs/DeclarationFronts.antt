@@ -11,9 +11,9 @@ use Rattle.spl_tree.specs.DeclarationTrees as decl
 use Rattle.spl_tree.specs.DeclarationTrees.{Placed}
 use Rattle.spl_tree.specs.Declarations as dl
 use Rattle.spl_tree.specs.Declarations.{Separated, one, more, Options, both, fit, option_of, no_options, can_be_body, is_subroutine, pointers}
-use Rattle.spl_grammar.specs.Readers.{Outcome, Got, Parser, by_symbol, same_symbol, symbol_number, reserved_number}
-use Rattle.spl_grammar.specs.ReadExpressions.{is}
-use Rattle.spl_grammar.specs.ReadDeclarations.{heading, BodyRead, declares}
+use Rattle.spl_reading.specs.Readers.{Outcome, Got, Parser, by_symbol, same_symbol, symbol_number, reserved_number}
+use Rattle.spl_reading.specs.ReadExpressions.{is}
+use Rattle.spl_reading.specs.ReadDeclarations.{heading, BodyRead, declares}
 use Rattle.spl_grammar.proofs.NearReaders.{Near, near_then, near_pure, near_take, near_symbol, near_head, near_if, near_expect}
 use Rattle.spl_grammar.proofs.CompleteParts.{Ends, semicolon}
 use Rattle.spl_grammar.proofs.CompleteHeadings.{goes_on, heading_tail_read, parameters_read}

@@ -9,10 +9,10 @@ use Rattle.spl_tree.specs.OpenDeclarations as od
 use Rattle.spl_tree.specs.OpenDeclarations.{DeclarationStep, is_begin, begins_block}
 use Rattle.spl_tree.specs.Parts as part
 use Rattle.spl_tree.specs.Parts.{Part}
-use Rattle.spl_grammar.specs.Readers.{repeat}
-use Rattle.spl_grammar.specs.ReadStatements.{statement_list, statement}
-use Rattle.spl_grammar.specs.ReadDeclarations.{declaration, more_declarations, declaration_list, body, unit}
-use Rattle.spl_grammar.specs.UnitLaws.{bodies}
+use Rattle.spl_reading.specs.Readers.{repeat}
+use Rattle.spl_reading.specs.ReadStatements.{statement_list, statement}
+use Rattle.spl_reading.specs.ReadDeclarations.{declaration, more_declarations, declaration_list, body, unit}
+use Rattle.spl_reading.specs.ReadDeclarations.{bodies}
 use Rattle.spl_grammar.proofs.DeclarationFronts.{decl_state}
 use Rattle.spl_grammar.proofs.CompletedParts.{Inside, a_constant, a_statement, some_statements, a_mark}
 use Rattle.spl_grammar.proofs.CompletedUnits.{Declared, some_names, some_constants, an_item, some_items, an_equal, some_equals, an_array, some_arrays, some_options, a_heading, a_declaration, some_declarations, a_body, a_unit, declared_step}

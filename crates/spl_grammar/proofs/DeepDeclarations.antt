@@ -10,20 +10,20 @@ use Rattle.spl_tree.specs.DeclarationTrees as decl
 use Rattle.spl_tree.specs.Declarations as dl
 use Rattle.spl_tree.specs.Declarations.{Options, no_options, is_subroutine}
 use Rattle.spl_tree.specs.OpenDeclarations.{is_begin, begins_block}
-use Rattle.spl_grammar.specs.Readers.{Outcome, Got, Bad, Parser, and_then, followed, pure, refuse, by_symbol, repeat, turns, same_symbol, symbol_number, reserved_number}
-use Rattle.spl_grammar.specs.ReadExpressions.{is}
-use Rattle.spl_grammar.specs.ReadStatements.{more_statements, statement_list, by_word, statement_by, statement_step, statement}
-use Rattle.spl_grammar.specs.ReadDeclarations.{BodyRead, options, behind_heading, procedure, subroutine, typed_by, typed, declaration_by, declaration, declares, more_declarations, declaration_list, body, unit}
-use Rattle.spl_grammar.specs.ReadDeclarations as rd
+use Rattle.spl_reading.specs.Readers.{Outcome, Got, Bad, Parser, and_then, followed, pure, refuse, by_symbol, repeat, turns, same_symbol, symbol_number, reserved_number}
+use Rattle.spl_reading.specs.ReadExpressions.{is}
+use Rattle.spl_reading.specs.ReadStatements.{more_statements, statement_list, by_word, statement_by, statement_step, statement}
+use Rattle.spl_reading.specs.ReadDeclarations.{BodyRead, options, behind_heading, procedure, subroutine, typed_by, typed, declaration_by, declaration, declares, more_declarations, declaration_list, body, unit}
+use Rattle.spl_reading.specs.ReadDeclarations as rd
 use Rattle.spl_grammar.specs.Answers.{DeepBefore, deep}
-use Rattle.spl_grammar.specs.UnitLaws.{bodies}
+use Rattle.spl_reading.specs.ReadDeclarations.{bodies}
 use Rattle.spl_grammar.proofs.DeclarationTokens as dt
 use Rattle.spl_grammar.proofs.LocalReaders.{IsLocal, local_refuse}
 use Rattle.spl_grammar.proofs.LocalStatements.{local_statement, local_list}
 use Rattle.spl_grammar.proofs.LocalDeclarations.{takes_more_declarations, local_body}
 use Rattle.spl_grammar.proofs.NearReaders.{Near, near_then, near_pure, near_expect, near_turn, same_self}
 use Rattle.spl_grammar.proofs.FirstTokens.{Begins, with_first}
-use Rattle.spl_grammar.proofs.SameSymbol.{same_is}
+use Rattle.spl_reading.proofs.SameSymbol.{same_is}
 use Rattle.spl_grammar.proofs.ExpressionClaims.{stays}
 use Rattle.spl_grammar.proofs.CompleteParts.{semicolon}
 use Rattle.spl_grammar.proofs.CompleteHeadings.{goes_on, options_read}

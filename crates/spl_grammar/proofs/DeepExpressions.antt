@@ -15,15 +15,15 @@ use Rattle.spl_tree.specs.Parts as of_kind
 use Rattle.spl_tree.specs.Parts.{Part}
 use Rattle.spl_tree.specs.Trees as tree
 use Rattle.spl_tree.specs.StatementTrees as stat
-use Rattle.spl_grammar.specs.Readers.{Outcome, Got, Bad, Parser, and_then, followed, pure, refuse, by_symbol, take, at_place, repeat, same_symbol, symbol_number}
-use Rattle.spl_grammar.specs.ReadExpressions.{Found, is, operator_of, negative_by, enter, enclosed, more_arguments, arguments, named, addressed, primary_by, inverse, primary, unary_step, counted, signed_by_next, first, join, shifted, bytes, turn, turn_by, level, whole, unary, expression, within}
-use Rattle.spl_grammar.specs.ReadStatements.{reference, source, effect, test, statement, statement_step, more_statements}
+use Rattle.spl_reading.specs.Readers.{Outcome, Got, Bad, Parser, and_then, followed, pure, refuse, by_symbol, take, at_place, repeat, same_symbol, symbol_number}
+use Rattle.spl_reading.specs.ReadExpressions.{Found, is, operator_of, negative_by, enter, enclosed, more_arguments, arguments, named, addressed, primary_by, inverse, primary, unary_step, counted, signed_by_next, first, join, shifted, bytes, turn, turn_by, level, whole, unary, expression, within}
+use Rattle.spl_reading.specs.ReadStatements.{reference, source, effect, if_test, statement, statement_step, more_statements}
 use Rattle.spl_grammar.proofs.LocalReaders.{IsLocal, end_of}
 use Rattle.spl_grammar.proofs.LocalReaders as lr
 use Rattle.spl_grammar.proofs.LocalExpressions.{local_primary_by, local_negative, takes_more, local_within, local_unary, local_level}
 use Rattle.spl_grammar.proofs.NearReaders.{DeepBefore, deep, near_else, near_expect, same_self}
 use Rattle.spl_grammar.proofs.PartTokens as pt
-use Rattle.spl_grammar.proofs.SameSymbol.{same_is}
+use Rattle.spl_reading.proofs.SameSymbol.{same_is}
 use Rattle.spl_grammar.proofs.FollowLemmas.{follow_is, stops_close, stops_comma, stops_operator, stops_mark, stops_comma_below, not_mark}
 use Rattle.spl_grammar.proofs.ExpressionClaims.{behind_not, unary_is, counts, part, local_counts, seen, found, part_of, loop_of, expression_of, near_level, stays}
 use Rattle.spl_grammar.proofs.CompleteLevels.{seen_else, binds_more, not_sum, no_operator, is_one, is_eight, below_eight, not_three, is_zero}
@@ -57,7 +57,7 @@ Claim n of_kind.arguments d k ts = (room taken : ℕ) (inner : Parser Found) (so
 Claim n of_kind.reference d k ts = (room : ℕ) → d + room ≡ limit → k / 8 ≤ room → SinksReference n room ts
 Claim n of_kind.source d k ts = (room : ℕ) → d + room ≡ limit → k / 8 ≤ room → Sinks n (source room) ts
 Claim n of_kind.effect d k ts = (room : ℕ) → d + room ≡ limit → k / 8 ≤ room → Sinks n (effect room) ts
-Claim n of_kind.test d k ts = (room : ℕ) → d + room ≡ limit → k / 8 ≤ room → Sinks n (test room) ts
+Claim n of_kind.test d k ts = (room : ℕ) → d + room ≡ limit → k / 8 ≤ room → Sinks n (if_test room) ts
 Claim n of_kind.statement d k ts = (room : ℕ) → d + room ≡ limit → k / 8 ≤ room → Sinks n (statement room) ts
 Claim n of_kind.statements d k ts = (room : ℕ) (so_far : List stat.Statement) → d + room ≡ limit → k / 8 ≤ room
     → Sinks n (followed (statement room) (λ x. repeat (more_statements (statement room)) (so_far ++ x ∷ []))) ts

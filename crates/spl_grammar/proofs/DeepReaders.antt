@@ -4,8 +4,8 @@ use Rattle.spl_tree.specs.declared.names_and_places.At.{At}
 use Rattle.spl_tree.specs.declared.symbols.Symbol.{Symbol}
 use Rattle.spl_tree.specs.declared.symbols.Symbol.TheVariants as s
 use Rattle.spl_tree.specs.Symbols.{Lexeme, Is}
-use Rattle.spl_grammar.specs.Readers.{Outcome, Got, Bad, Deep, Parser, and_then, followed, pure, by_symbol, take, at_place, allowed, turns, repeat}
-use Rattle.spl_grammar.specs.ReadExpressions.{opening}
+use Rattle.spl_reading.specs.Readers.{Outcome, Got, Bad, Deep, Parser, and_then, followed, pure, by_symbol, take, at_place, allowed, turns, repeat}
+use Rattle.spl_reading.specs.ReadExpressions.{opening}
 use Rattle.spl_grammar.proofs.LocalReaders.{IsLocal, end_of, Taking, turns_enough}
 use Rattle.spl_grammar.proofs.NearReaders.{DeepBefore, deep, Near, near_then}
 use Rattle.spl_grammar.proofs.ExpressionClaims.{near_opening, stays}

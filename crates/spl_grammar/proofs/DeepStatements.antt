@@ -18,9 +18,9 @@ use Rattle.spl_tree.specs.OpenStatements as op
 use Rattle.spl_tree.specs.OpenStatements.{StatementStep}
 use Rattle.spl_tree.specs.Parts as of_kind
 use Rattle.spl_tree.specs.Parts.{Part}
-use Rattle.spl_grammar.specs.Readers.{Bad, Parser, and_then, followed, pure, refuse, by_symbol, take, expect, same_symbol, symbol_number}
-use Rattle.spl_grammar.specs.ReadExpressions.{is, operator_of, enter, arguments, within, expression, condition, whole}
-use Rattle.spl_grammar.specs.ReadStatements.{indexed, reference, source_behind, source, while_or_until, move, scan, effect, begins_effect, test, value, stepped, more_statements, statement_list, labelled, with_arguments, named_statement, block, else_behind, if_statement, while_statement, do_statement, for_statement, case_statement, effect_statement, by_word, statement_by, statement_step, statement}
+use Rattle.spl_reading.specs.Readers.{Bad, Parser, and_then, followed, pure, refuse, by_symbol, take, expect, same_symbol, symbol_number}
+use Rattle.spl_reading.specs.ReadExpressions.{is, operator_of, enter, arguments, within, expression, condition, whole}
+use Rattle.spl_reading.specs.ReadStatements.{indexed, reference, source_behind, source, while_or_until, move, scan, effect, begins_effect, if_test, value, stepped, more_statements, statement_list, labelled, with_arguments, named_statement, block, else_behind, if_statement, while_statement, do_statement, for_statement, case_statement, effect_statement, by_word, statement_by, statement_step, statement}
 use Rattle.spl_grammar.specs.Following as af
 use Rattle.spl_grammar.proofs.LocalReaders.{IsLocal}
 use Rattle.spl_grammar.proofs.LocalStatements.{local_reference, local_effect, takes_more_statements, local_statement}
@@ -28,7 +28,7 @@ use Rattle.spl_grammar.proofs.NearReaders.{near_then, near_pure, near_take, near
 use Rattle.spl_grammar.proofs.FirstTokens as ft
 use Rattle.spl_grammar.proofs.PartTokens as pt
 use Rattle.spl_grammar.proofs.StatementTokens as tk
-use Rattle.spl_grammar.proofs.SameSymbol.{same_is}
+use Rattle.spl_reading.proofs.SameSymbol.{same_is}
 use Rattle.spl_grammar.proofs.ExpressionClaims.{part, stays}
 use Rattle.spl_grammar.proofs.CompleteStatements.{inside, down, statement_is, inside_read, stepped_read, follow_step, complete_statement, follow_stopper, expr_read, cond_read, reference_read, no_open, name_first, comma_open, word_open, assign_open, name_text, while_until, move_scan, test_read, open_colon, target_read, word}
 use Rattle.spl_grammar.proofs.CompletedParts.{Inside, free, a_constant, some_arguments, a_reference, a_source, an_effect, a_test, a_statement, some_statements, a_mark}
@@ -65,7 +65,7 @@ cond_down o (suc room) sum ok = cond_sinks o room (omega arith)
 
 -- a test
 test_down : {n d : ℕ} {ts : List Lexeme} → SinksIn n of_kind.test (suc d) 0 ts → (room : ℕ) → d + room ≡ limit
-    → nat_lt 0 room ≡ true → Sinks n (test (down room)) ts
+    → nat_lt 0 room ≡ true → Sinks n (if_test (down room)) ts
 unfolding down
 test_down o zero sum ok = none_left 0 ok
 test_down o (suc room) sum ok = o.claim room (omega arith) (omega arith)
@@ -206,13 +206,13 @@ relation_no_sign : (o : ℕ) → is_relation o ≡ true → is_sign o ≡ false
 relation_no_sign o e = grind (arith, nat_tests, e)
 
 -- a condition as a test
-test_case : {n d : ℕ} {ts : List Lexeme} → SinksIn n op.cond d 0 ts → (room : ℕ) → d + room ≡ limit → Sinks n (test room) ts
-unfolding test condition
-test_case {n = n} {d = d} {ts = ts} o room sum = some_token (λ ts. Sinks n (test room) ts) ts (local_part true room 0 10 0 None)
+test_case : {n d : ℕ} {ts : List Lexeme} → SinksIn n op.cond d 0 ts → (room : ℕ) → d + room ≡ limit → Sinks n (if_test room) ts
+unfolding if_test condition
+test_case {n = n} {d = d} {ts = ts} o room sum = some_token (λ ts. Sinks n (if_test room) ts) ts (local_part true room 0 10 0 None)
     (o.claim room 0 (omega arith) (omega arith)) (λ t us e. go t us e (is_relation (operator_of t.symbol)) refl)
   where
     go : (t : Lexeme) (us : List Lexeme) → Sinks n (part true room 0 10 0 None) (t ∷ us)
-        → (b : Bool) → is_relation (operator_of t.symbol) ≡ b → Sinks n (test room) (t ∷ us)
+        → (b : Bool) → is_relation (operator_of t.symbol) ≡ b → Sinks n (if_test room) (t ∷ us)
     go t us d false e = sink_head _ (sink_else _ e (sink_then _ (sink_then _ d)))
     go t us d true e = not_bad (level_refused true room 0 10 0 (relation_no_sign (operator_of t.symbol) e)
         (λ j. primary_refused _ an_operator room j (relation_is t.symbol e))) d

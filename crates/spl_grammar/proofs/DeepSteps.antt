@@ -7,7 +7,7 @@ use Rattle.spl_tree.specs.OpenExpressions as op
 use Rattle.spl_tree.specs.OpenExpressions.{Step, limit, nesting}
 use Rattle.spl_tree.specs.Parts as of_kind
 use Rattle.spl_tree.specs.Parts.{Part}
-use Rattle.spl_grammar.specs.ReadExpressions.{level, whole, expression, within}
+use Rattle.spl_reading.specs.ReadExpressions.{level, whole, expression, within}
 use Rattle.spl_grammar.proofs.PartTokens as pt
 use Rattle.spl_grammar.proofs.CompleteLevels.{not_three}
 use Rattle.spl_grammar.proofs.CompleteExpressions.{primary_reader}

@@ -2,7 +2,7 @@
 use Rattle.std.proofs.Common.{ℕ, zero, suc, ◌<◌, Bool, true, false, if◌then◌else◌, List, length, arith}
 use Rattle.spl_tree.specs.Symbols.{Lexeme}
 use Rattle.spl_tree.specs.Parts.{Part}
-use Rattle.spl_grammar.specs.Readers.{Outcome, Got, Parser, and_then, followed, pure, turns, repeat}
+use Rattle.spl_reading.specs.Readers.{Outcome, Got, Parser, and_then, followed, pure, turns, repeat}
 use Rattle.spl_grammar.specs.Answers.{Explains, got, bad, deep}
 use Rattle.spl_grammar.proofs.LocalReaders as lr
 

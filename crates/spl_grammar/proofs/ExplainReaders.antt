@@ -6,8 +6,8 @@ use Rattle.spl_tree.specs.declared.symbols.Symbol.{Symbol}
 use Rattle.spl_tree.specs.declared.symbols.Symbol.TheVariants as s
 use Rattle.spl_tree.specs.Symbols.{Lexeme, Is}
 use Rattle.spl_tree.specs.OpenExpressions.{Part, Step, Opens, here, inner, OpensAt, nesting}
-use Rattle.spl_grammar.specs.Readers.{Outcome, Got, Bad, Deep, Parser, and_then, followed, pure, refuse, by_symbol, take, allowed, same_symbol, expect, named_number, numbered}
-use Rattle.spl_grammar.proofs.SameSymbol.{same_is}
+use Rattle.spl_reading.specs.Readers.{Outcome, Got, Bad, Deep, Parser, and_then, followed, pure, refuse, by_symbol, take, allowed, same_symbol, expect, named_number, numbered}
+use Rattle.spl_reading.proofs.SameSymbol.{same_is}
 pub use Rattle.spl_grammar.specs.Answers.{Explains, got, bad, deep}
 
 -- one step in front of a chain

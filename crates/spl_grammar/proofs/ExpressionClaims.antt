@@ -8,8 +8,8 @@ use Rattle.spl_tree.specs.Symbols.{Lexeme, Is}
 use Rattle.spl_tree.specs.Operators.{Form}
 use Rattle.spl_tree.specs.Expressions as g
 use Rattle.spl_tree.specs.Trees as tree
-use Rattle.spl_grammar.specs.Readers.{Outcome, Got, Parser, and_then, allowed, followed, by_symbol, refuse, repeat}
-use Rattle.spl_grammar.specs.ReadExpressions.{Found, is, constant, constant_by, signed_by, enter, opening, enclosed, more_arguments, unary_step, first, turn, level, whole, unary, expression, within}
+use Rattle.spl_reading.specs.Readers.{Outcome, Got, Parser, and_then, allowed, followed, by_symbol, refuse, repeat}
+use Rattle.spl_reading.specs.ReadExpressions.{Found, is, constant, constant_by, signed_by, enter, opening, enclosed, more_arguments, unary_step, first, turn, level, whole, unary, expression, within}
 use Rattle.spl_grammar.specs.Following.{Follow}
 use Rattle.spl_grammar.proofs.LocalReaders.{IsLocal, local_refuse}
 use Rattle.spl_grammar.proofs.LocalExpressions.{local_within}

@@ -7,8 +7,8 @@ use Rattle.spl_tree.specs.Operators.{Form}
 use Rattle.spl_tree.specs.Expressions as g
 use Rattle.spl_tree.specs.OpenExpressions.{Part}
 use Rattle.spl_tree.specs.Trees as tree
-use Rattle.spl_grammar.specs.Readers.{Outcome, Got, Bad, Deep, Parser}
-use Rattle.spl_grammar.specs.ReadExpressions.{expression, condition, whole}
+use Rattle.spl_reading.specs.Readers.{Outcome, Got, Bad, Deep, Parser}
+use Rattle.spl_reading.specs.ReadExpressions.{expression, condition, whole}
 use Rattle.spl_grammar.specs.Following.{Follow}
 use Rattle.spl_grammar.proofs.LocalReaders as lr
 use Rattle.spl_grammar.proofs.LocalReaders.{Agrees, Like, end_of, past}

@@ -9,8 +9,8 @@ use Rattle.spl_tree.specs.Operators.{Form, is_sign, is_number}
 use Rattle.spl_tree.specs.Expressions as g
 use Rattle.spl_tree.specs.Statements.{is_relation}
 use Rattle.spl_tree.specs.Trees as tree
-use Rattle.spl_grammar.specs.ReadExpressions.{is, operator_of}
-use Rattle.spl_grammar.specs.Readers.{same_symbol, symbol_number}
+use Rattle.spl_reading.specs.ReadExpressions.{is, operator_of}
+use Rattle.spl_reading.specs.Readers.{same_symbol, symbol_number}
 
 -- there is a first token, and its symbol passes the test
 pub data Begins (test : Symbol → Bool) (b : Bool) : List Lexeme → Type 0 where

@@ -7,8 +7,8 @@ use Rattle.spl_tree.specs.declared.symbols.Symbol.TheVariants as s
 use Rattle.spl_tree.specs.Symbols.{Lexeme, Is}
 use Rattle.spl_tree.specs.Operators.{binds}
 use Rattle.spl_tree.specs.Trees as tree
-use Rattle.spl_grammar.specs.Readers.{Parser, Got, same_symbol, symbol_number, by_symbol, pure, repeat, turns, followed, and_then}
-use Rattle.spl_grammar.specs.ReadExpressions.{Found, is, operator_of, turn, turn_by, is_comparison}
+use Rattle.spl_reading.specs.Readers.{Parser, Got, same_symbol, symbol_number, by_symbol, pure, repeat, turns, followed, and_then}
+use Rattle.spl_reading.specs.ReadExpressions.{Found, is, operator_of, turn, turn_by, is_comparison}
 use Rattle.spl_grammar.specs.Following.{Stops, Follow, behind}
 use Rattle.spl_grammar.proofs.NearReaders.{Near, near_last, near_else, near_pure, near_head}
 

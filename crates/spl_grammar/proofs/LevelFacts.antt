@@ -10,7 +10,7 @@ use Rattle.spl_tree.specs.Expressions as g
 use Rattle.spl_tree.specs.OpenExpressions as op
 use Rattle.spl_tree.specs.OpenExpressions.{Part, Step, Opens, here, inner, OpensAt, limit, nesting}
 use Rattle.spl_tree.specs.Trees as tree
-use Rattle.spl_grammar.specs.ReadExpressions.{Found, operator_of, begins, is_comparison}
+use Rattle.spl_reading.specs.ReadExpressions.{Found, operator_of, begins, is_comparison}
 pub use Rattle.spl_grammar.specs.Answers.{SpelledCondition}
 
 -- the same behind an equal list

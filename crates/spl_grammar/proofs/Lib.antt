@@ -7,7 +7,6 @@ pub mod FollowLemmas
 pub mod ExpressionClaims
 pub mod CompleteLevels
 pub mod CompleteExpressions
-pub mod SameSymbol
 pub mod ExplainReaders
 pub mod SoundOperands
 pub mod LevelFacts
@@ -43,10 +42,7 @@ pub mod DeepStatements
 pub mod DeepSteps
 pub mod ChainLengths
 pub mod ReachLaws
-pub mod KnownParts
 pub mod LocalDeclarations
-pub mod KnownUnits
-pub mod KnownDeclarations
 pub mod CompleteParts
 pub mod CompleteHeadings
 pub mod DeclarationFronts

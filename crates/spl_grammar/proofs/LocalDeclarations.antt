@@ -10,10 +10,10 @@ use Rattle.spl_tree.specs.Symbols.{Lexeme}
 use Rattle.spl_tree.specs.DeclarationTrees as decl
 use Rattle.spl_tree.specs.DeclarationTrees.{Placed}
 use Rattle.spl_tree.specs.Declarations.{Options, pointers}
-use Rattle.spl_grammar.specs.Readers.{Outcome, Got, Bad, Parser, expect, by_symbol, refuse, same_symbol, take, pure}
-use Rattle.spl_grammar.specs.ReadExpressions.{constant, is}
-use Rattle.spl_grammar.specs.ReadStatements.{statement}
-use Rattle.spl_grammar.specs.ReadDeclarations.{more_parts, separated, name, names, item, shape, array, more_arrays, arrays, more_terms, equal, by_token, option_among, option_behind, more_options, options, parameters, spec_names, spec_behind, spec_by, more_specs, heading_tail, heading, BodyRead, array_data, item_data, behind_heading, procedure, subroutine, owned_by, typed_by, typed, by_word, declaration_by, declaration, more_declarations, declaration_list, body, next_segment, unit}
+use Rattle.spl_reading.specs.Readers.{Outcome, Got, Bad, Parser, expect, by_symbol, refuse, same_symbol, take, pure}
+use Rattle.spl_reading.specs.ReadExpressions.{constant, is}
+use Rattle.spl_reading.specs.ReadStatements.{statement}
+use Rattle.spl_reading.specs.ReadDeclarations.{more_parts, separated, name, names, item, shape, array, more_arrays, arrays, more_terms, equal, by_token, option_among, option_behind, more_options, options, parameters, spec_names, spec_behind, spec_by, more_specs, heading_tail, heading, BodyRead, array_data, item_data, behind_heading, procedure, subroutine, owned_by, typed_by, typed, by_word, declaration_by, declaration, more_declarations, declaration_list, body, next_segment, unit}
 use Rattle.spl_grammar.proofs.LocalReaders.{IsLocal, Left, entire, Agrees, here, there, Like, got, end_of, local_pure, local_refuse, local_take, local_then, local_symbol, local_if, local_expect, local_repeat, locals, Takes, Taking, takes_take, takes_then, takes_symbol, takes_if, takes_refuse, taking, taking_none, taking_if, taking_symbol}
 use Rattle.spl_grammar.proofs.LocalExpressions.{local_constant}
 use Rattle.spl_grammar.proofs.LocalStatements.{local_statement, local_list}
@@ -170,7 +170,7 @@ pub takes_more_specs : (ss : List decl.Spec) (ts : List Lexeme) → Taking (leng
 unfolding more_specs
 takes_more_specs ss = taking_symbol (takes_spec_by ss)
 
-local_specs : (ss : List decl.Spec) → IsLocal (Rattle.spl_grammar.specs.Readers.repeat more_specs ss)
+local_specs : (ss : List decl.Spec) → IsLocal (Rattle.spl_reading.specs.Readers.repeat more_specs ss)
 local_specs ss = local_repeat ss local_more_specs takes_more_specs
 
 local_tail : IsLocal heading_tail

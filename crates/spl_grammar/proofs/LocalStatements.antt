@@ -8,13 +8,13 @@ use Rattle.spl_tree.specs.declared.symbols.Reserved.TheVariants as w
 use Rattle.spl_tree.specs.Symbols.{Lexeme}
 use Rattle.spl_tree.specs.Trees.{Tree}
 use Rattle.spl_tree.specs.StatementTrees as stat
-use Rattle.spl_grammar.specs.Readers.{Parser, refuse}
-use Rattle.spl_grammar.specs.ReadExpressions.{enter, within, expression, condition}
-use Rattle.spl_grammar.specs.ReadStatements.{indexed, reference, source_behind, source, while_or_until, move, scan, effect, test, value, assigned, field_assigned, behind_reference, stepped, go_name, more_statements, statement_list, labelled, with_arguments, named_statement, address_assigned, block, else_behind, if_statement, while_statement, do_statement, for_statement, case_statement, go_statement, effect_statement, by_word, statement_by, statement_step, statement}
+use Rattle.spl_reading.specs.Readers.{Parser, refuse}
+use Rattle.spl_reading.specs.ReadExpressions.{enter, within, expression, condition}
+use Rattle.spl_reading.specs.ReadStatements.{indexed, reference, source_behind, source, while_or_until, move, scan, effect, if_test, value, assigned, field_assigned, behind_reference, stepped, go_name, more_statements, statement_list, labelled, with_arguments, named_statement, address_assigned, block, else_behind, if_statement, while_statement, do_statement, for_statement, case_statement, go_statement, effect_statement, by_word, statement_by, statement_step, statement}
 use Rattle.spl_grammar.proofs.LocalReaders.{IsLocal, local_pure, local_refuse, local_take, local_then, local_symbol, local_if, local_allowed, local_expect, local_repeat, locals, Taking, takes_take, takes_then, taking, taking_none, taking_if, taking_symbol}
 use Rattle.spl_grammar.proofs.LocalExpressions.{local_constant, local_enclosed, local_arguments, local_within, local_expression, local_condition}
 
-local_boxed : (room : ℕ) → IsLocal (Rattle.spl_grammar.specs.ReadExpressions.enclosed room refuse (within room 0) 0)
+local_boxed : (room : ℕ) → IsLocal (Rattle.spl_reading.specs.ReadExpressions.enclosed room refuse (within room 0) 0)
 local_boxed room = local_enclosed room refuse (within room 0) 0 local_refuse (local_within room 0)
 
 local_indexed : (room : ℕ) (t : Lexeme) → IsLocal (indexed room t)
@@ -41,8 +41,8 @@ pub local_effect : (room : ℕ) → IsLocal (effect room)
 unfolding effect move scan
 local_effect room = search (locals, local_reference, local_source, local_until, local_expression) depth 9
 
-pub local_test : (room : ℕ) → IsLocal (test room)
-unfolding test
+pub local_test : (room : ℕ) → IsLocal (if_test room)
+unfolding if_test
 local_test room = search (locals, local_condition) depth 7
 
 local_value : (room : ℕ) (to : stat.Target) (at : At) → IsLocal (value room to at)

@@ -7,9 +7,9 @@ use Rattle.spl_tree.specs.OpenExpressions as op
 use Rattle.spl_tree.specs.OpenExpressions.{Opens, limit, nesting}
 use Rattle.spl_tree.specs.Parts as of_kind
 use Rattle.spl_tree.specs.Parts.{Part}
-use Rattle.spl_grammar.specs.Readers.{Outcome, Got, Bad, Deep, Parser}
-use Rattle.spl_grammar.specs.ReadExpressions.{expression, condition}
-use Rattle.spl_grammar.specs.ReadStatements.{statement}
+use Rattle.spl_reading.specs.Readers.{Outcome, Got, Bad, Deep, Parser}
+use Rattle.spl_reading.specs.ReadExpressions.{expression, condition}
+use Rattle.spl_reading.specs.ReadStatements.{statement}
 use Rattle.spl_grammar.specs.Answers.{DeepBefore, deep, Reaches, sinks, goes_on, ChainsReach, DeepFirst, Longest, FaultFirst}
 use Rattle.spl_grammar.specs.Following as af
 use Rattle.spl_grammar.proofs.LocalReaders as lr

@@ -16,15 +16,15 @@ use Rattle.spl_tree.specs.DeclarationTrees as decl
 use Rattle.spl_tree.specs.DeclarationTrees.{Placed, declarations}
 use Rattle.spl_tree.specs.Declarations as dl
 use Rattle.spl_tree.specs.Declarations.{Options, no_options, is_subroutine, pointers}
-use Rattle.spl_grammar.specs.Readers.{Parser, followed, ◌>>=◌, pure, refuse, take, repeat, by_symbol, expect}
-use Rattle.spl_grammar.specs.ReadExpressions.{is}
-use Rattle.spl_grammar.specs.ReadStatements.{statement}
-use Rattle.spl_grammar.specs.ReadDeclarations.{separated, names, item, arrays, equal, options, heading, BodyRead, array_data, item_data, behind_heading, procedure, subroutine, owned_by, typed_by, typed, by_word, declaration_by, declaration, declares, more_declarations, declaration_list}
+use Rattle.spl_reading.specs.Readers.{Parser, followed, ◌>>=◌, pure, refuse, take, repeat, by_symbol, expect}
+use Rattle.spl_reading.specs.ReadExpressions.{is}
+use Rattle.spl_reading.specs.ReadStatements.{statement}
+use Rattle.spl_reading.specs.ReadDeclarations.{separated, names, item, arrays, equal, options, heading, BodyRead, array_data, item_data, behind_heading, procedure, subroutine, owned_by, typed_by, typed, by_word, declaration_by, declaration, declares, more_declarations, declaration_list}
 use Rattle.spl_grammar.specs.UnitLaws.{SpelledDeclaration}
 use Rattle.spl_grammar.specs.Answers.{Explains, bad}
 use Rattle.spl_grammar.proofs.ExplainReaders.{at_here, explain_then, explain_expect, explain_next, explain_pure, explain_bad, explain_symbol, explain_if, explain_along, reached, along, explain_as}
 use Rattle.spl_grammar.proofs.ExplainReaders as er
-use Rattle.spl_grammar.proofs.SameSymbol.{same_is}
+use Rattle.spl_reading.proofs.SameSymbol.{same_is}
 use Rattle.spl_grammar.proofs.ExplainLoops.{TurnLeaves, goes_on, ends, repeat_explained}
 use Rattle.spl_grammar.proofs.SoundOperands.{is_it, few}
 use Rattle.spl_grammar.proofs.SoundLists.{ahead, names_explained, items_explained, arrays_explained, equals_explained}

@@ -10,10 +10,10 @@ use Rattle.spl_tree.specs.OpenExpressions as op
 use Rattle.spl_tree.specs.OpenExpressions.{Part, Step, Opens, here, inner, OpensAt, limit, nesting}
 use Rattle.spl_tree.specs.Trees as tree
 use Rattle.spl_grammar.proofs.PartTokens as pt
-use Rattle.spl_grammar.specs.Readers.{Bad, Parser, and_then, followed, ◌>>=◌, by_symbol, pure, refuse, take, at_place, repeat, turns, same_symbol, named_number, numbered}
-use Rattle.spl_grammar.specs.ReadExpressions.{Found, is, operator_of, constant, is_comparison, counted, signed_by_next, first, join, shifted, bytes, turn_by, turn, level, whole, unary, expression, within, condition}
+use Rattle.spl_reading.specs.Readers.{Bad, Parser, and_then, followed, ◌>>=◌, by_symbol, pure, refuse, take, at_place, repeat, turns, same_symbol, named_number, numbered}
+use Rattle.spl_reading.specs.ReadExpressions.{Found, is, operator_of, constant, is_comparison, counted, signed_by_next, first, join, shifted, bytes, turn_by, turn, level, whole, unary, expression, within, condition}
 pub use Rattle.spl_grammar.specs.Answers.{SpelledCondition}
-use Rattle.spl_grammar.proofs.SameSymbol.{same_is, both_true, same_number}
+use Rattle.spl_reading.proofs.SameSymbol.{same_is, both_true, same_number}
 use Rattle.spl_grammar.proofs.ExplainReaders.{Explains, bad, stepped, at_here, explain_then, explain_expect, explain_next, explain_pure, explain_symbol, explain_if, recast}
 use Rattle.spl_grammar.proofs.SoundOperands.{Spelled, constant_explained, unary_step_explained, explain_enter, explain_opening, too_many, is_it, one_more, few_more, constant_at}
 pub use Rattle.spl_grammar.proofs.LevelFacts.{level_at, LevelGot, Front, front_below, no_level, operator_is, sign_is, comparison_is, two_tests, comparison_below, below_three, sum_above, comma_step, count_step, close_step, whole_bytes, form_at, all_true, begins_is, LoopGot, TurnGot, free, minus}

@@ -16,9 +16,9 @@ use Rattle.spl_tree.specs.DeclarationTrees as decl
 use Rattle.spl_tree.specs.DeclarationTrees.{Placed}
 use Rattle.spl_tree.specs.Declarations as dl
 use Rattle.spl_tree.specs.Declarations.{Options, both, fit, option_of, no_options}
-use Rattle.spl_grammar.specs.Readers.{◌>>=◌, pure, take, repeat, by_symbol}
-use Rattle.spl_grammar.specs.ReadExpressions.{is}
-use Rattle.spl_grammar.specs.ReadDeclarations.{names, by_token, option_among, option_behind, more_options, options, parameters, spec_names, spec_behind, spec_by, more_specs, heading_tail, heading}
+use Rattle.spl_reading.specs.Readers.{◌>>=◌, pure, take, repeat, by_symbol}
+use Rattle.spl_reading.specs.ReadExpressions.{is}
+use Rattle.spl_reading.specs.ReadDeclarations.{names, by_token, option_among, option_behind, more_options, options, parameters, spec_names, spec_behind, spec_by, more_specs, heading_tail, heading}
 use Rattle.spl_grammar.specs.Answers.{Explains, bad}
 use Rattle.spl_grammar.proofs.ExplainReaders.{at_here, explain_then, explain_expect, explain_next, explain_pure, explain_bad, explain_symbol, explain_if, explain_along, reached, along}
 use Rattle.spl_grammar.proofs.ExplainReaders as er

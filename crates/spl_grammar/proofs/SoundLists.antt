@@ -17,9 +17,9 @@ use Rattle.spl_tree.specs.DeclarationTrees as decl
 use Rattle.spl_tree.specs.DeclarationTrees.{Placed}
 use Rattle.spl_tree.specs.Declarations as dl
 use Rattle.spl_tree.specs.Declarations.{Separated}
-use Rattle.spl_grammar.specs.Readers.{Parser, ◌>>=◌, pure, take, repeat}
-use Rattle.spl_grammar.specs.ReadExpressions.{is, operator_of, constant}
-use Rattle.spl_grammar.specs.ReadDeclarations.{more_parts, separated, name, names, item, shape, array, with_values, more_arrays, arrays, more_terms, equal}
+use Rattle.spl_reading.specs.Readers.{Parser, ◌>>=◌, pure, take, repeat}
+use Rattle.spl_reading.specs.ReadExpressions.{is, operator_of, constant}
+use Rattle.spl_reading.specs.ReadDeclarations.{more_parts, separated, name, names, item, shape, array, with_values, more_arrays, arrays, more_terms, equal}
 use Rattle.spl_grammar.specs.Answers.{Explains}
 use Rattle.spl_grammar.proofs.ExplainReaders.{at_here, explain_then, explain_expect, explain_next, explain_pure, explain_symbol, explain_if, explain_along, reached, along, recast}
 use Rattle.spl_grammar.proofs.ExplainReaders as er

@@ -12,9 +12,9 @@ use Rattle.spl_tree.specs.OpenExpressions as op
 use Rattle.spl_tree.specs.OpenExpressions.{Part, Step, Opens, here, inner, OpensAt, limit, nesting}
 use Rattle.spl_tree.specs.Trees as tree
 use Rattle.spl_grammar.proofs.PartTokens as pt
-use Rattle.spl_grammar.specs.Readers.{Deep, Parser, and_then, followed, ◌>>=◌, ◌>>◌, by_symbol, pure, refuse, take, at_place, allowed, repeat, turns, expect}
-use Rattle.spl_grammar.specs.ReadExpressions.{Found, plain, is, constant, constant_by, signed_by, bits, field, negative_by, enter, opening, enclosed, more_arguments, arguments, named, addressed, primary_by, inverse, primary, unary_step}
-use Rattle.spl_grammar.proofs.SameSymbol.{same_is}
+use Rattle.spl_reading.specs.Readers.{Deep, Parser, and_then, followed, ◌>>=◌, ◌>>◌, by_symbol, pure, refuse, take, at_place, allowed, repeat, turns, expect}
+use Rattle.spl_reading.specs.ReadExpressions.{Found, plain, is, constant, constant_by, signed_by, bits, field, negative_by, enter, opening, enclosed, more_arguments, arguments, named, addressed, primary_by, inverse, primary, unary_step}
+use Rattle.spl_reading.proofs.SameSymbol.{same_is}
 pub use Rattle.spl_grammar.specs.Answers.{Spelled}
 use Rattle.spl_grammar.proofs.ExplainReaders.{Explains, got, bad, deep, stepped, at_here, explain_then, explain_expect, explain_next, explain_pure, explain_bad, explain_symbol, explain_if, explain_along, reached, along, followed_assoc}
 

@@ -16,9 +16,9 @@ use Rattle.spl_tree.specs.StatementTrees as stat
 use Rattle.spl_tree.specs.StatementTrees.{closed, statements}
 use Rattle.spl_tree.specs.Statements as st
 use Rattle.spl_tree.specs.Statements.{class_of, is_relation}
-use Rattle.spl_grammar.specs.Readers.{and_then, followed, ◌>>=◌, pure, refuse, take}
-use Rattle.spl_grammar.specs.ReadExpressions.{is, constant, enclosed, within, expression, condition}
-use Rattle.spl_grammar.specs.ReadStatements.{indexed, reference, source_behind, source, while_or_until, move, scan, effect, begins_effect, value, assigned, field_assigned, behind_reference}
+use Rattle.spl_reading.specs.Readers.{and_then, followed, ◌>>=◌, pure, refuse, take}
+use Rattle.spl_reading.specs.ReadExpressions.{is, constant, enclosed, within, expression, condition}
+use Rattle.spl_reading.specs.ReadStatements.{indexed, reference, source_behind, source, while_or_until, move, scan, effect, begins_effect, value, assigned, field_assigned, behind_reference}
 use Rattle.spl_grammar.specs.Answers.{Explains}
 use Rattle.spl_grammar.proofs.ExplainReaders.{at_here, explain_then, explain_expect, explain_next, explain_pure, explain_bad, explain_symbol, explain_if, explain_along, explain_named, reached, along, followed_assoc, recast, explain_as}
 use Rattle.spl_grammar.proofs.ExplainReaders as er

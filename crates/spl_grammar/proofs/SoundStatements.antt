@@ -17,9 +17,9 @@ use Rattle.spl_tree.specs.StatementTrees as stat
 use Rattle.spl_tree.specs.StatementTrees.{closed, statements}
 use Rattle.spl_tree.specs.Statements as st
 use Rattle.spl_tree.specs.Statements.{class_of, is_relation}
-use Rattle.spl_grammar.specs.Readers.{Parser, and_then, followed, ◌>>=◌, by_symbol, pure, refuse, take, at_place, repeat, turns, same_symbol, expect}
-use Rattle.spl_grammar.specs.ReadExpressions.{is, operator_of, enter, more_arguments, arguments, within, expression, condition}
-use Rattle.spl_grammar.specs.ReadStatements.{effect, test, behind_reference, is_single, stepped, go_name, more_statements, statement_list, labelled, with_arguments, named_statement, address_assigned, block, else_behind, if_statement, while_statement, do_statement, for_statement, case_statement, go_statement, effect_statement, by_word, statement_by, statement_step, statement}
+use Rattle.spl_reading.specs.Readers.{Parser, and_then, followed, ◌>>=◌, by_symbol, pure, refuse, take, at_place, repeat, turns, same_symbol, expect}
+use Rattle.spl_reading.specs.ReadExpressions.{is, operator_of, enter, more_arguments, arguments, within, expression, condition}
+use Rattle.spl_reading.specs.ReadStatements.{effect, if_test, behind_reference, is_single, stepped, go_name, more_statements, statement_list, labelled, with_arguments, named_statement, address_assigned, block, else_behind, if_statement, while_statement, do_statement, for_statement, case_statement, go_statement, effect_statement, by_word, statement_by, statement_step, statement}
 use Rattle.spl_grammar.specs.Answers.{Explains, bad}
 use Rattle.spl_grammar.proofs.ExplainReaders.{at_here, explain_then, explain_expect, explain_next, explain_pure, explain_bad, explain_symbol, explain_if, explain_along, explain_named, reached, along, followed_assoc, recast, explain_as}
 use Rattle.spl_grammar.proofs.ExplainReaders as er
@@ -234,7 +234,7 @@ module _ (most d room below : ℕ) (sum : d + room ≡ most + 0) (one : Parser s
   -- what an IF tests, one construct deeper
   test_explained : (ts : List Lexeme) → nat_lt 0 room ≡ true
       → Explains most (λ x rest. st.Test x ts rest) part.test (suc d) 0 ts (test below ts)
-  unfolding test followed take and_then
+  unfolding if_test followed take and_then
   test_explained ts ok = explain_symbol _ ts (at_here _ _ _ _) (deeper ok)
       (λ t rest q. rw q (explain_if (is_relation (operator_of t.symbol)) _ _ (t ∷ rest)
       (λ e. explain_pure _ rest (st.Test.code (relation_symbol t.symbol e) e))
@@ -265,7 +265,7 @@ module _ (most d room below : ℕ) (sum : d + room ≡ most + 0) (one : Parser s
       (if_statement room below one (i ∷ us))
   unfolding if_statement
   if_explained i us j = entered _ i us (i ∷ us)
-      (λ ok. explain_then (test below) _ (op.of_statement (os.if_test j)) (test_explained us ok) (λ q after v.
+      (λ ok. explain_then (if_test below) _ (op.of_statement (os.if_test j)) (test_explained us ok) (λ q after v.
       explain_expect (s.Word w.Then) _ after (chain (os.if_then j v)) (deeper ok) (λ t rest r k. let v1 = test_at r v in
       explain_then one _ (op.of_statement (os.then_branch j v1 k)) (claim rest ok)
       (λ x more y. else_explained i t us rest more q x ok j v1 k y))))

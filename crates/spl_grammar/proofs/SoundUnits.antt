@@ -16,13 +16,14 @@ use Rattle.spl_tree.specs.DeclarationTrees.{UnitTree, declarations}
 use Rattle.spl_tree.specs.Declarations as dl
 use Rattle.spl_tree.specs.Declarations.{can_be_body, is_subroutine}
 use Rattle.spl_tree.specs.Units.{segment_at, Unit_of, unit}
-use Rattle.spl_grammar.specs.Readers.{Parser, followed, and_then, ◌>>=◌, pure, refuse, take, expect, same_symbol, symbol_number, reserved_number}
-use Rattle.spl_grammar.specs.ReadExpressions.{is}
-use Rattle.spl_grammar.specs.ReadStatements.{statement, statement_list}
-use Rattle.spl_grammar.specs.ReadDeclarations.{declaration_list, body, next_segment, of_segment}
-use Rattle.spl_grammar.specs.ReadDeclarations as rd
+use Rattle.spl_reading.specs.Readers.{Parser, followed, and_then, ◌>>=◌, pure, refuse, take, expect, same_symbol, symbol_number, reserved_number}
+use Rattle.spl_reading.specs.ReadExpressions.{is}
+use Rattle.spl_reading.specs.ReadStatements.{statement, statement_list}
+use Rattle.spl_reading.specs.ReadDeclarations.{declaration_list, body, next_segment, of_segment}
+use Rattle.spl_reading.specs.ReadDeclarations as rd
 use Rattle.spl_grammar.specs.Answers.{Explains, bad}
-use Rattle.spl_grammar.specs.UnitLaws.{SpelledDeclaration, bodies}
+use Rattle.spl_grammar.specs.UnitLaws.{SpelledDeclaration}
+use Rattle.spl_reading.specs.ReadDeclarations.{bodies}
 use Rattle.spl_grammar.proofs.ExplainReaders.{at_here, explain_then, explain_expect, explain_next, explain_pure, explain_bad, explain_symbol, explain_if, explain_as}
 use Rattle.spl_grammar.proofs.ExplainReaders as er
 use Rattle.spl_grammar.proofs.SoundOperands.{is_it, few}

@@ -14,9 +14,9 @@ use Rattle.spl_tree.specs.StatementTrees as stat
 use Rattle.spl_tree.specs.StatementTrees.{closed, statements}
 use Rattle.spl_tree.specs.Statements as st
 use Rattle.spl_tree.specs.Statements.{class_of, is_relation}
-use Rattle.spl_grammar.specs.Readers.{Outcome, Got, Parser, by_symbol, pure, refuse, same_symbol, symbol_number, reserved_number}
-use Rattle.spl_grammar.specs.ReadExpressions.{is, operator_of, enclosed, within, expression, condition}
-use Rattle.spl_grammar.specs.ReadStatements.{indexed, reference, source_behind, source, while_or_until, move, scan, effect, begins_effect, test, value, assigned, field_assigned, behind_reference, is_single, with_arguments, named_statement, address_assigned, statement_by, statement_step}
+use Rattle.spl_reading.specs.Readers.{Outcome, Got, Parser, by_symbol, pure, refuse, same_symbol, symbol_number, reserved_number}
+use Rattle.spl_reading.specs.ReadExpressions.{is, operator_of, enclosed, within, expression, condition}
+use Rattle.spl_reading.specs.ReadStatements.{indexed, reference, source_behind, source, while_or_until, move, scan, effect, begins_effect, if_test, value, assigned, field_assigned, behind_reference, is_single, with_arguments, named_statement, address_assigned, statement_by, statement_step}
 use Rattle.spl_grammar.specs.Following.{Follow, behind, Stops, After}
 use Rattle.spl_grammar.specs.Following as af
 use Rattle.spl_grammar.proofs.NearReaders.{Near, near_to, near_then, near_pure, near_take, near_symbol, near_head, near_if, near_else, near_expect, near_numbered, same_self}
@@ -176,8 +176,8 @@ code_is k op rest e = rw e refl
 
 -- what an IF tests
 pub test_read : {q : stat.Test} {t : Lexeme} {ts rest : List Lexeme} → st.Test q ts (t ∷ rest) → Is (s.Word w.Then) t
-    → (room : ℕ) → Near (test room) ts (t ∷ rest) (Got q (t ∷ rest))
-unfolding test
+    → (room : ℕ) → Near (if_test room) ts (t ∷ rest) (Got q (t ∷ rest))
+unfolding if_test
 test_read (st.Test.condition e) i room = first_else (λ k. is_relation (operator_of k)) _ (condition_no_relation e)
     (near_then _ (cond_read e (follow_stopper i word) room) (near_pure _ _))
 test_read {rest = rest} (st.Test.code {op = op} {t = u} j b) i room = near_symbol _ j

@@ -3,8 +3,8 @@ use Rattle.std.proofs.Common.{ℕ, ◌≡◌, List, ◌∷◌, length, arith, sy
 use Rattle.spl_tree.specs.Symbols.{Lexeme}
 use Rattle.spl_tree.specs.StatementTrees as stat
 use Rattle.spl_tree.specs.Statements as st
-use Rattle.spl_grammar.specs.Readers.{Bad}
-use Rattle.spl_grammar.specs.ReadStatements.{statement}
+use Rattle.spl_reading.specs.Readers.{Bad}
+use Rattle.spl_reading.specs.ReadStatements.{statement}
 use Rattle.spl_grammar.specs.Following.{After}
 use Rattle.spl_grammar.specs.Answers.{Agrees}
 use Rattle.spl_grammar.proofs.LocalStatements.{local_statement}

@@ -6,8 +6,8 @@ use Rattle.spl_tree.specs.DeclarationTrees.{UnitTree}
 use Rattle.spl_tree.specs.OpenExpressions as op
 use Rattle.spl_tree.specs.Parts as part
 use Rattle.spl_tree.specs.Parts.{Part}
-use Rattle.spl_grammar.specs.Readers.{Outcome, Got}
-use Rattle.spl_grammar.specs.ReadDeclarations.{unit}
+use Rattle.spl_reading.specs.Readers.{Outcome, Got}
+use Rattle.spl_reading.specs.ReadDeclarations.{unit}
 use Rattle.spl_grammar.specs.Answers.{Explains, got, bad, deep, end_of}
 use Rattle.spl_grammar.specs.UnitLaws.{SpelledUnit}
 use Rattle.spl_grammar.specs.Ends.{is_stop, Ended, last, before}

@@ -5,8 +5,8 @@ use Rattle.spl_tree.specs.DeclarationTrees.{UnitTree}
 use Rattle.spl_tree.specs.Parts as part
 use Rattle.spl_tree.specs.OpenExpressions.{Part, Opens, limit, nesting}
 use Rattle.spl_tree.specs.Units.{Unit_of}
-use Rattle.spl_grammar.specs.Readers.{Outcome, Got, Bad, Deep}
-use Rattle.spl_grammar.specs.ReadDeclarations.{unit}
+use Rattle.spl_reading.specs.Readers.{Outcome, Got, Bad, Deep}
+use Rattle.spl_reading.specs.ReadDeclarations.{unit}
 use Rattle.spl_grammar.specs.Answers.{DeepBefore, Agrees, Explains, Completes, end_of, got, bad, deep}
 use Rattle.spl_grammar.specs.UnitLaws.{SpelledUnit}
 use Rattle.spl_grammar.proofs.LocalDeclarations.{local_unit}

@@ -1,9 +1,9 @@
 -- No chain of a declaration or of a unit goes further than its reader.
 use Rattle.std.proofs.Common.{ℕ, Bool, [], ◌∷◌, refl, inr}
 use Rattle.spl_tree.specs.Parts as part
-use Rattle.spl_grammar.specs.ReadDeclarations.{unit}
+use Rattle.spl_reading.specs.ReadDeclarations.{unit}
 use Rattle.spl_grammar.specs.Answers.{ChainsReach}
-use Rattle.spl_grammar.specs.UnitLaws.{bodies, declaration_of}
+use Rattle.spl_reading.specs.ReadDeclarations.{bodies, declaration_of}
 use Rattle.spl_grammar.proofs.LocalDeclarations.{local_declaration, local_unit}
 use Rattle.spl_grammar.proofs.CompleteUnits.{unit_read}
 use Rattle.spl_grammar.proofs.CompletedUnits.{a_declaration, a_unit, all_completed}

@@ -8,8 +8,8 @@ use Rattle.spl_tree.specs.OpenExpressions.{OpensAt, limit, nesting}
 use Rattle.spl_tree.specs.Parts as part
 use Rattle.spl_tree.specs.Parts.{Part}
 use Rattle.spl_tree.specs.Units.{Unit_of}
-use Rattle.spl_grammar.specs.Readers.{Outcome, Got, Bad, Deep}
-use Rattle.spl_grammar.specs.ReadDeclarations.{unit}
+use Rattle.spl_reading.specs.Readers.{Outcome, Got, Bad, Deep}
+use Rattle.spl_reading.specs.ReadDeclarations.{unit}
 use Rattle.spl_grammar.specs.Answers.{DeepBefore, deep, Agrees, here, there, Reaches, sinks, goes_on}
 use Rattle.spl_grammar.specs.Answers as an
 use Rattle.spl_grammar.specs.UnitLaws.{SpelledUnit}

@@ -5,7 +5,7 @@ use Rattle.spl_tree.specs.Operators.{Form}
 use Rattle.spl_tree.specs.Expressions as g
 use Rattle.spl_tree.specs.OpenExpressions.{Part, Opens, OpensAt, limit, nesting}
 use Rattle.spl_tree.specs.Trees as tree
-use Rattle.spl_grammar.specs.Readers.{Outcome, Got, Bad, Deep, Parser}
+use Rattle.spl_reading.specs.Readers.{Outcome, Got, Bad, Deep, Parser}
 
 -- too deep where more tokens than these are left
 pub data DeepBefore {A : Type 0} (n : ℕ) : Outcome A → Type 0 where

@@ -6,8 +6,8 @@ use Rattle.spl_tree.specs.Symbols.{Lexeme, Is}
 use Rattle.spl_tree.specs.DeclarationTrees.{UnitTree}
 use Rattle.spl_tree.specs.Parts as part
 use Rattle.spl_tree.specs.OpenExpressions.{Part, Opens}
-use Rattle.spl_grammar.specs.Readers.{Got}
-use Rattle.spl_grammar.specs.ReadDeclarations.{unit}
+use Rattle.spl_reading.specs.Readers.{Got}
+use Rattle.spl_reading.specs.ReadDeclarations.{unit}
 
 -- the symbol of the end of the text
 abbrev pub is_stop : Symbol → Bool

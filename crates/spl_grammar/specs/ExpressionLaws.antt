@@ -6,8 +6,8 @@ use Rattle.spl_tree.specs.Expressions as g
 use Rattle.spl_tree.specs.OpenExpressions as op
 use Rattle.spl_tree.specs.OpenExpressions.{limit}
 use Rattle.spl_tree.specs.Trees as tree
-use Rattle.spl_grammar.specs.Readers.{Got, Bad}
-use Rattle.spl_grammar.specs.ReadExpressions.{expression, condition}
+use Rattle.spl_reading.specs.Readers.{Got, Bad}
+use Rattle.spl_reading.specs.ReadExpressions.{expression, condition}
 use Rattle.spl_grammar.specs.Following.{Follow}
 use Rattle.spl_grammar.specs.Answers.{DeepBefore, Agrees, Explains, Spelled, SpelledCondition, Completes, ChainsReach, DeepFirst, Longest, FaultFirst}
 

@@ -7,7 +7,7 @@ use Rattle.spl_tree.specs.Symbols.{Lexeme, Is}
 use Rattle.spl_tree.specs.StatementTrees as stat
 use Rattle.spl_tree.specs.StatementTrees.{closed}
 use Rattle.spl_tree.specs.Operators.{binds}
-use Rattle.spl_grammar.specs.ReadExpressions.{is, operator_of}
+use Rattle.spl_reading.specs.ReadExpressions.{is, operator_of}
 
 -- The symbol can't go on with a part of level h: it is no dot and no "(", no operator of that level or one below, no
 -- `&`

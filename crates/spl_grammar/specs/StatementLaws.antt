@@ -5,8 +5,8 @@ use Rattle.spl_tree.specs.Parts as part
 use Rattle.spl_tree.specs.OpenExpressions.{Part, Opens, limit}
 use Rattle.spl_tree.specs.StatementTrees as stat
 use Rattle.spl_tree.specs.Statements as st
-use Rattle.spl_grammar.specs.Readers.{Got, Bad}
-use Rattle.spl_grammar.specs.ReadStatements.{statement}
+use Rattle.spl_reading.specs.Readers.{Got, Bad}
+use Rattle.spl_reading.specs.ReadStatements.{statement}
 use Rattle.spl_grammar.specs.Following.{After}
 use Rattle.spl_grammar.specs.Answers.{DeepBefore, Agrees, Explains, Completes, ChainsReach, DeepFirst, Longest, FaultFirst}
 

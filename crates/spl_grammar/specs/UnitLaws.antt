@@ -12,8 +12,8 @@ use Rattle.spl_tree.specs.OpenExpressions.{Part, Opens, limit, nesting}
 use Rattle.spl_tree.specs.Units.{Unit_of}
 use Rattle.spl_tree.specs.Views.{letters}
 use Rattle.spl_tree.specs.Spells.{Spells, unit_tree}
-use Rattle.spl_grammar.specs.Readers.{Got, Bad, Parser, refuse}
-use Rattle.spl_grammar.specs.ReadDeclarations.{BodyRead, declaration, body, unit}
+use Rattle.spl_reading.specs.Readers.{Got, Bad, Parser, refuse}
+use Rattle.spl_reading.specs.ReadDeclarations.{BodyRead, declaration, body, bodies, declaration_of, unit}
 use Rattle.spl_grammar.specs.Answers.{DeepBefore, Agrees, Explains, Completes, ChainsReach, DeepFirst, Longest, FaultFirst}
 
 -- What is spelled as a unit is read, unless it is too deep before its end.
@@ -58,10 +58,6 @@ pub record SpelledDeclaration (procedures after : Bool) (segment : ℕ) (x : dec
   pub spelled : dl.Declaration procedures segment x ts rest
   pub fits : (is_subroutine x || not after) ≡ true
 
--- how the bodies of procedures are read: in a procedure none is declared
-abbrev pub bodies : ℕ → Bool → ℕ → Parser BodyRead
-bodies room procedures = if procedures then body room else (λ _. refuse)
-
 -- What is read as a declaration is spelled; a fault comes behind tokens that open one, at most as deep as may be; and
 -- where it is too deep, the tokens up to and with that one open more. Here d constructs are open around it.
 abbrev pub DeclarationsAreExplained : Type 0
@@ -103,10 +99,6 @@ abbrev pub UnitFaultsAreFirst : Type 0
 UnitFaultsAreFirst = (room : ℕ) (t : Lexeme) (us ts : List Lexeme) → unit room ts ≡ Bad (t ∷ us)
     → Completes (λ vs rest. rest ≡ [] → (u : UnitTree) × Unit_of u vs) ts (t ∷ us) ×
     ((vs more : List Lexeme) → Agrees us vs ts more → (u : UnitTree) → Unit_of u more → ⊥)
-
--- the reader of a declaration: of a unit, or else of a body; behind a subroutine or not; in this segment
-abbrev pub declaration_of : Bool → Bool → ℕ → ℕ → Parser decl.Declaration
-declaration_of procedures after segment room = declaration room (bodies room procedures) procedures after segment
 
 -- Each chain of a declaration goes no further than what is read, whatever the segment.
 abbrev pub DeclarationsReach : Type 0

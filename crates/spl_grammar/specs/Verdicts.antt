@@ -6,8 +6,8 @@ use Rattle.spl_tree.specs.DeclarationTrees.{UnitTree}
 use Rattle.spl_tree.specs.Parts as part
 use Rattle.spl_tree.specs.OpenExpressions.{Part, Opens, OpensAt, limit, nesting}
 use Rattle.spl_tree.specs.Units.{Unit_of}
-use Rattle.spl_grammar.specs.Readers.{Outcome, Got, Bad, Deep}
-use Rattle.spl_grammar.specs.ReadDeclarations.{unit}
+use Rattle.spl_reading.specs.Readers.{Outcome, Got, Bad, Deep}
+use Rattle.spl_reading.specs.ReadDeclarations.{unit}
 use Rattle.spl_grammar.specs.Answers.{Agrees}
 use Rattle.spl_grammar.specs.Ends.{Ended}
 

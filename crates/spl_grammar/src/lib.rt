@@ -1,4 +1,4 @@
-//! Reading by the grammar: what each rule makes of a list of tokens, and the laws that tie it to the grammar.
+//! The laws that tie reading by the grammar to the grammar.
 #![tactic(auto)]
 
 mod expression_laws;

@@ -9,8 +9,8 @@ use Rattle.spl_tree.specs.Symbols.{Lexeme, Is}
 use Rattle.spl_tree.specs.Operators.{Form, reference, other, form_of_call}
 use Rattle.spl_tree.specs.Expressions as g
 use Rattle.spl_tree.specs.Trees as tree
-use Rattle.spl_grammar.specs.Readers.{Got, Parser, by_symbol, expect, followed, pure, same_symbol, symbol_number}
-use Rattle.spl_grammar.specs.ReadExpressions.{Found, plain, is, bits, field, negative_by, opening, enter, enclosed, arguments, named, addressed, primary_by, inverse, primary, unary_step, unary, within}
+use Rattle.spl_reading.specs.Readers.{Got, Parser, by_symbol, expect, followed, pure, same_symbol, symbol_number}
+use Rattle.spl_reading.specs.ReadExpressions.{Found, plain, is, bits, field, negative_by, opening, enter, enclosed, arguments, named, addressed, primary_by, inverse, primary, unary_step, unary, within}
 use Rattle.spl_grammar.proofs.LocalReaders.{IsLocal, local_refuse, local_pure, local_then, local_repeat, locals}
 use Rattle.spl_grammar.proofs.LocalExpressions.{local_constant, local_field, local_more, local_within, local_unary, takes_more}
 use Rattle.spl_grammar.proofs.NearReaders.{Near, near_from, near_then, near_pure, near_take, near_place, near_symbol, near_head, near_if, near_else, near_expect, same_self}

@@ -9,7 +9,7 @@ use Rattle.spl_tree.specs.declared.symbols.Symbol.TheVariants as s
 use Rattle.spl_tree.specs.Symbols.{Lexeme}
 use Rattle.spl_tree.specs.OpenExpressions.{OpensAt, limit, nesting}
 use Rattle.spl_tree.specs.Trees.{Tree}
-use Rattle.spl_grammar.specs.Readers.{Outcome, Got, Bad, Deep}
+use Rattle.spl_reading.specs.Readers.{Outcome, Got, Bad, Deep}
 use Rattle.spl_grammar.specs.Answers as an
 use Rattle.spl_grammar.specs.Answers.{Explains, Spelled, SpelledCondition, ChainsReach, Reaches, Agrees}
 use Rattle.spl_grammar.specs.Ends.{Ended}

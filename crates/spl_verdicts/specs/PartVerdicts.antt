@@ -7,8 +7,8 @@ use Rattle.spl_tree.specs.Operators.{Form}
 use Rattle.spl_tree.specs.Expressions as g
 use Rattle.spl_tree.specs.Trees.{Tree}
 use Rattle.spl_tree.specs.OpenExpressions.{Part, level, Opens, OpensAt, limit, nesting}
-use Rattle.spl_grammar.specs.Readers.{Outcome, Got, Bad, Deep, Parser}
-use Rattle.spl_grammar.specs.ReadExpressions.{expression, condition}
+use Rattle.spl_reading.specs.Readers.{Outcome, Got, Bad, Deep, Parser}
+use Rattle.spl_reading.specs.ReadExpressions.{expression, condition}
 use Rattle.spl_grammar.specs.Answers.{Agrees}
 use Rattle.spl_grammar.specs.Ends.{Ended}
 

@@ -1,5 +1,5 @@
 use Rattle.std.proofs.Common.{arith}
-use Rattle.spl_grammar.specs.ReadStatements.{statement}
+use Rattle.spl_reading.specs.ReadStatements.{statement}
 use Rattle.spl_grammar.proofs.SoundStatements.{statement_explained}
 use Rattle.spl_grammar.proofs.ExplainReaders.{explain_as}
 use Rattle.spl_grammar.proofs.statement_laws.statements_are_explained.Goals as goal

@@ -1,0 +1,4 @@
+pub mod SameSymbol
+pub mod KnownParts
+pub mod KnownUnits
+pub mod KnownDeclarations

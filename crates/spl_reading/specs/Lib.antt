@@ -1,0 +1,4 @@
+pub mod Readers
+pub mod ReadExpressions
+pub mod ReadStatements
+pub mod ReadDeclarations
