@@ -13,10 +13,10 @@ use Rattle.spl_cuts.specs.Signs.{Sign, word, number, wide, chars, mark, stop, Pl
 use Rattle.spl_grammar.specs.Ends as ends
 use Rattle.spl_grammar.specs.Ends.{is_stop, Ended}
 use Rattle.spl_pieces.specs.SignViews.{sign_of}
-use Rattle.spl_lexer.specs.Whole.{is_end, Ends, last, before}
+use Rattle.spl_cuts.specs.Whole.{is_end, Ends, last, before}
 use Rattle.spl_lexer.specs.TokenViews.{placed_of, listed_of}
 use Rattle.spl_parser.specs.Answers.{tokens_of}
-use Rattle.spl_front.specs.Lexemes.{sign_symbol, sign_letters, lexeme, lexemes}
+use Rattle.spl_cuts.specs.Lexemes.{sign_symbol, sign_letters, lexeme, lexemes}
 
 -- No word and no mark is the end.
 

@@ -18,7 +18,7 @@ use Rattle.spl_cuts.specs.declared.faults.LexKind.TheVariants as lex
 use Rattle.spl_cuts.specs.declared.faults.LexFault.{LexFault}
 use Rattle.spl_cuts.specs.Signs.{Listed}
 use Rattle.spl_cuts.specs.Cutting.{CutsWithin, FirstFault}
-use Rattle.spl_grammar.specs.Readers.{Outcome, Got, Bad, Deep}
+use Rattle.spl_reading.specs.Readers.{Outcome, Got, Bad, Deep}
 use Rattle.spl_grammar.specs.Answers.{end_of}
 use Rattle.spl_grammar.specs.Verdicts.{Verdict, spelled, refused, too_deep}
 use Rattle.spl_tokens.specs.declared.faults.ParseFault.{ParseFault}
@@ -27,12 +27,12 @@ use Rattle.spl_lexer.specs.TokenViews.{listed_of}
 use Rattle.spl_lexer.specs.ReaderViews as reader
 use Rattle.spl_parser.specs.Answers as pa
 use Rattle.spl_parser.specs.Answers.{tokens_of, Exact}
-use Rattle.spl_front.specs.declared.faults.Kind.{Kind}
-use Rattle.spl_front.specs.declared.faults.Kind.TheVariants as kind
+use Rattle.spl_tree.specs.declared.fault_kinds.FaultKind.{FaultKind}
+use Rattle.spl_tree.specs.declared.fault_kinds.FaultKind.TheVariants as kind
 use Rattle.spl_front.specs.declared.faults.UnitFault.{UnitFault}
 use Rattle.spl_front.specs.declared.faults.UnitFault.TheVariants as fault
 use Rattle.spl_front.specs.Kinds.{kind_of}
-use Rattle.spl_front.specs.Lexemes.{lexemes}
+use Rattle.spl_cuts.specs.Lexemes.{lexemes}
 use Rattle.spl_front.specs.Fronts.{Source, source_of, Spells, HasFault, of_tokens, of_spelling, of_depth, Tells, Gives, Refuses, with_kind, lex_fault_of, Stands, parse_fault_of}
 use Rattle.spl_front.proofs.EndLemmas.{lexemes_are}
 
@@ -61,7 +61,7 @@ no_fault k at e = rw e refl
 gives_nothing : (s : Source) (f : UnitFault) → f ≡ fault.NoMemory → Gives (Err f) s
 gives_nothing s f e = rw e tt
 
-refuses_nothing : (k : Kind) (at : At) (f : UnitFault) → f ≡ fault.NoMemory → Refuses (Err f) k at
+refuses_nothing : (k : FaultKind) (at : At) (f : UnitFault) → f ≡ fault.NoMemory → Refuses (Err f) k at
 refuses_nothing k at f e = rw e tt
 
 -- a text that spells a unit has none
@@ -71,11 +71,11 @@ pub lex_gives : (unit : ℕ) (text : List ℕ) (f : LexFault)
 lex_gives unit text f h s v = gives_nothing s (lex_fault_of f) (no_fault f.kind f.at (h v.listed v.cut))
 
 -- and one that has this one has no other
-same_fault : (k l : LexKind) (at there : At) (j : Kind) → kind_of l ≡ Some j → k ≡ l → at ≡ there
+same_fault : (k l : LexKind) (at there : At) (j : FaultKind) → kind_of l ≡ Some j → k ≡ l → at ≡ there
     → Refuses (Err (with_kind (kind_of k) at)) j there
 same_fault k l at there j e f g = rw (f, e, g) (refl, refl)
 
-lex_or_none : (f : LexFault) (l : LexKind) (at : At) (j : Kind) → kind_of l ≡ Some j
+lex_or_none : (f : LexFault) (l : LexKind) (at : At) (j : FaultKind) → kind_of l ≡ Some j
     → ((f.kind ≢ lex.NoMemory) → (f.kind ≡ l) × (f.at ≡ at)) → Refuses (Err (lex_fault_of f)) j at
 lex_or_none f l at j e h = go f.kind h
   where
@@ -93,7 +93,7 @@ lex_or_none f l at j e h = go f.kind h
 pub lex_refuses : (unit : ℕ) (text : List ℕ) (f : LexFault)
     → ((x : Listed) → CutsWithin unit 262144 text x → reader.Gives (Err f) x)
     → ((l : LexKind) (at : At) → FirstFault unit 262144 text l at → reader.Refuses (Err f) l at)
-    → (j : Kind) (at : At) → HasFault unit text j at → Refuses (Err (lex_fault_of f)) j at
+    → (j : FaultKind) (at : At) → HasFault unit text j at → Refuses (Err (lex_fault_of f)) j at
 lex_refuses unit text f g h j at (of_tokens l e v) = lex_or_none f l at j e (h l at v)
 lex_refuses unit text f g h j at (of_spelling x c v) = refuses_nothing j at (lex_fault_of f) (no_fault f.kind f.at (g x c))
 lex_refuses unit text f g h j at (of_depth x c v) = refuses_nothing j at (lex_fault_of f) (no_fault f.kind f.at (g x c))
@@ -143,7 +143,7 @@ unit_gives unit text x u g a q s v = let e = g v.listed v.cut in
 pub unit_refuses : (unit : ℕ) (text : List ℕ) (x : Lexed) (u : SplUnit)
     → ((y : Listed) → CutsWithin unit 262144 text y → reader.Gives (Ok x) y)
     → ((l : LexKind) (at : At) → FirstFault unit 262144 text l at → reader.Refuses (Ok x) l at) → Exact x (Ok u)
-    → (j : Kind) (at : At) → HasFault unit text j at → Refuses (Ok u) j at
+    → (j : FaultKind) (at : At) → HasFault unit text j at → Refuses (Ok u) j at
 unit_refuses unit text x u g h q j at (of_tokens l e v) = h l at v
 unit_refuses unit text x u g h q j at (of_spelling {t = t} {rest = rest} y c v) =
     let e = q (Bad (t ∷ rest)) (same_list x y (g y c) v) in cc
@@ -202,7 +202,7 @@ parse_gives unit text x parse.NoMemory g q s v = tt
 pub parse_refuses : (unit : ℕ) (text : List ℕ) (x : Lexed) (f : ParseFault)
     → ((y : Listed) → CutsWithin unit 262144 text y → reader.Gives (Ok x) y)
     → ((l : LexKind) (at : At) → FirstFault unit 262144 text l at → reader.Refuses (Ok x) l at) → Exact x (Err f)
-    → (j : Kind) (at : At) → HasFault unit text j at → Refuses (Err (parse_fault_of x f)) j at
+    → (j : FaultKind) (at : At) → HasFault unit text j at → Refuses (Err (parse_fault_of x f)) j at
 parse_refuses unit text x (parse.Syntax n) g h q j at (of_tokens l e v) = absurd (h l at v)
 parse_refuses unit text x (parse.Syntax n) g h q j at (of_spelling {t = t} {rest = rest} y c v) =
     let e = q (Bad (t ∷ rest)) (same_list x y (g y c) v) in (refl, sym (ap (λ o. place (end_of o)) e))

@@ -12,17 +12,17 @@ use Rattle.spl_cuts.specs.declared.faults.LexKind.{LexKind}
 use Rattle.spl_cuts.specs.declared.faults.LexFault.{LexFault}
 use Rattle.spl_cuts.specs.Signs.{Listed}
 use Rattle.spl_cuts.specs.Cutting.{CutsWithin, FirstFault}
-use Rattle.spl_grammar.specs.Readers.{Got, Bad, Deep}
+use Rattle.spl_reading.specs.Readers.{Got, Bad, Deep}
 use Rattle.spl_grammar.specs.Verdicts.{Verdict}
 use Rattle.spl_tokens.specs.declared.faults.ParseFault.{ParseFault}
 use Rattle.spl_tokens.specs.declared.faults.ParseFault.TheVariants as parse
 use Rattle.spl_parser.specs.Answers.{tokens_of}
-use Rattle.spl_front.specs.declared.faults.Kind.{Kind}
-use Rattle.spl_front.specs.declared.faults.Kind.TheVariants as kind
+use Rattle.spl_tree.specs.declared.fault_kinds.FaultKind.{FaultKind}
+use Rattle.spl_tree.specs.declared.fault_kinds.FaultKind.TheVariants as kind
 use Rattle.spl_front.specs.declared.faults.UnitFault.{UnitFault}
 use Rattle.spl_front.specs.declared.faults.UnitFault.TheVariants as fault
 use Rattle.spl_front.specs.Kinds.{kind_of}
-use Rattle.spl_front.specs.Lexemes.{lexemes}
+use Rattle.spl_cuts.specs.Lexemes.{lexemes}
 
 -- the most tokens that may arise in a text
 abbrev pub most_tokens : ℕ
@@ -47,8 +47,8 @@ pub record Spells (unit : ℕ) (text : List ℕ) (s : Source) : Type 0 where
 
 -- The text's first fault: one of its tokens; or it is cut into tokens, and there is a first one that no unit goes on with, or a
 -- first one at which more is open than may be.
-pub data HasFault (unit : ℕ) (text : List ℕ) : Kind → At → Type 0 where
-  of_tokens : {k : Kind} {at : At} (l : LexKind) → kind_of l ≡ Some k → FirstFault unit most_tokens text l at
+pub data HasFault (unit : ℕ) (text : List ℕ) : FaultKind → At → Type 0 where
+  of_tokens : {k : FaultKind} {at : At} (l : LexKind) → kind_of l ≡ Some k → FirstFault unit most_tokens text l at
       → HasFault unit text k at
   of_spelling : {t : Lexeme} {rest : List Lexeme} (x : Listed) → CutsWithin unit most_tokens text x
       → Verdict (lexemes x) (Bad (t ∷ rest)) → HasFault unit text kind.Syntax t.at
@@ -67,13 +67,13 @@ Gives (Err (fault.Fault kind at)) s = ⊥
 Gives (Err fault.NoMemory) s = Unit {0}
 
 -- the answer is this fault, unless memory was wanting
-abbrev pub Refuses : Result SplUnit UnitFault → Kind → At → Type 0
+abbrev pub Refuses : Result SplUnit UnitFault → FaultKind → At → Type 0
 Refuses (Ok u) k at = ⊥
 Refuses (Err (fault.Fault kind there)) k at = (kind ≡ k) × (there ≡ at)
 Refuses (Err fault.NoMemory) k at = Unit {0}
 
 -- a fault of tokens
-abbrev pub with_kind : Option Kind → At → UnitFault
+abbrev pub with_kind : Option FaultKind → At → UnitFault
 with_kind None at = fault.NoMemory
 with_kind (Some k) at = fault.Fault k at
 

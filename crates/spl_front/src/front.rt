@@ -1,14 +1,14 @@
 //! A unit, from its text.
 ghost use Rattle.std.specs.Prelude.{◌≡◌, ◌<◌, ◌≤◌, length, IfOk, IfErr};
 ghost use Rattle.spl_tree.specs.declared.names_and_places.At as places;
-ghost use Rattle.spl_front.specs.declared.faults.Kind as kinds;
+ghost use Rattle.spl_tree.specs.declared.fault_kinds.FaultKind as kinds;
 ghost use Rattle.spl_front.specs.Fronts.{Source, source_of, Spells, HasFault, Tells, Gives, Refuses, lex_fault_of, parse_fault_of, Stands};
 
-use crate::faults::{Kind, UnitFault, kind_of};
+use crate::faults::{UnitFault, kind_of};
 use spl_cuts::LexFault;
 use spl_lexer::tokens;
 use spl_parser::{ParseFault, parse};
-use spl_tree::{Lexed, SplUnit};
+use spl_tree::{FaultKind, Lexed, SplUnit};
 use std::alloc::Global;
 
 /// A fault of tokens.
@@ -28,11 +28,11 @@ fn of_spelling(lexed: &Lexed, fault: ParseFault) -> UnitFault
 {
     match fault {
         ParseFault::Syntax { at } => UnitFault::Fault {
-            kind: Kind::Syntax,
+            kind: FaultKind::Syntax,
             at: lexed.tokens[at as usize].at,
         },
         ParseFault::TooDeep { at } => UnitFault::Fault {
-            kind: Kind::TooDeep,
+            kind: FaultKind::TooDeep,
             at: lexed.tokens[at as usize].at,
         },
         ParseFault::NoMemory => UnitFault::NoMemory,
@@ -48,7 +48,7 @@ pub fn read_unit(alloc: Global, text: &[u8], unit: u8) -> Result<SplUnit, UnitFa
 
     // A text that spells a unit gives that unit, and one that has a fault that fault.
     ensures units { (s : Source) → Spells unit text.now s → Gives result s }
-    ensures faults { (kind : kinds.Kind) (at : places.At) → HasFault unit text.now kind at → Refuses result kind at }
+    ensures faults { (kind : kinds.FaultKind) (at : places.At) → HasFault unit text.now kind at → Refuses result kind at }
 {
     match tokens(alloc, text, unit) {
         Err(fault) => Err(of_tokens(fault)),

@@ -6,5 +6,5 @@ mod front;
 #[cfg(test)]
 mod tests;
 
-pub use faults::{Kind, UnitFault};
+pub use faults::UnitFault;
 pub use front::read_unit;

@@ -31,7 +31,7 @@ fn compare(rt: &impl Abort, alloc: Global, cases: &[(&str, &str)]) -> Result<(),
     Ok(())
 }
 
-static TREES: [(&str, &str); 58] = [
+static TREES: [(&str, &str); 60] = [
     ("BEGIN END.", "{|_}"),
     ("BEGIN ; ; END.", "{|_;_;_}"),
     ("begin integer i; i:=1; end.", "{INTEGER I;|I:=1;_}"),
@@ -198,6 +198,15 @@ static TREES: [(&str, &str); 58] = [
         "{|A:=(65531*B);A:=(4294967291D+B);A:=(-5);A:=(B-5)}",
     ),
     (
+        "BEGIN A:=-0; A:=-32768; A:=-65535; A:=-4294967295D END.",
+        "{|A:=0;A:=32768;A:=1;A:=1D}",
+    ),
+    // a command inside a DEFINE is in force behind it
+    (
+        "BEGIN DEFINE T=\n$CONTROL SEGMENT=TWO\nI:=1#; T END.",
+        "{|I:=1}@1",
+    ),
+    (
         "BEGIN A:=-%17&LSL(1); A:=-1.(0:4) END.",
         "{|A:=(65521&LSL 1);A:=(65535.0:4)}",
     ),
@@ -256,7 +265,7 @@ fn texts_with_their_trees(rt: HostRuntime) -> Result<(), Fail> {
     compare(&rt, rt.alloc(), &TREES)
 }
 
-static FAULTS: [(&str, &str); 44] = [
+static FAULTS: [(&str, &str); 45] = [
     ("", "SYNTAX 1 1"),
     ("BEGIN", "SYNTAX 1 6"),
     ("BEGIN\n", "SYNTAX 2 1"),
@@ -271,6 +280,7 @@ static FAULTS: [(&str, &str); 44] = [
     ("BEGIN M:=\"A END.", "OPENSTRING 1 10"),
     ("BEGIN I:=ABCDEFGHIJKLMNOP END.", "NAMETOOLONG 1 10"),
     ("BEGIN I:=65536 END.", "NUMBERTOOLARGE 1 10"),
+    ("BEGIN I:=-65536 END.", "NUMBERTOOLARGE 1 11"),
     ("BEGIN DEFINE T=2 END.", "BADDEFINE 1 22"),
     ("BEGIN DEFINE T=2#, END=3#; END.", "BADDEFINE 1 20"),
     // a fault of tokens comes first, wherever it stands

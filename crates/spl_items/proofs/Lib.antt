@@ -1,1 +1,4 @@
 pub mod ItemLemmas
+pub mod SpecLemmas
+pub mod OptionLemmas
+pub mod TreeLemmas

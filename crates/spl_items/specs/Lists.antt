@@ -11,10 +11,10 @@ use Rattle.spl_tree.specs.declared.declarations.Spec.{Spec}
 use Rattle.spl_tree.specs.declared.symbols.Symbol.TheVariants as s
 use Rattle.spl_tree.specs.declared.symbols.Reserved.TheVariants as w
 use Rattle.spl_tree.specs.declared.expressions.Kind.TheVariants as kind
-use Rattle.spl_grammar.specs.ReadDeclarations as d
+use Rattle.spl_reading.specs.ReadDeclarations as d
 use Rattle.spl_tree.specs.Symbols.{Lexeme}
-use Rattle.spl_grammar.specs.Readers.{Parser, ◌>>=◌, by_symbol, take, expect, pure}
-use Rattle.spl_grammar.specs.ReadExpressions as r
+use Rattle.spl_reading.specs.Readers.{Parser, ◌>>=◌, by_symbol, take, expect, pure}
+use Rattle.spl_reading.specs.ReadExpressions as r
 use Rattle.spl_tree.specs.Trees as tree
 use Rattle.spl_tree.specs.StatementTrees as stat
 use Rattle.spl_tree.specs.DeclarationTrees as decl

@@ -5,9 +5,9 @@ ghost use Rattle.spl_tree.specs.DeclarationTrees as decl;
 ghost use Rattle.spl_tree.specs.Declarations as decls;
 ghost use Rattle.spl_tree.specs.Views as view;
 ghost use Rattle.spl_tree.specs.Spells as spells;
-ghost use Rattle.spl_grammar.specs.Readers as readers;
-ghost use Rattle.spl_grammar.specs.ReadExpressions as expressions;
-ghost use Rattle.spl_grammar.specs.ReadDeclarations as spec;
+ghost use Rattle.spl_reading.specs.Readers as readers;
+ghost use Rattle.spl_reading.specs.ReadExpressions as expressions;
+ghost use Rattle.spl_reading.specs.ReadDeclarations as spec;
 ghost use Rattle.spl_tokens.specs.Reads.{Reads, lexeme, paired};
 ghost use Rattle.spl_items.specs.Lists as lists;
 
@@ -30,7 +30,7 @@ fn shaped(token: &Token, shape: Shape, first: Vec<Const>) -> Item
 }
 
 /// A variable, with its value where it has one.
-#[tactic(auto, using(spl_tokens::proofs::Steps::steps), unfolding(spl_grammar::specs::Readers::pure, spl_grammar::specs::Readers::refuse, spl_grammar::specs::Readers::followed, spl_grammar::specs::Readers::and_then, spl_grammar::specs::ReadDeclarations::item))]
+#[tactic(auto, using(spl_tokens::proofs::Steps::steps), unfolding(spl_reading::specs::Readers::pure, spl_reading::specs::Readers::refuse, spl_reading::specs::Readers::followed, spl_reading::specs::Readers::and_then, spl_reading::specs::ReadDeclarations::item))]
 fn item(alloc: Global, tokens: &mut Tokens<'_>) -> Result<Item, Fault>
     ensures { Reads spells.item_tree (spec.item tokens.old) result tokens.new }
 {
@@ -45,7 +45,7 @@ fn item(alloc: Global, tokens: &mut Tokens<'_>) -> Result<Item, Fault>
 }
 
 /// A further variable, and whether another may follow.
-#[tactic(auto, using(spl_tokens::proofs::Steps::steps, spl_tokens::proofs::Steps::pushed), unfolding(spl_grammar::specs::Readers::pure, spl_grammar::specs::Readers::refuse, spl_grammar::specs::Readers::followed, spl_grammar::specs::Readers::and_then, spl_grammar::specs::ReadDeclarations::more_parts))]
+#[tactic(auto, using(spl_tokens::proofs::Steps::steps, spl_tokens::proofs::Steps::pushed), unfolding(spl_reading::specs::Readers::pure, spl_reading::specs::Readers::refuse, spl_reading::specs::Readers::followed, spl_reading::specs::Readers::and_then, spl_reading::specs::ReadDeclarations::more_parts))]
 fn further_item(
     alloc: Global,
     tokens: &mut Tokens<'_>,
@@ -64,7 +64,7 @@ fn further_item(
 }
 
 /// The further variables.
-#[tactic(auto, using(spl_tokens::proofs::Steps::steps, spl_tokens::proofs::Turns::loops), unfolding(spl_grammar::specs::Readers::pure, spl_grammar::specs::Readers::refuse, spl_grammar::specs::Readers::followed, spl_grammar::specs::Readers::and_then))]
+#[tactic(auto, using(spl_tokens::proofs::Steps::steps, spl_tokens::proofs::Turns::loops), unfolding(spl_reading::specs::Readers::pure, spl_reading::specs::Readers::refuse, spl_reading::specs::Readers::followed, spl_reading::specs::Readers::and_then))]
 fn more_items(alloc: Global, tokens: &mut Tokens<'_>, read: Vec<Item>) -> Result<Vec<Item>, Fault>
     ensures { Reads lists.items (readers.repeat (spec.more_parts spec.item) (lists.items read) tokens.old) result tokens.new }
 {
@@ -80,7 +80,7 @@ fn more_items(alloc: Global, tokens: &mut Tokens<'_>, read: Vec<Item>) -> Result
 }
 
 /// Variables, parted by commas.
-#[tactic(auto, using(spl_tokens::proofs::Steps::steps), unfolding(spl_grammar::specs::Readers::pure, spl_grammar::specs::Readers::refuse, spl_grammar::specs::Readers::followed, spl_grammar::specs::Readers::and_then, spl_grammar::specs::ReadDeclarations::separated))]
+#[tactic(auto, using(spl_tokens::proofs::Steps::steps), unfolding(spl_reading::specs::Readers::pure, spl_reading::specs::Readers::refuse, spl_reading::specs::Readers::followed, spl_reading::specs::Readers::and_then, spl_reading::specs::ReadDeclarations::separated))]
 pub fn items(alloc: Global, tokens: &mut Tokens<'_>) -> Result<Vec<Item>, Fault>
     ensures { Reads lists.items (spec.separated spec.item tokens.old) result tokens.new }
 {
@@ -89,7 +89,7 @@ pub fn items(alloc: Global, tokens: &mut Tokens<'_>) -> Result<Vec<Item>, Fault>
 }
 
 /// A further constant, and whether another may follow.
-#[tactic(auto, using(spl_tokens::proofs::Steps::steps, spl_tokens::proofs::Steps::pushed), unfolding(spl_grammar::specs::Readers::pure, spl_grammar::specs::Readers::refuse, spl_grammar::specs::Readers::followed, spl_grammar::specs::Readers::and_then, spl_grammar::specs::ReadDeclarations::more_parts))]
+#[tactic(auto, using(spl_tokens::proofs::Steps::steps, spl_tokens::proofs::Steps::pushed), unfolding(spl_reading::specs::Readers::pure, spl_reading::specs::Readers::refuse, spl_reading::specs::Readers::followed, spl_reading::specs::Readers::and_then, spl_reading::specs::ReadDeclarations::more_parts))]
 fn further_constant(
     alloc: Global,
     tokens: &mut Tokens<'_>,
@@ -108,7 +108,7 @@ fn further_constant(
 }
 
 /// The further constants.
-#[tactic(auto, using(spl_tokens::proofs::Steps::steps, spl_tokens::proofs::Turns::loops), unfolding(spl_grammar::specs::Readers::pure, spl_grammar::specs::Readers::refuse, spl_grammar::specs::Readers::followed, spl_grammar::specs::Readers::and_then))]
+#[tactic(auto, using(spl_tokens::proofs::Steps::steps, spl_tokens::proofs::Turns::loops), unfolding(spl_reading::specs::Readers::pure, spl_reading::specs::Readers::refuse, spl_reading::specs::Readers::followed, spl_reading::specs::Readers::and_then))]
 fn more_constants(
     alloc: Global,
     tokens: &mut Tokens<'_>,
@@ -128,7 +128,7 @@ fn more_constants(
 }
 
 /// Constants, parted by commas.
-#[tactic(auto, using(spl_tokens::proofs::Steps::steps), unfolding(spl_grammar::specs::Readers::pure, spl_grammar::specs::Readers::refuse, spl_grammar::specs::Readers::followed, spl_grammar::specs::Readers::and_then, spl_grammar::specs::ReadDeclarations::separated))]
+#[tactic(auto, using(spl_tokens::proofs::Steps::steps), unfolding(spl_reading::specs::Readers::pure, spl_reading::specs::Readers::refuse, spl_reading::specs::Readers::followed, spl_reading::specs::Readers::and_then, spl_reading::specs::ReadDeclarations::separated))]
 fn constants(alloc: Global, tokens: &mut Tokens<'_>) -> Result<Vec<Const>, Fault>
     ensures { Reads lists.constants (spec.separated expressions.constant tokens.old) result tokens.new }
 {
@@ -137,7 +137,7 @@ fn constants(alloc: Global, tokens: &mut Tokens<'_>) -> Result<Vec<Const>, Fault
 }
 
 /// The base of a view, from its star on.
-#[tactic(auto, using(spl_tokens::proofs::Steps::steps), unfolding(spl_grammar::specs::Readers::pure, spl_grammar::specs::Readers::refuse, spl_grammar::specs::Readers::followed, spl_grammar::specs::Readers::and_then))]
+#[tactic(auto, using(spl_tokens::proofs::Steps::steps), unfolding(spl_reading::specs::Readers::pure, spl_reading::specs::Readers::refuse, spl_reading::specs::Readers::followed, spl_reading::specs::Readers::and_then))]
 fn base(tokens: &mut Tokens<'_>) -> Result<Shape, Fault>
     ensures { Reads spells.shape_tree (lists.base tokens.old) result tokens.new }
 {
@@ -149,7 +149,7 @@ fn base(tokens: &mut Tokens<'_>) -> Result<Shape, Fault>
 }
 
 /// The bounds of an array.
-#[tactic(auto, using(spl_tokens::proofs::Steps::steps), unfolding(spl_grammar::specs::Readers::pure, spl_grammar::specs::Readers::refuse, spl_grammar::specs::Readers::followed, spl_grammar::specs::Readers::and_then))]
+#[tactic(auto, using(spl_tokens::proofs::Steps::steps), unfolding(spl_reading::specs::Readers::pure, spl_reading::specs::Readers::refuse, spl_reading::specs::Readers::followed, spl_reading::specs::Readers::and_then))]
 fn bounds(alloc: Global, tokens: &mut Tokens<'_>) -> Result<Shape, Fault>
     ensures { Reads spells.shape_tree (lists.bounds tokens.old) result tokens.new }
 {
@@ -161,7 +161,7 @@ fn bounds(alloc: Global, tokens: &mut Tokens<'_>) -> Result<Shape, Fault>
 }
 
 /// The bounds of an array, or the base of a view.
-#[tactic(auto, using(spl_tokens::proofs::Steps::steps), unfolding(spl_grammar::specs::Readers::pure, spl_grammar::specs::Readers::refuse, spl_grammar::specs::Readers::followed, spl_grammar::specs::Readers::and_then, spl_grammar::specs::ReadDeclarations::shape))]
+#[tactic(auto, using(spl_tokens::proofs::Steps::steps), unfolding(spl_reading::specs::Readers::pure, spl_reading::specs::Readers::refuse, spl_reading::specs::Readers::followed, spl_reading::specs::Readers::and_then, spl_reading::specs::ReadDeclarations::shape))]
 fn shape(alloc: Global, tokens: &mut Tokens<'_>) -> Result<Shape, Fault>
     ensures { Reads spells.shape_tree (spec.shape tokens.old) result tokens.new }
 {
@@ -173,7 +173,7 @@ fn shape(alloc: Global, tokens: &mut Tokens<'_>) -> Result<Shape, Fault>
 }
 
 /// An array or a view.
-#[tactic(auto, using(spl_tokens::proofs::Steps::steps), unfolding(spl_grammar::specs::Readers::pure, spl_grammar::specs::Readers::refuse, spl_grammar::specs::Readers::followed, spl_grammar::specs::Readers::and_then, spl_grammar::specs::ReadDeclarations::array))]
+#[tactic(auto, using(spl_tokens::proofs::Steps::steps), unfolding(spl_reading::specs::Readers::pure, spl_reading::specs::Readers::refuse, spl_reading::specs::Readers::followed, spl_reading::specs::Readers::and_then, spl_reading::specs::ReadDeclarations::array))]
 fn array(alloc: Global, tokens: &mut Tokens<'_>) -> Result<Item, Fault>
     ensures { Reads spells.item_tree (spec.array tokens.old) result tokens.new }
 {
@@ -196,7 +196,7 @@ fn with_values(item: Item, first: Vec<Const>) -> Item
 }
 
 /// What goes on with a list of arrays: a further one, or the values of the last; and whether another may follow.
-#[tactic(auto, using(spl_tokens::proofs::Steps::steps, spl_tokens::proofs::Steps::pushed), unfolding(spl_grammar::specs::Readers::pure, spl_grammar::specs::Readers::refuse, spl_grammar::specs::Readers::followed, spl_grammar::specs::Readers::and_then, spl_grammar::specs::ReadDeclarations::more_arrays))]
+#[tactic(auto, using(spl_tokens::proofs::Steps::steps, spl_tokens::proofs::Steps::pushed), unfolding(spl_reading::specs::Readers::pure, spl_reading::specs::Readers::refuse, spl_reading::specs::Readers::followed, spl_reading::specs::Readers::and_then, spl_reading::specs::ReadDeclarations::more_arrays))]
 fn further_array(
     alloc: Global,
     tokens: &mut Tokens<'_>,
@@ -222,7 +222,7 @@ fn further_array(
 }
 
 /// The further arrays.
-#[tactic(auto, using(spl_tokens::proofs::Steps::steps, spl_tokens::proofs::Turns::loops), unfolding(spl_grammar::specs::Readers::pure, spl_grammar::specs::Readers::refuse, spl_grammar::specs::Readers::followed, spl_grammar::specs::Readers::and_then))]
+#[tactic(auto, using(spl_tokens::proofs::Steps::steps, spl_tokens::proofs::Turns::loops), unfolding(spl_reading::specs::Readers::pure, spl_reading::specs::Readers::refuse, spl_reading::specs::Readers::followed, spl_reading::specs::Readers::and_then))]
 fn more_arrays(
     alloc: Global,
     tokens: &mut Tokens<'_>,
@@ -244,7 +244,7 @@ fn more_arrays(
 }
 
 /// Arrays and views, parted by commas, with the values of the last.
-#[tactic(auto, using(spl_tokens::proofs::Steps::steps, spl_tokens::proofs::Steps::pushed), unfolding(spl_grammar::specs::Readers::pure, spl_grammar::specs::Readers::refuse, spl_grammar::specs::Readers::followed, spl_grammar::specs::Readers::and_then, spl_grammar::specs::ReadDeclarations::arrays))]
+#[tactic(auto, using(spl_tokens::proofs::Steps::steps, spl_tokens::proofs::Steps::pushed), unfolding(spl_reading::specs::Readers::pure, spl_reading::specs::Readers::refuse, spl_reading::specs::Readers::followed, spl_reading::specs::Readers::and_then, spl_reading::specs::ReadDeclarations::arrays))]
 pub fn arrays(alloc: Global, tokens: &mut Tokens<'_>) -> Result<Vec<Item>, Fault>
     ensures { Reads lists.items (spec.arrays tokens.old) result tokens.new }
 {

@@ -2,8 +2,8 @@
 ghost use Rattle.std.specs.Prelude.{◌≡◌, [], ◌∷◌};
 ghost use Rattle.spl_tree.specs.Spells as spells;
 ghost use Rattle.spl_tree.specs.DeclarationTrees as decl;
-ghost use Rattle.spl_grammar.specs.Readers as readers;
-ghost use Rattle.spl_grammar.specs.ReadDeclarations as spec;
+ghost use Rattle.spl_reading.specs.Readers as readers;
+ghost use Rattle.spl_reading.specs.ReadDeclarations as spec;
 ghost use Rattle.spl_tokens.specs.Reads.{Reads, paired};
 ghost use Rattle.spl_items.specs.Lists as lists;
 
@@ -15,7 +15,7 @@ use std::alloc::Global;
 type Equal = (Name, At, Vec<(bool, Const)>);
 
 /// A further part of a sum, and whether another may follow.
-#[tactic(auto, using(spl_tokens::proofs::Steps::steps, spl_tokens::proofs::Steps::pushed), unfolding(spl_grammar::specs::Readers::pure, spl_grammar::specs::Readers::refuse, spl_grammar::specs::Readers::followed, spl_grammar::specs::Readers::and_then, spl_grammar::specs::ReadDeclarations::more_terms))]
+#[tactic(auto, using(spl_tokens::proofs::Steps::steps, spl_tokens::proofs::Steps::pushed), unfolding(spl_reading::specs::Readers::pure, spl_reading::specs::Readers::refuse, spl_reading::specs::Readers::followed, spl_reading::specs::Readers::and_then, spl_reading::specs::ReadDeclarations::more_terms))]
 fn further_term(
     alloc: Global,
     tokens: &mut Tokens<'_>,
@@ -36,7 +36,7 @@ fn further_term(
 }
 
 /// The further parts.
-#[tactic(auto, using(spl_tokens::proofs::Steps::steps, spl_tokens::proofs::Turns::loops), unfolding(spl_grammar::specs::Readers::pure, spl_grammar::specs::Readers::refuse, spl_grammar::specs::Readers::followed, spl_grammar::specs::Readers::and_then))]
+#[tactic(auto, using(spl_tokens::proofs::Steps::steps, spl_tokens::proofs::Turns::loops), unfolding(spl_reading::specs::Readers::pure, spl_reading::specs::Readers::refuse, spl_reading::specs::Readers::followed, spl_reading::specs::Readers::and_then))]
 fn more_terms(
     alloc: Global,
     tokens: &mut Tokens<'_>,
@@ -56,7 +56,7 @@ fn more_terms(
 }
 
 /// A name for a sum.
-#[tactic(auto, using(spl_tokens::proofs::Steps::steps), unfolding(spl_grammar::specs::Readers::pure, spl_grammar::specs::Readers::refuse, spl_grammar::specs::Readers::followed, spl_grammar::specs::Readers::and_then, spl_grammar::specs::ReadDeclarations::equal))]
+#[tactic(auto, using(spl_tokens::proofs::Steps::steps), unfolding(spl_reading::specs::Readers::pure, spl_reading::specs::Readers::refuse, spl_reading::specs::Readers::followed, spl_reading::specs::Readers::and_then, spl_reading::specs::ReadDeclarations::equal))]
 fn equal(alloc: Global, tokens: &mut Tokens<'_>) -> Result<Equal, Fault>
     ensures { Reads lists.equal (spec.equal tokens.old) result tokens.new }
 {
@@ -68,7 +68,7 @@ fn equal(alloc: Global, tokens: &mut Tokens<'_>) -> Result<Equal, Fault>
 }
 
 /// A further one, and whether another may follow.
-#[tactic(auto, using(spl_tokens::proofs::Steps::steps, spl_tokens::proofs::Steps::pushed), unfolding(spl_grammar::specs::Readers::pure, spl_grammar::specs::Readers::refuse, spl_grammar::specs::Readers::followed, spl_grammar::specs::Readers::and_then, spl_grammar::specs::ReadDeclarations::more_parts))]
+#[tactic(auto, using(spl_tokens::proofs::Steps::steps, spl_tokens::proofs::Steps::pushed), unfolding(spl_reading::specs::Readers::pure, spl_reading::specs::Readers::refuse, spl_reading::specs::Readers::followed, spl_reading::specs::Readers::and_then, spl_reading::specs::ReadDeclarations::more_parts))]
 fn further(
     alloc: Global,
     tokens: &mut Tokens<'_>,
@@ -87,7 +87,7 @@ fn further(
 }
 
 /// The further ones.
-#[tactic(auto, using(spl_tokens::proofs::Steps::steps, spl_tokens::proofs::Turns::loops), unfolding(spl_grammar::specs::Readers::pure, spl_grammar::specs::Readers::refuse, spl_grammar::specs::Readers::followed, spl_grammar::specs::Readers::and_then))]
+#[tactic(auto, using(spl_tokens::proofs::Steps::steps, spl_tokens::proofs::Turns::loops), unfolding(spl_reading::specs::Readers::pure, spl_reading::specs::Readers::refuse, spl_reading::specs::Readers::followed, spl_reading::specs::Readers::and_then))]
 fn more(alloc: Global, tokens: &mut Tokens<'_>, read: Vec<Equal>) -> Result<Vec<Equal>, Fault>
     ensures { Reads lists.equals (readers.repeat (spec.more_parts spec.equal) (lists.equals read) tokens.old) result tokens.new }
 {
@@ -103,7 +103,7 @@ fn more(alloc: Global, tokens: &mut Tokens<'_>, read: Vec<Equal>) -> Result<Vec<
 }
 
 /// Names for sums, parted by commas.
-#[tactic(auto, using(spl_tokens::proofs::Steps::steps), unfolding(spl_grammar::specs::Readers::pure, spl_grammar::specs::Readers::refuse, spl_grammar::specs::Readers::followed, spl_grammar::specs::Readers::and_then, spl_grammar::specs::ReadDeclarations::separated))]
+#[tactic(auto, using(spl_tokens::proofs::Steps::steps), unfolding(spl_reading::specs::Readers::pure, spl_reading::specs::Readers::refuse, spl_reading::specs::Readers::followed, spl_reading::specs::Readers::and_then, spl_reading::specs::ReadDeclarations::separated))]
 pub fn equals(alloc: Global, tokens: &mut Tokens<'_>) -> Result<Vec<Equal>, Fault>
     ensures { Reads lists.equals (spec.separated spec.equal tokens.old) result tokens.new }
 {

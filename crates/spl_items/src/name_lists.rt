@@ -1,8 +1,8 @@
 //! Lists of names.
 ghost use Rattle.std.specs.Prelude.{◌≡◌};
 ghost use Rattle.spl_tree.specs.Spells as spells;
-ghost use Rattle.spl_grammar.specs.Readers as readers;
-ghost use Rattle.spl_grammar.specs.ReadDeclarations as spec;
+ghost use Rattle.spl_reading.specs.Readers as readers;
+ghost use Rattle.spl_reading.specs.ReadDeclarations as spec;
 ghost use Rattle.spl_tokens.specs.Reads.{Reads, paired};
 ghost use Rattle.spl_items.specs.Lists as lists;
 
@@ -11,7 +11,7 @@ use spl_tree::{At, Name, Symbol};
 use std::alloc::Global;
 
 /// A name with its place.
-#[tactic(auto, using(spl_tokens::proofs::Steps::steps), unfolding(spl_grammar::specs::Readers::pure, spl_grammar::specs::Readers::refuse, spl_grammar::specs::Readers::followed, spl_grammar::specs::Readers::and_then, spl_grammar::specs::ReadDeclarations::name))]
+#[tactic(auto, using(spl_tokens::proofs::Steps::steps), unfolding(spl_reading::specs::Readers::pure, spl_reading::specs::Readers::refuse, spl_reading::specs::Readers::followed, spl_reading::specs::Readers::and_then, spl_reading::specs::ReadDeclarations::name))]
 fn placed(tokens: &mut Tokens<'_>) -> Result<(Name, At), Fault>
     ensures { Reads spells.placed (spec.name tokens.old) result tokens.new }
 {
@@ -20,7 +20,7 @@ fn placed(tokens: &mut Tokens<'_>) -> Result<(Name, At), Fault>
 }
 
 /// A further name, and whether another may follow.
-#[tactic(auto, using(spl_tokens::proofs::Steps::steps, spl_tokens::proofs::Steps::pushed), unfolding(spl_grammar::specs::Readers::pure, spl_grammar::specs::Readers::refuse, spl_grammar::specs::Readers::followed, spl_grammar::specs::Readers::and_then, spl_grammar::specs::ReadDeclarations::more_parts))]
+#[tactic(auto, using(spl_tokens::proofs::Steps::steps, spl_tokens::proofs::Steps::pushed), unfolding(spl_reading::specs::Readers::pure, spl_reading::specs::Readers::refuse, spl_reading::specs::Readers::followed, spl_reading::specs::Readers::and_then, spl_reading::specs::ReadDeclarations::more_parts))]
 fn further(tokens: &mut Tokens<'_>, read: Vec<(Name, At)>) -> Result<(bool, Vec<(Name, At)>), Fault>
     ensures { Reads (paired lists.names) (spec.more_parts spec.name (lists.names read) tokens.old) result tokens.new }
 {
@@ -35,7 +35,7 @@ fn further(tokens: &mut Tokens<'_>, read: Vec<(Name, At)>) -> Result<(bool, Vec<
 }
 
 /// The further names.
-#[tactic(auto, using(spl_tokens::proofs::Steps::steps, spl_tokens::proofs::Turns::loops), unfolding(spl_grammar::specs::Readers::pure, spl_grammar::specs::Readers::refuse, spl_grammar::specs::Readers::followed, spl_grammar::specs::Readers::and_then))]
+#[tactic(auto, using(spl_tokens::proofs::Steps::steps, spl_tokens::proofs::Turns::loops), unfolding(spl_reading::specs::Readers::pure, spl_reading::specs::Readers::refuse, spl_reading::specs::Readers::followed, spl_reading::specs::Readers::and_then))]
 fn more(tokens: &mut Tokens<'_>, read: Vec<(Name, At)>) -> Result<Vec<(Name, At)>, Fault>
     ensures { Reads lists.names (readers.repeat (spec.more_parts spec.name) (lists.names read) tokens.old) result tokens.new }
 {
@@ -51,7 +51,7 @@ fn more(tokens: &mut Tokens<'_>, read: Vec<(Name, At)>) -> Result<Vec<(Name, At)
 }
 
 /// Names, parted by commas.
-#[tactic(auto, using(spl_tokens::proofs::Steps::steps), unfolding(spl_grammar::specs::Readers::pure, spl_grammar::specs::Readers::refuse, spl_grammar::specs::Readers::followed, spl_grammar::specs::Readers::and_then, spl_grammar::specs::ReadDeclarations::names, spl_grammar::specs::ReadDeclarations::separated))]
+#[tactic(auto, using(spl_tokens::proofs::Steps::steps), unfolding(spl_reading::specs::Readers::pure, spl_reading::specs::Readers::refuse, spl_reading::specs::Readers::followed, spl_reading::specs::Readers::and_then, spl_reading::specs::ReadDeclarations::names, spl_reading::specs::ReadDeclarations::separated))]
 pub fn names(alloc: Global, tokens: &mut Tokens<'_>) -> Result<Vec<(Name, At)>, Fault>
     ensures { Reads lists.names (spec.names tokens.old) result tokens.new }
 {
@@ -60,7 +60,7 @@ pub fn names(alloc: Global, tokens: &mut Tokens<'_>) -> Result<Vec<(Name, At)>, 
 }
 
 /// The names of parameters in parentheses, where there are any.
-#[tactic(auto, using(spl_tokens::proofs::Steps::steps), unfolding(spl_grammar::specs::Readers::pure, spl_grammar::specs::Readers::refuse, spl_grammar::specs::Readers::followed, spl_grammar::specs::Readers::and_then, spl_grammar::specs::ReadDeclarations::parameters))]
+#[tactic(auto, using(spl_tokens::proofs::Steps::steps), unfolding(spl_reading::specs::Readers::pure, spl_reading::specs::Readers::refuse, spl_reading::specs::Readers::followed, spl_reading::specs::Readers::and_then, spl_reading::specs::ReadDeclarations::parameters))]
 pub fn parameters(alloc: Global, tokens: &mut Tokens<'_>) -> Result<Vec<(Name, At)>, Fault>
     ensures { Reads lists.names (spec.parameters tokens.old) result tokens.new }
 {

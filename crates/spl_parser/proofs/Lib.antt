@@ -1,4 +1,2 @@
-pub mod OptionLemmas
 pub mod ParseLemmas
-pub mod TreeLemmas
-pub mod SpecLemmas
+pub mod NameLemmas

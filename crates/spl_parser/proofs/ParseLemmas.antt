@@ -4,8 +4,8 @@ use Rattle.spl_tree.specs.declared.tokens.Lexed.{Lexed}
 use Rattle.spl_tree.specs.declared.units.SplUnit.{SplUnit}
 use Rattle.spl_tree.specs.declared.tokens.Token.{Token}
 use Rattle.std.proofs.lemmas.List.{length-map}
-use Rattle.spl_parser.specs.declared.units.UnitParts.{UnitParts}
-use Rattle.spl_parser.specs.UnitParts.{parts}
+use Rattle.spl_units.specs.declared.units.UnitParts.{UnitParts}
+use Rattle.spl_units.specs.UnitParts.{parts}
 use Rattle.spl_tokens.specs.declared.faults.ParseFault.{ParseFault}
 use Rattle.spl_tree.specs.Symbols.{Lexeme, lexeme_of}
 use Rattle.spl_tree.specs.OpenExpressions.{limit}
@@ -13,8 +13,8 @@ use Rattle.spl_tree.specs.DeclarationTrees.{UnitTree}
 use Rattle.spl_tree.specs.Units.{Unit_of}
 use Rattle.spl_tree.specs.Views.{letters}
 use Rattle.spl_tree.specs.Spells.{unit_tree}
-use Rattle.spl_grammar.specs.Readers.{Outcome, Got, Bad, Deep}
-use Rattle.spl_grammar.specs.ReadDeclarations.{unit}
+use Rattle.spl_reading.specs.Readers.{Outcome, Got, Bad, Deep}
+use Rattle.spl_reading.specs.ReadDeclarations.{unit}
 use Rattle.spl_grammar.specs.Ends.{Ended}
 use Rattle.spl_grammar.specs.Verdicts.{NotTooDeep, Verdict, spelled, refused, too_deep}
 use Rattle.spl_grammar.proofs.LocalReaders.{Left, entire, cut, end_of}

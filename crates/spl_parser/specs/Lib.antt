@@ -1,4 +1,1 @@
-pub mod Headings
-pub mod Nests
-pub mod UnitParts
 pub mod Answers

@@ -1,14 +1,9 @@
-//! Units, read from the tokens of a text.
+//! The parser: the unit that a text's tokens spell, or their first fault.
 #![tactic(auto)]
 
-mod declarations;
-mod headings;
-mod options;
 mod parser;
 #[cfg(test)]
 mod tests;
-mod trees;
-mod units;
 
 pub use parser::parse;
 pub use spl_tokens::ParseFault;

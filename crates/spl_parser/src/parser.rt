@@ -3,12 +3,12 @@ ghost use Rattle.std.specs.Prelude.{◌≡◌, ◌≤◌, ◌-◌, IfOk, map, ve
 ghost use Rattle.spl_tree.specs.Views.{letters};
 ghost use Rattle.spl_tree.specs.Spells.{unit_tree};
 ghost use Rattle.spl_grammar.specs.Ends.{Ended};
-ghost use Rattle.spl_parser.specs.UnitParts.{parts};
+ghost use Rattle.spl_units.specs.UnitParts.{parts};
 ghost use Rattle.spl_parser.specs.Answers.{tokens_of, placed, Answers, Exact};
 
-use crate::units::{UnitParts, unit};
-use spl_tokens::{Fault, ParseFault, Tokens, copied};
+use spl_tokens::{Fault, ParseFault, Tokens};
 use spl_tree::{Lexed, Name, SplUnit};
+use spl_units::{UnitParts, unit};
 use std::alloc::{AllocError, Global};
 
 /// The most constructs that may be open at a token.
@@ -20,7 +20,7 @@ fn all_copied(alloc: Global, names: &[Name]) -> Result<Vec<Name>, AllocError>
 {
     let mut copies = Vec::new(alloc);
     for name in names {
-        copies.push(copied(name))?;
+        copies.push(name.copy())?;
     }
     Ok(copies)
 }

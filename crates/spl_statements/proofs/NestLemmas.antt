@@ -5,11 +5,9 @@ use Rattle.spl_tree.specs.declared.expressions.Expr.{Expr}
 use Rattle.spl_tree.specs.Trees.{Tree, trees}
 use Rattle.spl_tree.specs.Views.{expression}
 use Rattle.spl_tree.specs.Symbols.{Lexeme}
-use Rattle.spl_tree.specs.declared.symbols.Symbol.TheVariants as s
-use Rattle.spl_tree.specs.declared.symbols.Reserved.TheVariants as w
 use Rattle.spl_tree.specs.StatementTrees as stat
-use Rattle.spl_grammar.specs.Readers.{Got, ◌>>=◌, expect, pure}
-use Rattle.spl_grammar.specs.ReadStatements as r
+use Rattle.spl_reading.specs.Readers.{Got, pure}
+use Rattle.spl_reading.specs.ReadStatements as r
 use Rattle.spl_statements.specs.Nests.{inner, below, read, with_one}
 
 -- one construct fewer may be opened there
@@ -26,13 +24,6 @@ pub statement_is : (room : ℕ) (ts : List Lexeme) → r.statement room ts ≡ r
 unfolding r.statement
 statement_is zero ts = refl
 statement_is (suc room) ts = refl
-
--- a MOVE, by its parts
-pub move_is : (room : ℕ) (ts : List Lexeme) → r.move room ts
-    ≡ (expect (s.Word w.Move) >>= λ _. r.reference room >>= λ to. expect s.Assign >>= λ _. r.source room
-    >>= λ from. pure (stat.Effect.move to from)) ts
-unfolding r.move
-move_is room ts = refl
 
 -- arguments that are not one
 pub not_single : (es : List Tree) → (length es ≡ 1 → ⊥) → r.is_single es ≡ false

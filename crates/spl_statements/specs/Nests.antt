@@ -11,8 +11,8 @@ use Rattle.spl_tree.specs.Trees as tree
 use Rattle.spl_tree.specs.Trees.{Tree, trees}
 use Rattle.spl_tree.specs.StatementTrees as stat
 use Rattle.spl_tree.specs.Views as view
-use Rattle.spl_grammar.specs.Readers.{Parser, pure, refuse}
-use Rattle.spl_grammar.specs.ReadStatements as r
+use Rattle.spl_reading.specs.Readers.{Parser, pure, refuse}
+use Rattle.spl_reading.specs.ReadStatements as r
 use Rattle.spl_tokens.specs.declared.faults.Fault.{Fault}
 use Rattle.spl_tokens.specs.Reads.{Reads}
 

@@ -4,22 +4,20 @@ ghost use Rattle.spl_tree.specs.declared.symbols.Symbol.{Symbol};
 ghost use Rattle.spl_tree.specs.Trees as tree;
 ghost use Rattle.spl_tree.specs.StatementTrees as stat;
 ghost use Rattle.spl_tree.specs.Views as view;
-ghost use Rattle.spl_grammar.specs.Readers as readers;
-ghost use Rattle.spl_grammar.specs.ReadStatements as spec;
-ghost use Rattle.spl_expr.specs.Parts.{expressions};
+ghost use Rattle.spl_reading.specs.Readers as readers;
+ghost use Rattle.spl_reading.specs.ReadStatements as spec;
+ghost use Rattle.spl_levels.specs.Parts.{expressions};
 ghost use Rattle.spl_tokens.specs.Reads.{Reads, lexeme, paired};
-ghost use Rattle.spl_statements.specs.References.{behind, statements};
+ghost use Rattle.spl_effects.specs.References.{behind, statements};
 ghost use Rattle.spl_statements.specs.Nests.{Nests};
 ghost use Rattle.spl_statements.specs.Nests as nests;
 
-use crate::assignments::{assigned, behind_reference};
-use crate::effects::{effect, test};
-use crate::references::{element, variable};
 use crate::trees::{
     Values, block, call, case_of, done, empty, for_values, go_to, if_else, if_then, labelled,
     returned, until_true, while_true,
 };
-use spl_expr::{arguments_within, condition_within, enter, expression_within};
+use spl_effects::{assigned, behind_reference, effect, element, test, variable};
+use spl_levels::{arguments_within, condition_within, enter, expression_within};
 use spl_tokens::{Fault, Tokens, name, same};
 use spl_tree::{Expr, Reserved, Stmt, Symbol, Target, Test, Token};
 use std::alloc::Global;
@@ -34,7 +32,7 @@ pub struct Statements<F> {
 }
 
 /// A step, where there is one.
-#[tactic(auto, using(spl_tokens::proofs::Steps::steps), unfolding(spl_grammar::specs::Readers::pure, spl_grammar::specs::Readers::refuse, spl_grammar::specs::Readers::followed, spl_grammar::specs::Readers::and_then, spl_grammar::specs::ReadStatements::stepped))]
+#[tactic(auto, using(spl_tokens::proofs::Steps::steps), unfolding(spl_reading::specs::Readers::pure, spl_reading::specs::Readers::refuse, spl_reading::specs::Readers::followed, spl_reading::specs::Readers::and_then, spl_reading::specs::ReadStatements::stepped))]
 fn stepped(alloc: Global, tokens: &mut Tokens<'_>, room: u8) -> Result<Option<Expr>, Fault>
     ensures { Reads view.optional (spec.stepped room tokens.old) result tokens.new }
 {
@@ -47,7 +45,7 @@ fn stepped(alloc: Global, tokens: &mut Tokens<'_>, room: u8) -> Result<Option<Ex
 }
 
 /// The label behind GO, GO TO or GOTO.
-#[tactic(auto, using(spl_tokens::proofs::Steps::steps), unfolding(spl_grammar::specs::Readers::pure, spl_grammar::specs::Readers::refuse, spl_grammar::specs::Readers::followed, spl_grammar::specs::Readers::and_then, spl_grammar::specs::ReadStatements::go_name))]
+#[tactic(auto, using(spl_tokens::proofs::Steps::steps), unfolding(spl_reading::specs::Readers::pure, spl_reading::specs::Readers::refuse, spl_reading::specs::Readers::followed, spl_reading::specs::Readers::and_then, spl_reading::specs::ReadStatements::go_name))]
 fn go_name(tokens: &mut Tokens<'_>, go: &Token) -> Result<Stmt, Fault>
     ensures { Reads view.statement (spec.go_name (lexeme go.now) tokens.old) result tokens.new }
 {
@@ -56,7 +54,7 @@ fn go_name(tokens: &mut Tokens<'_>, go: &Token) -> Result<Stmt, Fault>
 }
 
 /// A call by a name and its arguments, or an assignment to an element.
-#[tactic(auto, using(spl_tokens::proofs::Steps::steps), unfolding(spl_grammar::specs::Readers::pure, spl_grammar::specs::Readers::refuse, spl_grammar::specs::Readers::followed, spl_grammar::specs::Readers::and_then))]
+#[tactic(auto, using(spl_tokens::proofs::Steps::steps), unfolding(spl_reading::specs::Readers::pure, spl_reading::specs::Readers::refuse, spl_reading::specs::Readers::followed, spl_reading::specs::Readers::and_then))]
 fn with_one(
     alloc: Global,
     tokens: &mut Tokens<'_>,
@@ -94,7 +92,7 @@ impl<F: Fn(Global, &mut Tokens<'_>, u8) -> Result<Stmt, Fault> + Copy> Statement
     }
 
     /// A further statement, and whether another may follow.
-    #[tactic(auto, using(spl_tokens::proofs::Steps::steps, spl_tokens::proofs::Steps::pushed), unfolding(spl_grammar::specs::Readers::pure, spl_grammar::specs::Readers::refuse, spl_grammar::specs::Readers::followed, spl_grammar::specs::Readers::and_then, spl_grammar::specs::ReadStatements::more_statements))]
+    #[tactic(auto, using(spl_tokens::proofs::Steps::steps, spl_tokens::proofs::Steps::pushed), unfolding(spl_reading::specs::Readers::pure, spl_reading::specs::Readers::refuse, spl_reading::specs::Readers::followed, spl_reading::specs::Readers::and_then, spl_reading::specs::ReadStatements::more_statements))]
     fn further(&self, tokens: &mut Tokens<'_>, read: Vec<Stmt>) -> Result<(bool, Vec<Stmt>), Fault>
         requires nests { Nests self.now.room (F.pre self.now.statement) (F.post self.now.statement) }
         requires room { 0 < self.now.room }
@@ -111,7 +109,7 @@ impl<F: Fn(Global, &mut Tokens<'_>, u8) -> Result<Stmt, Fault> + Copy> Statement
     }
 
     /// The further statements.
-    #[tactic(auto, using(spl_tokens::proofs::Steps::steps, spl_tokens::proofs::Turns::loops), unfolding(spl_grammar::specs::Readers::pure, spl_grammar::specs::Readers::refuse, spl_grammar::specs::Readers::followed, spl_grammar::specs::Readers::and_then))]
+    #[tactic(auto, using(spl_tokens::proofs::Steps::steps, spl_tokens::proofs::Turns::loops), unfolding(spl_reading::specs::Readers::pure, spl_reading::specs::Readers::refuse, spl_reading::specs::Readers::followed, spl_reading::specs::Readers::and_then))]
     fn more(&self, tokens: &mut Tokens<'_>, read: Vec<Stmt>) -> Result<Vec<Stmt>, Fault>
         requires nests { Nests self.now.room (F.pre self.now.statement) (F.post self.now.statement) }
         requires room { 0 < self.now.room }
@@ -129,7 +127,7 @@ impl<F: Fn(Global, &mut Tokens<'_>, u8) -> Result<Stmt, Fault> + Copy> Statement
     }
 
     /// Statements.
-    #[tactic(auto, using(spl_tokens::proofs::Steps::steps), unfolding(spl_grammar::specs::Readers::pure, spl_grammar::specs::Readers::refuse, spl_grammar::specs::Readers::followed, spl_grammar::specs::Readers::and_then, spl_grammar::specs::ReadStatements::statement_list))]
+    #[tactic(auto, using(spl_tokens::proofs::Steps::steps), unfolding(spl_reading::specs::Readers::pure, spl_reading::specs::Readers::refuse, spl_reading::specs::Readers::followed, spl_reading::specs::Readers::and_then, spl_reading::specs::ReadStatements::statement_list))]
     pub fn list(&self, tokens: &mut Tokens<'_>) -> Result<Vec<Stmt>, Fault>
         requires nests { Nests self.now.room (F.pre self.now.statement) (F.post self.now.statement) }
         requires room { 0 < self.now.room }
@@ -140,7 +138,7 @@ impl<F: Fn(Global, &mut Tokens<'_>, u8) -> Result<Stmt, Fault> + Copy> Statement
     }
 
     /// A statement behind its label, from the colon on.
-    #[tactic(auto, using(spl_tokens::proofs::Steps::steps), unfolding(spl_grammar::specs::Readers::pure, spl_grammar::specs::Readers::refuse, spl_grammar::specs::Readers::followed, spl_grammar::specs::Readers::and_then, spl_grammar::specs::ReadStatements::labelled))]
+    #[tactic(auto, using(spl_tokens::proofs::Steps::steps), unfolding(spl_reading::specs::Readers::pure, spl_reading::specs::Readers::refuse, spl_reading::specs::Readers::followed, spl_reading::specs::Readers::and_then, spl_reading::specs::ReadStatements::labelled))]
     fn labelled(&self, tokens: &mut Tokens<'_>, token: &Token) -> Result<Stmt, Fault>
         requires nests { Nests self.now.room (F.pre self.now.statement) (F.post self.now.statement) }
         requires name { (lexeme token.now).symbol ≡ Symbol.Name }
@@ -152,7 +150,7 @@ impl<F: Fn(Global, &mut Tokens<'_>, u8) -> Result<Stmt, Fault> + Copy> Statement
     }
 
     /// A statement that begins with a name and a parenthesis.
-    #[tactic(auto, using(spl_tokens::proofs::Steps::steps), unfolding(spl_grammar::specs::Readers::pure, spl_grammar::specs::Readers::refuse, spl_grammar::specs::Readers::followed, spl_grammar::specs::Readers::and_then, spl_grammar::specs::ReadStatements::with_arguments))]
+    #[tactic(auto, using(spl_tokens::proofs::Steps::steps), unfolding(spl_reading::specs::Readers::pure, spl_reading::specs::Readers::refuse, spl_reading::specs::Readers::followed, spl_reading::specs::Readers::and_then, spl_reading::specs::ReadStatements::with_arguments))]
     fn with_arguments(&self, tokens: &mut Tokens<'_>, token: &Token) -> Result<Stmt, Fault>
         requires name { (lexeme token.now).symbol ≡ Symbol.Name }
         ensures { Reads view.statement (nests.with_arguments self.now.room (lexeme token.now) tokens.old) result tokens.new }
@@ -162,7 +160,7 @@ impl<F: Fn(Global, &mut Tokens<'_>, u8) -> Result<Stmt, Fault> + Copy> Statement
     }
 
     /// A statement that begins with a name.
-    #[tactic(auto, using(spl_tokens::proofs::Steps::steps), unfolding(spl_grammar::specs::Readers::pure, spl_grammar::specs::Readers::refuse, spl_grammar::specs::Readers::followed, spl_grammar::specs::Readers::and_then, spl_grammar::specs::ReadStatements::named_statement))]
+    #[tactic(auto, using(spl_tokens::proofs::Steps::steps), unfolding(spl_reading::specs::Readers::pure, spl_reading::specs::Readers::refuse, spl_reading::specs::Readers::followed, spl_reading::specs::Readers::and_then, spl_reading::specs::ReadStatements::named_statement))]
     fn named(&self, tokens: &mut Tokens<'_>, token: &Token) -> Result<Stmt, Fault>
         requires nests { Nests self.now.room (F.pre self.now.statement) (F.post self.now.statement) }
         requires name { (lexeme token.now).symbol ≡ Symbol.Name }
@@ -180,7 +178,7 @@ impl<F: Fn(Global, &mut Tokens<'_>, u8) -> Result<Stmt, Fault> + Copy> Statement
     }
 
     /// An assignment to the cell of a pointer.
-    #[tactic(auto, using(spl_tokens::proofs::Steps::steps), unfolding(spl_grammar::specs::Readers::pure, spl_grammar::specs::Readers::refuse, spl_grammar::specs::Readers::followed, spl_grammar::specs::Readers::and_then, spl_grammar::specs::ReadStatements::address_assigned))]
+    #[tactic(auto, using(spl_tokens::proofs::Steps::steps), unfolding(spl_reading::specs::Readers::pure, spl_reading::specs::Readers::refuse, spl_reading::specs::Readers::followed, spl_reading::specs::Readers::and_then, spl_reading::specs::ReadStatements::address_assigned))]
     fn address_assigned(&self, tokens: &mut Tokens<'_>) -> Result<Stmt, Fault>
         ensures { Reads view.statement (nests.address_assigned self.now.room tokens.old) result tokens.new }
     {
@@ -196,7 +194,7 @@ impl<F: Fn(Global, &mut Tokens<'_>, u8) -> Result<Stmt, Fault> + Copy> Statement
     }
 
     /// Statements between BEGIN and END.
-    #[tactic(auto, using(spl_tokens::proofs::Steps::steps), unfolding(spl_grammar::specs::Readers::pure, spl_grammar::specs::Readers::refuse, spl_grammar::specs::Readers::followed, spl_grammar::specs::Readers::and_then, spl_grammar::specs::ReadStatements::block))]
+    #[tactic(auto, using(spl_tokens::proofs::Steps::steps), unfolding(spl_reading::specs::Readers::pure, spl_reading::specs::Readers::refuse, spl_reading::specs::Readers::followed, spl_reading::specs::Readers::and_then, spl_reading::specs::ReadStatements::block))]
     fn block(&self, tokens: &mut Tokens<'_>) -> Result<Stmt, Fault>
         requires nests { Nests self.now.room (F.pre self.now.statement) (F.post self.now.statement) }
         ensures { Reads view.statement (nests.block self.now.room tokens.old) result tokens.new }
@@ -208,7 +206,7 @@ impl<F: Fn(Global, &mut Tokens<'_>, u8) -> Result<Stmt, Fault> + Copy> Statement
     }
 
     /// An IF behind the statement of its THEN.
-    #[tactic(auto, using(spl_tokens::proofs::Steps::steps), unfolding(spl_grammar::specs::Readers::pure, spl_grammar::specs::Readers::refuse, spl_grammar::specs::Readers::followed, spl_grammar::specs::Readers::and_then, spl_grammar::specs::ReadStatements::else_behind))]
+    #[tactic(auto, using(spl_tokens::proofs::Steps::steps), unfolding(spl_reading::specs::Readers::pure, spl_reading::specs::Readers::refuse, spl_reading::specs::Readers::followed, spl_reading::specs::Readers::and_then, spl_reading::specs::ReadStatements::else_behind))]
     fn else_behind(
         &self,
         tokens: &mut Tokens<'_>,
@@ -231,7 +229,7 @@ impl<F: Fn(Global, &mut Tokens<'_>, u8) -> Result<Stmt, Fault> + Copy> Statement
     }
 
     /// IF.
-    #[tactic(auto, using(spl_tokens::proofs::Steps::steps, crate::proofs::NestLemmas::below_is), unfolding(spl_grammar::specs::Readers::pure, spl_grammar::specs::Readers::refuse, spl_grammar::specs::Readers::followed, spl_grammar::specs::Readers::and_then, spl_grammar::specs::ReadStatements::if_statement))]
+    #[tactic(auto, using(spl_tokens::proofs::Steps::steps, crate::proofs::NestLemmas::below_is), unfolding(spl_reading::specs::Readers::pure, spl_reading::specs::Readers::refuse, spl_reading::specs::Readers::followed, spl_reading::specs::Readers::and_then, spl_reading::specs::ReadStatements::if_statement))]
     fn if_statement(&self, tokens: &mut Tokens<'_>) -> Result<Stmt, Fault>
         requires nests { Nests self.now.room (F.pre self.now.statement) (F.post self.now.statement) }
         ensures { Reads view.statement (nests.if_statement self.now.room tokens.old) result tokens.new }
@@ -244,7 +242,7 @@ impl<F: Fn(Global, &mut Tokens<'_>, u8) -> Result<Stmt, Fault> + Copy> Statement
     }
 
     /// WHILE.
-    #[tactic(auto, using(spl_tokens::proofs::Steps::steps, crate::proofs::NestLemmas::below_is), unfolding(spl_grammar::specs::Readers::pure, spl_grammar::specs::Readers::refuse, spl_grammar::specs::Readers::followed, spl_grammar::specs::Readers::and_then, spl_grammar::specs::ReadStatements::while_statement))]
+    #[tactic(auto, using(spl_tokens::proofs::Steps::steps, crate::proofs::NestLemmas::below_is), unfolding(spl_reading::specs::Readers::pure, spl_reading::specs::Readers::refuse, spl_reading::specs::Readers::followed, spl_reading::specs::Readers::and_then, spl_reading::specs::ReadStatements::while_statement))]
     fn while_statement(&self, tokens: &mut Tokens<'_>) -> Result<Stmt, Fault>
         requires nests { Nests self.now.room (F.pre self.now.statement) (F.post self.now.statement) }
         ensures { Reads view.statement (nests.while_statement self.now.room tokens.old) result tokens.new }
@@ -257,7 +255,7 @@ impl<F: Fn(Global, &mut Tokens<'_>, u8) -> Result<Stmt, Fault> + Copy> Statement
     }
 
     /// DO and UNTIL.
-    #[tactic(auto, using(spl_tokens::proofs::Steps::steps, crate::proofs::NestLemmas::below_is), unfolding(spl_grammar::specs::Readers::pure, spl_grammar::specs::Readers::refuse, spl_grammar::specs::Readers::followed, spl_grammar::specs::Readers::and_then, spl_grammar::specs::ReadStatements::do_statement))]
+    #[tactic(auto, using(spl_tokens::proofs::Steps::steps, crate::proofs::NestLemmas::below_is), unfolding(spl_reading::specs::Readers::pure, spl_reading::specs::Readers::refuse, spl_reading::specs::Readers::followed, spl_reading::specs::Readers::and_then, spl_reading::specs::ReadStatements::do_statement))]
     fn do_statement(&self, tokens: &mut Tokens<'_>) -> Result<Stmt, Fault>
         requires nests { Nests self.now.room (F.pre self.now.statement) (F.post self.now.statement) }
         ensures { Reads view.statement (nests.do_statement self.now.room tokens.old) result tokens.new }
@@ -270,7 +268,7 @@ impl<F: Fn(Global, &mut Tokens<'_>, u8) -> Result<Stmt, Fault> + Copy> Statement
     }
 
     /// FOR.
-    #[tactic(auto, using(spl_tokens::proofs::Steps::steps, crate::proofs::NestLemmas::below_is), unfolding(spl_grammar::specs::Readers::pure, spl_grammar::specs::Readers::refuse, spl_grammar::specs::Readers::followed, spl_grammar::specs::Readers::and_then, spl_grammar::specs::ReadStatements::for_statement))]
+    #[tactic(auto, using(spl_tokens::proofs::Steps::steps, crate::proofs::NestLemmas::below_is), unfolding(spl_reading::specs::Readers::pure, spl_reading::specs::Readers::refuse, spl_reading::specs::Readers::followed, spl_reading::specs::Readers::and_then, spl_reading::specs::ReadStatements::for_statement))]
     fn for_statement(&self, tokens: &mut Tokens<'_>) -> Result<Stmt, Fault>
         requires nests { Nests self.now.room (F.pre self.now.statement) (F.post self.now.statement) }
         ensures { Reads view.statement (nests.for_statement self.now.room tokens.old) result tokens.new }
@@ -289,7 +287,7 @@ impl<F: Fn(Global, &mut Tokens<'_>, u8) -> Result<Stmt, Fault> + Copy> Statement
     }
 
     /// CASE.
-    #[tactic(auto, using(spl_tokens::proofs::Steps::steps, crate::proofs::NestLemmas::below_is), unfolding(spl_grammar::specs::Readers::pure, spl_grammar::specs::Readers::refuse, spl_grammar::specs::Readers::followed, spl_grammar::specs::Readers::and_then, spl_grammar::specs::ReadStatements::case_statement))]
+    #[tactic(auto, using(spl_tokens::proofs::Steps::steps, crate::proofs::NestLemmas::below_is), unfolding(spl_reading::specs::Readers::pure, spl_reading::specs::Readers::refuse, spl_reading::specs::Readers::followed, spl_reading::specs::Readers::and_then, spl_reading::specs::ReadStatements::case_statement))]
     fn case_statement(&self, tokens: &mut Tokens<'_>) -> Result<Stmt, Fault>
         requires nests { Nests self.now.room (F.pre self.now.statement) (F.post self.now.statement) }
         ensures { Reads view.statement (nests.case_statement self.now.room tokens.old) result tokens.new }
@@ -304,7 +302,7 @@ impl<F: Fn(Global, &mut Tokens<'_>, u8) -> Result<Stmt, Fault> + Copy> Statement
     }
 
     /// GO or GO TO.
-    #[tactic(auto, using(spl_tokens::proofs::Steps::steps), unfolding(spl_grammar::specs::Readers::pure, spl_grammar::specs::Readers::refuse, spl_grammar::specs::Readers::followed, spl_grammar::specs::Readers::and_then, spl_grammar::specs::ReadStatements::go_statement))]
+    #[tactic(auto, using(spl_tokens::proofs::Steps::steps), unfolding(spl_reading::specs::Readers::pure, spl_reading::specs::Readers::refuse, spl_reading::specs::Readers::followed, spl_reading::specs::Readers::and_then, spl_reading::specs::ReadStatements::go_statement))]
     fn go_statement(&self, tokens: &mut Tokens<'_>) -> Result<Stmt, Fault>
         ensures { Reads view.statement (nests.go_statement self.now.room tokens.old) result tokens.new }
     {
@@ -316,7 +314,7 @@ impl<F: Fn(Global, &mut Tokens<'_>, u8) -> Result<Stmt, Fault> + Copy> Statement
     }
 
     /// A MOVE or a SCAN whose value is dropped.
-    #[tactic(auto, using(spl_tokens::proofs::Steps::steps), unfolding(spl_grammar::specs::Readers::pure, spl_grammar::specs::Readers::refuse, spl_grammar::specs::Readers::followed, spl_grammar::specs::Readers::and_then, spl_grammar::specs::ReadStatements::effect_statement))]
+    #[tactic(auto, using(spl_tokens::proofs::Steps::steps), unfolding(spl_reading::specs::Readers::pure, spl_reading::specs::Readers::refuse, spl_reading::specs::Readers::followed, spl_reading::specs::Readers::and_then, spl_reading::specs::ReadStatements::effect_statement))]
     fn effect_statement(&self, tokens: &mut Tokens<'_>) -> Result<Stmt, Fault>
         ensures { Reads view.statement (nests.effect_statement self.now.room tokens.old) result tokens.new }
     {
@@ -326,7 +324,7 @@ impl<F: Fn(Global, &mut Tokens<'_>, u8) -> Result<Stmt, Fault> + Copy> Statement
     }
 
     /// A statement by its reserved word; any other word stands behind an empty one.
-    #[tactic(auto, using(spl_tokens::proofs::Steps::steps), unfolding(spl_grammar::specs::Readers::pure, spl_grammar::specs::Readers::refuse, spl_grammar::specs::Readers::followed, spl_grammar::specs::Readers::and_then, spl_grammar::specs::ReadStatements::by_word))]
+    #[tactic(auto, using(spl_tokens::proofs::Steps::steps), unfolding(spl_reading::specs::Readers::pure, spl_reading::specs::Readers::refuse, spl_reading::specs::Readers::followed, spl_reading::specs::Readers::and_then, spl_reading::specs::ReadStatements::by_word))]
     fn by_word(&self, tokens: &mut Tokens<'_>, word: Reserved) -> Result<Stmt, Fault>
         requires nests { Nests self.now.room (F.pre self.now.statement) (F.post self.now.statement) }
         ensures { Reads view.statement (nests.by_word self.now.room word tokens.old) result tokens.new }
@@ -351,7 +349,7 @@ impl<F: Fn(Global, &mut Tokens<'_>, u8) -> Result<Stmt, Fault> + Copy> Statement
     }
 
     /// A statement.
-    #[tactic(auto, using(spl_tokens::proofs::Steps::steps), unfolding(spl_grammar::specs::Readers::pure, spl_grammar::specs::Readers::refuse, spl_grammar::specs::Readers::followed, spl_grammar::specs::Readers::and_then, spl_grammar::specs::ReadStatements::statement_step, spl_grammar::specs::ReadStatements::statement_by))]
+    #[tactic(auto, using(spl_tokens::proofs::Steps::steps), unfolding(spl_reading::specs::Readers::pure, spl_reading::specs::Readers::refuse, spl_reading::specs::Readers::followed, spl_reading::specs::Readers::and_then, spl_reading::specs::ReadStatements::statement_step, spl_reading::specs::ReadStatements::statement_by))]
     fn read(&self, tokens: &mut Tokens<'_>) -> Result<Stmt, Fault>
         requires nests { Nests self.now.room (F.pre self.now.statement) (F.post self.now.statement) }
         ensures { Reads view.statement (nests.read self.now.room tokens.old) result tokens.new }

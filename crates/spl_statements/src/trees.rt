@@ -3,7 +3,7 @@ ghost use Rattle.std.specs.Prelude.{◌≡◌, [], ◌∷◌, map, IfOk};
 ghost use Rattle.spl_tree.specs.Trees as tree;
 ghost use Rattle.spl_tree.specs.StatementTrees as stat;
 ghost use Rattle.spl_tree.specs.Views as view;
-ghost use Rattle.spl_statements.specs.References.{statements};
+ghost use Rattle.spl_effects.specs.References.{statements};
 
 use spl_tree::{At, Effect, Expr, Name, Stmt, Test};
 use std::alloc::{AllocError, Global};

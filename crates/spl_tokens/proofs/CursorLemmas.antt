@@ -7,9 +7,9 @@ use Rattle.spl_tree.specs.declared.symbols.Symbol.{Symbol}
 use Rattle.spl_tree.specs.declared.symbols.Symbol.TheVariants as s
 use Rattle.spl_tree.specs.declared.tokens.Token.{Token}
 use Rattle.spl_tree.specs.Symbols.{Lexeme, lexeme_of, symbol_of, letters_of}
-use Rattle.spl_grammar.specs.Readers.{Got, Bad, by_symbol, pure, refuse, take, at_place, same_symbol}
-use Rattle.spl_grammar.specs.ReadDeclarations.{next_segment}
-use Rattle.spl_grammar.proofs.SameSymbol.{same_is}
+use Rattle.spl_reading.specs.Readers.{Got, Bad, by_symbol, pure, refuse, take, at_place, same_symbol}
+use Rattle.spl_reading.specs.ReadDeclarations.{next_segment}
+use Rattle.spl_reading.proofs.SameSymbol.{same_is}
 use Rattle.spl_tokens.specs.declared.faults.Fault.{Fault}
 use Rattle.spl_tokens.specs.Cursor.{first_symbol, symbol_in}
 use Rattle.spl_tokens.specs.Reads.{peeked, lexeme, named, named_by}

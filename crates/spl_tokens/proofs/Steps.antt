@@ -4,7 +4,7 @@ use Rattle.spl_tree.specs.declared.symbols.Symbol.{Symbol}
 use Rattle.spl_tree.specs.declared.symbols.Symbol.TheVariants as s
 use Rattle.spl_tree.specs.declared.tokens.Token.{Token}
 use Rattle.spl_tree.specs.Symbols.{Lexeme}
-use Rattle.spl_grammar.specs.Readers.{Outcome, Got, Bad, Deep, Parser, by_symbol, pure, refuse, followed, and_then, named_number, numbered, same_symbol}
+use Rattle.spl_reading.specs.Readers.{Outcome, Got, Bad, Deep, Parser, by_symbol, pure, refuse, followed, and_then, named_number, numbered, same_symbol}
 use Rattle.spl_tokens.specs.declared.faults.Fault.{Fault}
 use Rattle.spl_tokens.specs.declared.faults.Fault.TheVariants.{Syntax, TooDeep, NoMemory}
 use Rattle.spl_tokens.specs.Reads.{Fails, Reads, peeked, lexeme, named, named_by}

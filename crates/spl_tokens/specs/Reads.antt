@@ -5,7 +5,7 @@ use Rattle.spl_tree.specs.declared.symbols.Symbol.{Symbol}
 use Rattle.spl_tree.specs.declared.symbols.Symbol.TheVariants as s
 use Rattle.spl_tree.specs.declared.tokens.Token.{Token}
 use Rattle.spl_tree.specs.Symbols.{Lexeme, lexeme_of}
-use Rattle.spl_grammar.specs.Readers.{Outcome, Got, Bad, Deep, Parser, pure, refuse, by_symbol, same_symbol}
+use Rattle.spl_reading.specs.Readers.{Outcome, Got, Bad, Deep, Parser, pure, refuse, by_symbol, same_symbol}
 use Rattle.spl_tokens.specs.declared.faults.Fault.{Fault}
 use Rattle.spl_tokens.specs.declared.faults.Fault.TheVariants.{Syntax, TooDeep, NoMemory}
 

@@ -2,8 +2,8 @@
 ghost use Rattle.std.specs.Prelude.{◌≡◌};
 ghost use Rattle.spl_tree.specs.Operators as operators;
 ghost use Rattle.spl_tree.specs.Views as view;
-ghost use Rattle.spl_grammar.specs.Readers.{by_symbol};
-ghost use Rattle.spl_grammar.specs.ReadExpressions as spec;
+ghost use Rattle.spl_reading.specs.Readers.{by_symbol};
+ghost use Rattle.spl_reading.specs.ReadExpressions as spec;
 ghost use Rattle.spl_tokens.specs.Reads.{Reads};
 
 use crate::faults::Fault;
@@ -20,7 +20,7 @@ pub fn is_sign(op: u8) -> bool
 }
 
 /// The number behind a sign.
-#[tactic(auto, using(crate::proofs::Steps::steps), unfolding(spl_grammar::specs::Readers::pure, spl_grammar::specs::Readers::refuse, spl_grammar::specs::Readers::followed, spl_grammar::specs::Readers::and_then, spl_grammar::specs::ReadExpressions::signed_by))]
+#[tactic(auto, using(crate::proofs::Steps::steps), unfolding(spl_reading::specs::Readers::pure, spl_reading::specs::Readers::refuse, spl_reading::specs::Readers::followed, spl_reading::specs::Readers::and_then, spl_reading::specs::ReadExpressions::signed_by))]
 fn signed(tokens: &mut Tokens<'_>, minus: bool) -> Result<Const, Fault>
     ensures { Reads view.constant (by_symbol (spec.signed_by minus) tokens.old) result tokens.new }
 {
@@ -38,7 +38,7 @@ fn signed(tokens: &mut Tokens<'_>, minus: bool) -> Result<Const, Fault>
 }
 
 /// A constant.
-#[tactic(auto, using(crate::proofs::Steps::steps), unfolding(spl_grammar::specs::Readers::pure, spl_grammar::specs::Readers::refuse, spl_grammar::specs::Readers::followed, spl_grammar::specs::Readers::and_then, spl_grammar::specs::ReadExpressions::constant, spl_grammar::specs::ReadExpressions::constant_by))]
+#[tactic(auto, using(crate::proofs::Steps::steps), unfolding(spl_reading::specs::Readers::pure, spl_reading::specs::Readers::refuse, spl_reading::specs::Readers::followed, spl_reading::specs::Readers::and_then, spl_reading::specs::ReadExpressions::constant, spl_reading::specs::ReadExpressions::constant_by))]
 pub fn constant(alloc: Global, tokens: &mut Tokens<'_>) -> Result<Const, Fault>
     ensures { Reads view.constant (spec.constant tokens.old) result tokens.new }
 {

@@ -13,4 +13,4 @@ pub use faults::{Fault, ParseFault};
 pub use operators::{binds, is_number, is_word, operator_of, shift_of};
 pub use symbols::{same, symbol, token_symbol};
 pub use tokens::Tokens;
-pub use words::{copied, letters, name, text};
+pub use words::{letters, name, text};

@@ -2,7 +2,7 @@
 ghost use Rattle.std.specs.Prelude.{◌≡◌, nat_eq};
 ghost use lib.Pointwise.{pointwise};
 ghost use Rattle.spl_tree.specs.Operators as operators;
-ghost use Rattle.spl_grammar.specs.ReadExpressions as spec;
+ghost use Rattle.spl_reading.specs.ReadExpressions as spec;
 
 use spl_tree::{Symbol, shift};
 
@@ -25,7 +25,7 @@ pub fn binds(op: u8) -> u8
 }
 
 /// The operator that a symbol is; 99, where it is none.
-#[tactic(auto, unfolding(spl_grammar::specs::ReadExpressions::operator_of))]
+#[tactic(auto, unfolding(spl_reading::specs::ReadExpressions::operator_of))]
 pub fn operator_of(symbol: Symbol) -> u8
     ensures { result ≡ spec.operator_of symbol }
 {

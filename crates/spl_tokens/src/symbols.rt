@@ -3,8 +3,8 @@ ghost use Rattle.std.specs.Prelude.{◌≡◌};
 ghost use Rattle.spl_tree.specs.Symbols.{symbol_of};
 ghost use Rattle.spl_tokens.specs.Cursor.{symbol_in};
 ghost use Rattle.spl_tokens.specs.Reads.{lexeme};
-ghost use Rattle.spl_grammar.specs.Readers.{same_symbol};
-ghost use Rattle.spl_grammar.specs.Readers as readers;
+ghost use Rattle.spl_reading.specs.Readers.{same_symbol};
+ghost use Rattle.spl_reading.specs.Readers as readers;
 
 use spl_tree::{Kind, Reserved, Symbol, Token, What, binary};
 
@@ -87,7 +87,7 @@ const MARKS: [Symbol; 20] = [
 ];
 
 /// The number of a kind.
-#[tactic(auto, unfolding(spl_grammar::specs::Readers::kind_number))]
+#[tactic(auto, unfolding(spl_reading::specs::Readers::kind_number))]
 fn kind_number(kind: Kind) -> u32
     ensures { result ≡ readers.kind_number kind }
 {
@@ -100,7 +100,7 @@ fn kind_number(kind: Kind) -> u32
 }
 
 /// The number of a reserved word.
-#[tactic(auto, unfolding(spl_grammar::specs::Readers::reserved_number))]
+#[tactic(auto, unfolding(spl_reading::specs::Readers::reserved_number))]
 fn word_number(word: Reserved) -> u32
     ensures { result ≡ readers.reserved_number word }
 {
@@ -138,7 +138,7 @@ fn word_number(word: Reserved) -> u32
 }
 
 /// A symbol as two numbers: which symbol it is, and its value.
-#[tactic(auto, unfolding(spl_grammar::specs::Readers::symbol_number, spl_grammar::specs::Readers::truth_number))]
+#[tactic(auto, unfolding(spl_reading::specs::Readers::symbol_number, spl_reading::specs::Readers::truth_number))]
 fn symbol_number(symbol: Symbol) -> (u8, u32)
     ensures { result ≡ readers.symbol_number symbol }
 {
@@ -167,7 +167,7 @@ fn symbol_number(symbol: Symbol) -> (u8, u32)
 }
 
 /// The two symbols are the same.
-#[tactic(auto, unfolding(spl_grammar::specs::Readers::same_symbol))]
+#[tactic(auto, unfolding(spl_reading::specs::Readers::same_symbol))]
 pub fn same(a: Symbol, b: Symbol) -> bool
     ensures { result ≡ same_symbol a b }
 {

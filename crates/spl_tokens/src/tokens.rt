@@ -2,8 +2,8 @@
 ghost use Rattle.std.specs.Prelude.{◌≡◌, ◌<◌, ◌^◌, ℕ, length, map, IfOk, OnOk, true};
 ghost use Rattle.spl_tree.specs.Symbols.{lexeme_of};
 ghost use Rattle.spl_tokens.specs.Cursor as cursor;
-ghost use Rattle.spl_grammar.specs.Readers as r;
-ghost use Rattle.spl_grammar.specs.ReadDeclarations.{next_segment};
+ghost use Rattle.spl_reading.specs.Readers as r;
+ghost use Rattle.spl_reading.specs.ReadDeclarations.{next_segment};
 ghost use Rattle.spl_tokens.specs.Reads.{Reads, lexeme, shown, lent, same_as, peeked, named};
 
 use crate::faults::Fault;
@@ -106,7 +106,7 @@ impl<'a> Tokens<'a> {
         }
     }
 
-    #[tactic(auto, using(crate::proofs::Steps::steps), unfolding(spl_grammar::specs::Readers::expect, spl_grammar::specs::Readers::refuse))]
+    #[tactic(auto, using(crate::proofs::Steps::steps), unfolding(spl_reading::specs::Readers::expect, spl_reading::specs::Readers::refuse))]
     /// Goes on behind the next token, which is this symbol. Err: `Syntax`, where it is not.
     pub fn expect(&mut self, wanted: Symbol) -> Result<&'a Token, Fault>
         ensures read { Reads shown (r.expect wanted self.old) result self.new }
@@ -121,7 +121,7 @@ impl<'a> Tokens<'a> {
 
     /// Goes on behind the next token, with which one more construct is open. Err: `TooDeep`, where it may not be;
     /// `Syntax`, where no token is left.
-    #[tactic(auto, using(crate::proofs::Steps::steps), unfolding(spl_grammar::specs::Readers::allowed))]
+    #[tactic(auto, using(crate::proofs::Steps::steps), unfolding(spl_reading::specs::Readers::allowed))]
     pub fn allowed(&mut self, fits: bool) -> Result<&'a Token, Fault>
         ensures fits { OnOk result (fits ≡ true) }
         ensures read { Reads shown (r.allowed fits self.old) result self.new }

@@ -4,19 +4,8 @@ ghost use Rattle.spl_tree.specs.declared.symbols.Symbol.{Symbol};
 ghost use Rattle.spl_tree.specs.Views as view;
 ghost use Rattle.spl_tokens.specs.Reads.{lexeme};
 
-use arrayvec::ArrayVec;
 use spl_tree::{Chars, Name, Token, What};
 use std::alloc::{AllocError, Global};
-
-/// A name of these bytes, at most 15.
-fn name_of(bytes: &[u8]) -> Name
-    requires { length bytes.now ≤ 15 }
-    ensures { view.letters result ≡ bytes.now }
-{
-    let mut text = ArrayVec::new();
-    text.try_extend_from_slice(bytes).unwrap();
-    Name { text }
-}
 
 /// The letters of a token that is a name.
 #[tactic(auto, unfolding(crate::specs::Reads::lexeme))]
@@ -36,7 +25,7 @@ pub fn name(token: &Token) -> Name
     requires { (lexeme token.now).symbol ≡ Symbol.Name }
     ensures { view.letters result ≡ (lexeme token.now).letters }
 {
-    name_of(letters(token))
+    Name::new(letters(token))
 }
 
 #[tactic(auto, unfolding(crate::specs::Reads::lexeme))]
@@ -53,11 +42,4 @@ pub fn text(alloc: Global, token: &Token) -> Result<Chars, AllocError>
             bytes: Vec::new(alloc),
         }),
     }
-}
-
-/// A name, again.
-pub fn copied(name: &Name) -> Name
-    ensures { view.letters result ≡ view.letters name.now }
-{
-    name_of(name.text.as_slice())
 }

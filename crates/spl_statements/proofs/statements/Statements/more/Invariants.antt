@@ -1,7 +1,7 @@
 use Rattle.std.proofs.Common.{◌≡◌, ◌-◌}
-use Rattle.spl_grammar.specs.Readers.{turns, repeat}
-use Rattle.spl_grammar.specs.ReadStatements.{more_statements}
-use Rattle.spl_statements.specs.References.{statements}
+use Rattle.spl_reading.specs.Readers.{turns, repeat}
+use Rattle.spl_reading.specs.ReadStatements.{more_statements}
+use Rattle.spl_effects.specs.References.{statements}
 use Rattle.spl_statements.specs.Nests.{inner}
 use Rattle.spl_statements.proofs.statements.Statements.more.Given as goal
 

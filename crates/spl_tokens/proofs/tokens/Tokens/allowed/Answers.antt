@@ -1,5 +1,5 @@
 use Rattle.std.proofs.Common.{arith}
-use Rattle.spl_grammar.specs.Readers.{allowed}
+use Rattle.spl_reading.specs.Readers.{allowed}
 use Rattle.spl_tokens.proofs.Steps.{steps}
 use Rattle.spl_tokens.proofs.tokens.Tokens.allowed.Goals as goal
 

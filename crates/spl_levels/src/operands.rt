@@ -1,0 +1,371 @@
+//! Operands. The rule that reads what is inside an open construct is a parameter, so that each rule is proved by itself.
+ghost use Rattle.std.specs.Prelude.{◌≡◌, ◌<◌, ◌≤◌, map, None, OnOk};
+ghost use Rattle.spl_tree.specs.declared.symbols.Symbol.{Symbol};
+ghost use Rattle.spl_tree.specs.Operators as operators;
+ghost use Rattle.spl_tree.specs.Views as view;
+ghost use Rattle.spl_reading.specs.Readers.{by_symbol};
+ghost use Rattle.spl_reading.specs.Readers as readers;
+ghost use Rattle.spl_reading.specs.ReadExpressions as spec;
+ghost use Rattle.spl_tokens.specs.Reads.{Reads, lexeme, shown, paired};
+ghost use Rattle.spl_levels.specs.Parts.{operand, expressions};
+ghost use Rattle.spl_levels.specs.Nests.{Nests, inner, negated_at, enclosed, more_arguments, arguments, named, addressed, transfer, atom, primary, inverse, operand_at};
+
+use crate::levels::Levels;
+use crate::parts::{
+    Part, address, called, element_address, enclosing, inverted, number, string, transferred,
+    truth, variable, wide,
+};
+use spl_tokens::{Fault, Tokens, constant, name, same, text};
+use spl_tree::{At, Expr, Kind, Symbol, Token};
+use std::alloc::Global;
+
+/// The rules of operands, where so many constructs may be opened.
+#[derive(Clone, Copy)]
+pub struct Operands<F> {
+    pub alloc: Global,
+    pub room: u8,
+    /// Reads an operand inside.
+    pub operand: F,
+}
+
+#[tactic(auto, using(spl_tokens::proofs::Steps::steps), unfolding(spl_reading::specs::Readers::pure, spl_reading::specs::Readers::refuse, spl_reading::specs::Readers::followed, spl_reading::specs::Readers::and_then, crate::specs::Parts::operand, spl_reading::specs::ReadExpressions::bits))]
+/// A bit field of what was read, from its dot on.
+fn bits(alloc: Global, tokens: &mut Tokens<'_>, of: Part, at: At) -> Result<Part, Fault>
+    ensures { Reads operand (spec.bits at (operand of) tokens.old) result tokens.new }
+{
+    tokens.expect(Symbol::Dot)?;
+    tokens.expect(Symbol::Open)?;
+    let start = constant(alloc, tokens)?;
+    tokens.expect(Symbol::Colon)?;
+    let length = constant(alloc, tokens)?;
+    tokens.expect(Symbol::Close)?;
+    let of = Box::new(alloc, of.into_expr(alloc)?)?;
+    Ok(Part::Other(Expr::Field {
+        of,
+        start,
+        length,
+        at,
+    }))
+}
+
+#[tactic(auto, using(spl_tokens::proofs::Steps::steps), unfolding(spl_reading::specs::Readers::pure, spl_reading::specs::Readers::refuse, spl_reading::specs::Readers::followed, spl_reading::specs::Readers::and_then, crate::specs::Parts::operand, spl_reading::specs::ReadExpressions::field))]
+/// What was read, or a bit field of it.
+fn field(alloc: Global, tokens: &mut Tokens<'_>, of: Part, at: At) -> Result<Part, Fault>
+    ensures { Reads operand (spec.field at (operand of) tokens.old) result tokens.new }
+{
+    if same(tokens.peek()?, Symbol::Dot) {
+        bits(alloc, tokens, of, at)
+    } else {
+        Ok(of)
+    }
+}
+
+/// A word with its sign turned, modulo 65,536.
+fn negated_word(value: u16) -> u16
+    ensures { result ≡ operators.negated 65536 value }
+{
+    if value == 0 { 0 } else { u16::MAX - value + 1 }
+}
+
+/// Two words with their sign turned, modulo 4,294,967,296.
+fn negated_double(value: u32) -> u32
+    ensures { result ≡ operators.negated 4294967296 value }
+{
+    if value == 0 { 0 } else { u32::MAX - value + 1 }
+}
+
+#[tactic(auto, using(spl_tokens::proofs::Steps::steps), unfolding(spl_reading::specs::Readers::pure, spl_reading::specs::Readers::refuse, spl_reading::specs::Readers::followed, spl_reading::specs::Readers::and_then, crate::specs::Parts::operand, spl_reading::specs::ReadExpressions::negative_by))]
+/// The number behind a minus.
+fn negative(tokens: &mut Tokens<'_>, at: At) -> Result<Part, Fault>
+    ensures { Reads operand (by_symbol (spec.negative_by at) tokens.old) result tokens.new }
+{
+    match tokens.peek()? {
+        Symbol::Number(value) => {
+            tokens.take()?;
+            Ok(Part::Other(Expr::Number(negated_word(value))))
+        }
+        Symbol::Wide(value) => {
+            tokens.take()?;
+            Ok(Part::Other(Expr::Wide(negated_double(value))))
+        }
+        _ => Err(Fault::Syntax),
+    }
+}
+
+/// The number behind a minus, with its bit field where it has one.
+#[tactic(auto, using(spl_tokens::proofs::Steps::steps), unfolding(spl_reading::specs::Readers::pure, spl_reading::specs::Readers::refuse, spl_reading::specs::Readers::followed, spl_reading::specs::Readers::and_then))]
+fn negated(alloc: Global, tokens: &mut Tokens<'_>, at: At) -> Result<Part, Fault>
+    ensures { Reads operand (negated_at at tokens.old) result tokens.new }
+{
+    let of = negative(tokens, at)?;
+    field(alloc, tokens, of, at)
+}
+
+#[tactic(auto, using(spl_tokens::proofs::Steps::steps), unfolding(spl_reading::specs::Readers::pure, spl_reading::specs::Readers::refuse, spl_reading::specs::Readers::followed, spl_reading::specs::Readers::and_then, crate::specs::Parts::operand, spl_reading::specs::ReadExpressions::enter))]
+/// A token that opens a construct.
+pub fn enter<'a>(tokens: &mut Tokens<'a>, room: u8, taken: u8) -> Result<&'a Token, Fault>
+    ensures read { Reads shown (spec.enter room taken tokens.old) result tokens.new }
+    ensures room { OnOk result (taken < room) }
+{
+    tokens.allowed(taken < room)
+}
+
+#[tactic(auto, using(spl_tokens::proofs::Steps::steps), unfolding(spl_reading::specs::Readers::pure, spl_reading::specs::Readers::refuse, spl_reading::specs::Readers::followed, spl_reading::specs::Readers::and_then, crate::specs::Parts::operand, spl_reading::specs::ReadExpressions::opening))]
+/// A parenthesis that opens a construct.
+pub fn opening<'a>(tokens: &mut Tokens<'a>, room: u8, taken: u8) -> Result<&'a Token, Fault>
+    ensures read { Reads shown (spec.opening room taken tokens.old) result tokens.new }
+    ensures room { OnOk result (taken < room) }
+{
+    if same(tokens.peek()?, Symbol::Open) {
+        enter(tokens, room, taken)
+    } else {
+        Err(Fault::Syntax)
+    }
+}
+
+impl<F: Fn(Global, &mut Tokens<'_>, u8, u8, Option<At>) -> Result<Part, Fault> + Copy> Operands<F> {
+    /// An expression inside a construct.
+    #[tactic(auto, using(crate::proofs::LevelLemmas::within_is))]
+    fn inside(&self, tokens: &mut Tokens<'_>, taken: u8) -> Result<Expr, Fault>
+        requires nests { Nests self.now.room (F.pre self.now.operand) (F.post self.now.operand) }
+        requires room { taken < self.now.room }
+        ensures { Reads view.expression (spec.within self.now.room taken tokens.old) result tokens.new }
+    {
+        let inside = Levels {
+            alloc: self.alloc,
+            room: self.room - 1,
+            taken,
+            condition: false,
+            operand: self.operand,
+        };
+        inside.whole(tokens)
+    }
+
+    /// An expression in parentheses.
+    #[tactic(auto, using(spl_tokens::proofs::Steps::steps), unfolding(spl_reading::specs::Readers::pure, spl_reading::specs::Readers::refuse, spl_reading::specs::Readers::followed, spl_reading::specs::Readers::and_then, spl_reading::specs::ReadExpressions::enclosed))]
+    pub fn enclosed(&self, tokens: &mut Tokens<'_>, taken: u8) -> Result<Expr, Fault>
+        requires nests { Nests self.now.room (F.pre self.now.operand) (F.post self.now.operand) }
+        ensures { Reads view.expression (enclosed self.now.room taken tokens.old) result tokens.new }
+    {
+        opening(tokens, self.room, taken)?;
+        let inside = self.inside(tokens, taken)?;
+        tokens.expect(Symbol::Close)?;
+        Ok(inside)
+    }
+
+    /// A further argument, and whether another may follow.
+    #[tactic(auto, using(spl_tokens::proofs::Steps::steps, spl_tokens::proofs::Steps::pushed), unfolding(spl_reading::specs::Readers::pure, spl_reading::specs::Readers::refuse, spl_reading::specs::Readers::followed, spl_reading::specs::Readers::and_then, spl_reading::specs::ReadExpressions::more_arguments))]
+    fn argument(
+        &self,
+        tokens: &mut Tokens<'_>,
+        taken: u8,
+        args: Vec<Expr>,
+    ) -> Result<(bool, Vec<Expr>), Fault>
+        requires nests { Nests self.now.room (F.pre self.now.operand) (F.post self.now.operand) }
+        requires room { taken < self.now.room }
+        ensures { Reads (paired expressions) (more_arguments self.now.room taken (expressions args) tokens.old) result tokens.new }
+    {
+        let mut args = args;
+        if same(tokens.peek()?, Symbol::Comma) {
+            tokens.take()?;
+            args.push(self.inside(tokens, taken)?)?;
+            Ok((true, args))
+        } else {
+            Ok((false, args))
+        }
+    }
+
+    /// The further arguments.
+    #[tactic(auto, using(spl_tokens::proofs::Steps::steps, spl_tokens::proofs::Turns::loops), unfolding(spl_reading::specs::Readers::pure, spl_reading::specs::Readers::refuse, spl_reading::specs::Readers::followed, spl_reading::specs::Readers::and_then))]
+    fn more(&self, tokens: &mut Tokens<'_>, taken: u8, args: Vec<Expr>) -> Result<Vec<Expr>, Fault>
+        requires nests { Nests self.now.room (F.pre self.now.operand) (F.post self.now.operand) }
+        requires room { taken < self.now.room }
+        ensures { Reads expressions (readers.repeat (more_arguments self.now.room taken) (expressions args) tokens.old) result tokens.new }
+    {
+        let mut args = args;
+        for _turn in 0..tokens.left() + 1 {
+            let (more, next) = self.argument(tokens, taken, args)?;
+            if !more {
+                return Ok(next);
+            }
+            args = next;
+        }
+        Err(Fault::Syntax)
+    }
+
+    /// Arguments in parentheses.
+    #[tactic(auto, using(spl_tokens::proofs::Steps::steps), unfolding(spl_reading::specs::Readers::pure, spl_reading::specs::Readers::refuse, spl_reading::specs::Readers::followed, spl_reading::specs::Readers::and_then, spl_reading::specs::ReadExpressions::arguments))]
+    pub fn arguments(&self, tokens: &mut Tokens<'_>, taken: u8) -> Result<Vec<Expr>, Fault>
+        requires nests { Nests self.now.room (F.pre self.now.operand) (F.post self.now.operand) }
+        ensures { Reads expressions (arguments self.now.room taken tokens.old) result tokens.new }
+    {
+        opening(tokens, self.room, taken)?;
+        let first = self.inside(tokens, taken)?;
+        let args = self.more(tokens, taken, vec![in self.alloc; first]?)?;
+        tokens.expect(Symbol::Close)?;
+        Ok(args)
+    }
+
+    /// A name, with the arguments behind it.
+    #[tactic(auto, using(spl_tokens::proofs::Steps::steps), unfolding(spl_reading::specs::Readers::pure, spl_reading::specs::Readers::refuse, spl_reading::specs::Readers::followed, spl_reading::specs::Readers::and_then, spl_reading::specs::ReadExpressions::named, crate::specs::Parts::operand))]
+    fn named(&self, tokens: &mut Tokens<'_>, taken: u8, token: &Token) -> Result<Part, Fault>
+        requires nests { Nests self.now.room (F.pre self.now.operand) (F.post self.now.operand) }
+        requires name { (lexeme token.now).symbol ≡ Symbol.Name }
+        ensures { Reads operand (named self.now.room taken (lexeme token.now) tokens.old) result tokens.new }
+    {
+        let name = name(token);
+        let at = token.at;
+        if same(tokens.peek()?, Symbol::Open) {
+            let args = self.arguments(tokens, taken)?;
+            Ok(called(self.alloc, name, args, at)?)
+        } else {
+            Ok(variable(name, at))
+        }
+    }
+
+    /// The address of what a name stands for, behind its mark.
+    #[tactic(auto, using(spl_tokens::proofs::Steps::steps), unfolding(spl_reading::specs::Readers::pure, spl_reading::specs::Readers::refuse, spl_reading::specs::Readers::followed, spl_reading::specs::Readers::and_then, spl_reading::specs::ReadExpressions::addressed))]
+    fn addressed(
+        &self,
+        tokens: &mut Tokens<'_>,
+        taken: u8,
+        mark: &Token,
+        token: &Token,
+    ) -> Result<Part, Fault>
+        requires nests { Nests self.now.room (F.pre self.now.operand) (F.post self.now.operand) }
+        requires name { (lexeme token.now).symbol ≡ Symbol.Name }
+        ensures { Reads operand (addressed self.now.room taken (lexeme mark.now) (lexeme token.now) tokens.old) result tokens.new }
+    {
+        let name = name(token);
+        let at = mark.at;
+        if same(tokens.peek()?, Symbol::Open) {
+            let index = self.enclosed(tokens, taken)?;
+            Ok(element_address(self.alloc, name, index, at)?)
+        } else {
+            Ok(address(name, at))
+        }
+    }
+
+    /// A value taken as one of another kind.
+    #[tactic(auto, using(spl_tokens::proofs::Steps::steps), unfolding(spl_reading::specs::Readers::pure, spl_reading::specs::Readers::refuse, spl_reading::specs::Readers::followed, spl_reading::specs::Readers::and_then))]
+    fn transfer(&self, tokens: &mut Tokens<'_>, taken: u8, to: Kind) -> Result<Part, Fault>
+        requires nests { Nests self.now.room (F.pre self.now.operand) (F.post self.now.operand) }
+        ensures { Reads operand (transfer self.now.room taken to tokens.old) result tokens.new }
+    {
+        let at = tokens.take()?.at;
+        let of = self.enclosed(tokens, taken)?;
+        Ok(transferred(self.alloc, to, of, at)?)
+    }
+
+    /// An operand without a bit field.
+    #[tactic(auto, using(spl_tokens::proofs::Steps::steps), unfolding(spl_reading::specs::Readers::pure, spl_reading::specs::Readers::refuse, spl_reading::specs::Readers::followed, spl_reading::specs::Readers::and_then, spl_reading::specs::ReadExpressions::primary_by))]
+    fn atom(&self, tokens: &mut Tokens<'_>, taken: u8) -> Result<Part, Fault>
+        requires nests { Nests self.now.room (F.pre self.now.operand) (F.post self.now.operand) }
+        ensures { Reads operand (atom self.now.room taken tokens.old) result tokens.new }
+    {
+        match tokens.peek()? {
+            Symbol::Number(value) => {
+                tokens.take()?;
+                Ok(number(value))
+            }
+            Symbol::Wide(value) => {
+                tokens.take()?;
+                Ok(wide(value))
+            }
+            Symbol::Text => Ok(string(text(self.alloc, tokens.take()?)?)),
+            Symbol::Truth(value) => {
+                tokens.take()?;
+                Ok(truth(value))
+            }
+            Symbol::Name => {
+                let token = tokens.take()?;
+                self.named(tokens, taken, token)
+            }
+            Symbol::AtSign => {
+                let mark = tokens.take()?;
+                let token = tokens.expect(Symbol::Name)?;
+                self.addressed(tokens, taken, mark, token)
+            }
+            Symbol::Open => Ok(enclosing(self.enclosed(tokens, taken)?)),
+            Symbol::Type(kind) => self.transfer(tokens, taken, kind),
+            _ => Err(Fault::Syntax),
+        }
+    }
+
+    /// An operand, with its bit field where it has one.
+    #[tactic(auto, using(spl_tokens::proofs::Steps::steps), unfolding(spl_reading::specs::Readers::pure, spl_reading::specs::Readers::refuse, spl_reading::specs::Readers::followed, spl_reading::specs::Readers::and_then, spl_reading::specs::ReadExpressions::primary))]
+    fn primary(&self, tokens: &mut Tokens<'_>, taken: u8) -> Result<Part, Fault>
+        requires nests { Nests self.now.room (F.pre self.now.operand) (F.post self.now.operand) }
+        ensures { Reads operand (primary self.now.room taken tokens.old) result tokens.new }
+    {
+        let at = tokens.place()?;
+        let of = self.atom(tokens, taken)?;
+        field(self.alloc, tokens, of, at)
+    }
+
+    /// The operand behind a NOT.
+    #[tactic(auto, using(crate::proofs::LevelLemmas::inner_is))]
+    fn inner(&self, tokens: &mut Tokens<'_>, taken: u8) -> Result<Part, Fault>
+        requires nests { Nests self.now.room (F.pre self.now.operand) (F.post self.now.operand) }
+        requires room { taken < self.now.room }
+        ensures { Reads operand (inner self.now.room taken tokens.old) result tokens.new }
+    {
+        (self.operand)(self.alloc, tokens, self.room - 1, taken, None)
+    }
+
+    /// NOT and its operand.
+    #[tactic(auto, using(spl_tokens::proofs::Steps::steps), unfolding(spl_reading::specs::Readers::pure, spl_reading::specs::Readers::refuse, spl_reading::specs::Readers::followed, spl_reading::specs::Readers::and_then, spl_reading::specs::ReadExpressions::inverse))]
+    fn inverse(&self, tokens: &mut Tokens<'_>, taken: u8) -> Result<Part, Fault>
+        requires nests { Nests self.now.room (F.pre self.now.operand) (F.post self.now.operand) }
+        ensures { Reads operand (inverse self.now.room taken tokens.old) result tokens.new }
+    {
+        let at = enter(tokens, self.room, taken)?.at;
+        let of = self.inner(tokens, taken)?;
+        Ok(inverted(self.alloc, of, at)?)
+    }
+
+    /// An operand with no minus before its number.
+    #[tactic(auto, using(spl_tokens::proofs::Steps::steps), unfolding(spl_reading::specs::ReadExpressions::unary_step))]
+    fn plain(&self, tokens: &mut Tokens<'_>, taken: u8) -> Result<Part, Fault>
+        requires nests { Nests self.now.room (F.pre self.now.operand) (F.post self.now.operand) }
+        ensures { Reads operand (operand_at self.now.room taken None tokens.old) result tokens.new }
+    {
+        if same(tokens.peek()?, Symbol::Not) {
+            self.inverse(tokens, taken)
+        } else {
+            self.primary(tokens, taken)
+        }
+    }
+
+    /// An operand; a minus may stand before its number.
+    #[tactic(auto, using(spl_tokens::proofs::Steps::steps), unfolding(spl_reading::specs::ReadExpressions::unary_step))]
+    fn read(&self, tokens: &mut Tokens<'_>, taken: u8, minus: Option<At>) -> Result<Part, Fault>
+        requires nests { Nests self.now.room (F.pre self.now.operand) (F.post self.now.operand) }
+        ensures { Reads operand (operand_at self.now.room taken minus tokens.old) result tokens.new }
+    {
+        match minus {
+            None => self.plain(tokens, taken),
+            Some(at) => negated(self.alloc, tokens, at),
+        }
+    }
+}
+
+/// An operand where so many constructs may be opened, less those that `taken` counts. A minus may stand before its
+/// number.
+pub fn operand(
+    alloc: Global,
+    tokens: &mut Tokens<'_>,
+    room: u8,
+    taken: u8,
+    minus: Option<At>,
+) -> Result<Part, Fault>
+    requires { taken ≤ room }
+    ensures { Reads operand (spec.unary room taken minus tokens.old) result tokens.new }
+{
+    Operands {
+        alloc,
+        room,
+        operand,
+    }
+    .read(tokens, taken, minus)
+}

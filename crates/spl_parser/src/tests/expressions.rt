@@ -1,0 +1,85 @@
+//! Expressions and conditions worked by hand: how many tokens one takes, and where its first fault is.
+
+use super::tokens::tokens;
+use spl_levels::{condition_within, expression_within};
+use spl_tokens::{Fault, Tokens};
+use std::test::Fail;
+
+/// What a list of tokens begins with: a part of so many tokens, or a fault at a token, counted from 0.
+#[derive(Clone, Copy, Debug, PartialEq, Eq)]
+enum Verdict {
+    Takes(usize),
+    Syntax(usize),
+    TooDeep(usize),
+    NoMemory,
+}
+
+use Verdict::{Syntax, Takes, TooDeep};
+
+fn outcome(fault: Option<Fault>, at: usize) -> Verdict {
+    match fault {
+        None => Takes(at),
+        Some(Fault::Syntax) => Syntax(at),
+        Some(Fault::TooDeep) => TooDeep(at),
+        Some(Fault::NoMemory) => Verdict::NoMemory,
+    }
+}
+
+/// Each expression with the number of constructs that may be opened in it.
+static EXPRESSIONS: [(&str, u8, Verdict); 18] = [
+    ("A )", 0, Takes(1)),
+    ("A + B ; C", 0, Takes(3)),
+    ("A + * B", 0, Syntax(2)),
+    ("- 5 * D", 0, Takes(4)),
+    ("A = B = C", 0, Takes(3)),
+    ("A . ( 0 : 4 ) . B", 0, Takes(7)),
+    ("A . B", 0, Syntax(2)),
+    ("A & CSL ( 3 ) + 1", 0, Takes(8)),
+    ("A & ROL ( 3 )", 0, Syntax(2)),
+    ("@ A ( B ) ( C )", 1, Takes(5)),
+    ("@ 5", 0, Syntax(1)),
+    ("DOUBLE A", 1, Syntax(1)),
+    ("A ( B , C ( D ) )", 2, Takes(9)),
+    ("A ( B , C ( D ) )", 1, TooDeep(5)),
+    ("NOT NOT A", 2, Takes(3)),
+    ("NOT NOT A", 1, TooDeep(1)),
+    ("1 + 1 + 1 + 1 + 1 + 1 + 1 + 1", 0, Takes(15)),
+    ("1 + 1 + 1 + 1 + 1 + 1 + 1 + 1 + 1", 0, TooDeep(15)),
+];
+
+#[test]
+fn expressions_and_their_first_faults(rt: HostRuntime) -> Result<(), Fail> {
+    let alloc = rt.alloc();
+    for (text, room, wanted) in &EXPRESSIONS {
+        let tokens = tokens(alloc, text)?;
+        let mut cursor = Tokens::new(&tokens);
+        let fault = expression_within(alloc, &mut cursor, *room).err();
+        let at = tokens.len().saturating_sub(cursor.left());
+        assert_eq!(rt; outcome(fault, at), *wanted, "{text}");
+    }
+    Ok(())
+}
+
+static CONDITIONS: [(&str, Verdict); 8] = [
+    ("A = B THEN", Takes(3)),
+    ("A = B , ( 5 ) OR C THEN", Takes(9)),
+    ("A ( I ) < B , ( N ) AND C = D , ( 2 ) DO", Takes(18)),
+    ("A = B , 5", Syntax(4)),
+    ("A + 1 = B , ( 5 )", Takes(5)),
+    ("( A = B ) , ( 5 )", Takes(5)),
+    ("A , ( 5 )", Takes(1)),
+    ("NOT A OR B THEN", Takes(4)),
+];
+
+#[test]
+fn conditions_and_comparisons_of_bytes(rt: HostRuntime) -> Result<(), Fail> {
+    let alloc = rt.alloc();
+    for (text, wanted) in &CONDITIONS {
+        let tokens = tokens(alloc, text)?;
+        let mut cursor = Tokens::new(&tokens);
+        let fault = condition_within(alloc, &mut cursor, 64).err();
+        let at = tokens.len().saturating_sub(cursor.left());
+        assert_eq!(rt; outcome(fault, at), *wanted, "{text}");
+    }
+    Ok(())
+}

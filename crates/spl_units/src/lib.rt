@@ -1,0 +1,7 @@
+//! Declarations, bodies and units, read from the tokens of a text.
+#![tactic(auto)]
+
+mod declarations;
+mod units;
+
+pub use units::{UnitParts, unit};
