@@ -9,7 +9,7 @@ use Rattle.hp_flat.specs.Views.{start_of}
 use Rattle.spl_meaning.specs.Tables.{Source}
 use Rattle.spl_meaning.specs.Bodies.{data_words}
 use Rattle.spl_meaning.specs.Bound.{bound}
-use Rattle.spl_meaning.specs.Runs.{Seat, Point, alone, stands, stray}
+use Rattle.spl_meaning.specs.Runs.{Seat, LinesAreBytes, Point, alone, stands, stray}
 use Rattle.spl_carries.specs.Segments.{segment_names, initial_words}
 
 -- the words of all segments, tables included
@@ -50,7 +50,7 @@ pub record Back (p : Program) (us : List Source) (seat : Seat) (at : ℕ) : Type
   pub point : flat_point (flat p seat steps) ≡ alone us seat at
   pub soon : steps ≤ weight p * (at + 1)
 
--- a seat within the limits of a session, whose stack holds the data words and the main body's marker
+-- a seat within the limits of a session, whose stack holds the data words and the main body's marker, and whose lines are bytes
 pub record MaySit (us : List Source) (seat : Seat) : Type 0 where
   pub least_stack : 64 ≤ seat.stack
   pub most_stack : seat.stack ≤ 32000
@@ -58,6 +58,7 @@ pub record MaySit (us : List Source) (seat : Seat) : Type 0 where
   pub least_room : 1 ≤ seat.room
   pub most_room : seat.room ≤ 1048576
   pub data' : data_words us + 4 ≤ seat.stack
+  pub bytes : LinesAreBytes seat.lines
 
 -- each segment has at most as many words as the segment of its name may have
 pub record IsBounded (p : Program) (us : List Source) : Type 0 where

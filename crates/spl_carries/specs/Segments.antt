@@ -1,9 +1,8 @@
 -- The segments of some units in their order, and their initial data words.
-use Rattle.std.specs.Prelude.{ℕ, zero, suc, ◌+◌, Bool, true, false, if◌then◌else◌, List, [], ◌∷◌, ◌++◌}
-use Rattle.spl_meaning.specs.Names.{same_name}
+use Rattle.std.specs.Prelude.{ℕ, zero, suc, if◌then◌else◌, List, [], ◌∷◌, ◌++◌}
 use Rattle.spl_meaning.specs.Tables.{Source, Routine, routines_of}
 use Rattle.spl_meaning.specs.Places.{word_or_zero}
-use Rattle.spl_meaning.specs.Bodies.{Program, program_of}
+use Rattle.spl_meaning.specs.Bodies.{program_of}
 use Rattle.spl_meaning.specs.Bound.{segment_name, stands_in}
 use Rattle.spl_meaning.specs.Runs.{Seat, opening}
 

@@ -1,7 +1,7 @@
 -- References, operations, elements and intrinsics are tame.
-use Rattle.std.proofs.Common.{ℕ, ◌+◌, ◌-◌, ◌/◌, ◌%◌, ◌==◌, Bool, true, false, List, [], ◌∷◌, length, Option, Some, None, refl, sym}
+use Rattle.std.proofs.Common.{ℕ, ◌+◌, ◌-◌, ◌/◌, ◌%◌, ◌==◌, Bool, true, false, List, [], ◌∷◌, length, Option, Some, None, refl, sym, arith}
 use Rattle.std.proofs.lemmas.List.{append-nil}
-use Rattle.std.specs.Prelude.{if◌then◌else◌, nat_lt, slice_index}
+use Rattle.std.specs.Prelude.{◌*◌, ◌&&◌, if◌then◌else◌, nat_lt, slice_index}
 use Rattle.hp_word.specs.declared.arithmetic.Arith.{Arith}
 use Rattle.hp_word.specs.declared.arithmetic.Wide.{Wide}
 use Rattle.hp_word.specs.declared.arithmetic.Quotient.{Quotient}
@@ -12,13 +12,12 @@ use Rattle.hp_word.specs.Bits.{with_field}
 use Rattle.hp_word.specs.Bytes.{byte_at, with_byte, double}
 use Rattle.spl_tree.specs.declared.expressions.Kind.{Kind}
 use Rattle.spl_tree.specs.declared.expressions.Kind.TheVariants as kind
-use Rattle.spl_meaning.specs.Names as n
-use Rattle.spl_meaning.specs.Names.{Sort, truth_word}
+use Rattle.spl_meaning.specs.Names.{truth_word}
 use Rattle.spl_meaning.specs.Kinds.{Operand, of, const, unknown, Class, integers, logicals, doubles, mixed, class_of, is_relation}
 use Rattle.spl_meaning.specs.Places.{Place}
 use Rattle.spl_meaning.specs.States.{trapped, done, ends, then_go}
-use Rattle.spl_meaning.specs.References.{Here, Spot, address, data_word_read, word_at, placed_word, variable_spot, element_spot, read_by, read, store_by, store, store_field, index_or_zero, own_spot, led_spot, passed_spot, result_spot, spot_by, spot, target_by, target_spot}
-use Rattle.spl_meaning.specs.Operations.{word_done, double_done, quotient_done, relation_done, on_integers, on_logicals, on_doubles, by_class, bits_done, joined, minus_done, not_done, signed_done, shift_done, field_done, double_words, related}
+use Rattle.spl_meaning.specs.References.{Here, Located, address_of, data_word_read, word_at, placed_word, variable_located, element_located, word_read, read_by, read, word_stored, store_by, store, store_field, index_or_zero, own_located, led_located, passed_located, result_located, Access, its_own, by_address, by_cell, its_result, nowhere, access_of, target_access, locate_by, locate, locate_target}
+use Rattle.spl_meaning.specs.Operations.{word_done, double_done, quotient_done, relation_done, on_integers, on_logicals, on_doubles, by_class, bits_done, joined, minus_done, not_done, signed_done, shift_done, field_done, double_words, related, with_single, extended, transferred, passed}
 use Rattle.spl_meaning.proofs.Tame.{Tame, tame_done, tame_ends, tame_strays, tame_go, tame_if, tame_now, Keeps, tame_in}
 
 -- ---- words
@@ -39,30 +38,44 @@ tame_word b false a =
 
 pub keeps_placed : (far : Bool) (a v : ℕ) → Keeps (placed_word far a v)
 keeps_placed true a v = record {
-  left = λ s. refl;
-  grown = λ s. record { prints = []; printed = sym (append-nil s.now.printed); log = []; begun = sym (append-nil s.begun) };
-  same = λ s. refl;
+  adds = record {
+    left = λ s. refl;
+    grown = λ s. record { prints = []; printed = sym (append-nil s.now.printed); log = []; begun = sym (append-nil s.begun) };
+    same = λ s. refl;
+  };
+  few = λ s. record { prints = omega arith; log = omega arith };
 }
 keeps_placed false a v = record {
-  left = λ s. refl;
-  grown = λ s. record { prints = []; printed = sym (append-nil s.now.printed); log = []; begun = sym (append-nil s.begun) };
-  same = λ s. refl;
+  adds = record {
+    left = λ s. refl;
+    grown = λ s. record { prints = []; printed = sym (append-nil s.now.printed); log = []; begun = sym (append-nil s.begun) };
+    same = λ s. refl;
+  };
+  few = λ s. record { prints = omega arith; log = omega arith };
 }
 
 pub tame_placed : (b : ℕ) (far : Bool) (a v : ℕ)
     → Tame {A = Unit {0}} b (λ s. done tt (placed_word far a v s)) (λ s. done tt (placed_word far a v s))
 tame_placed b far a v = tame_in (keeps_placed far a v) (tame_done {A = Unit {0}} b tt)
 
--- ---- spots
+-- ---- locations
+
+tame_word_read : (b : ℕ) (far : Bool) (a : ℕ) → Tame b (word_read far a) (word_read far a)
+tame_word_read b far a = tame_go (tame_word b far a) (λ w. tame_done b (w ∷ []))
+
+tame_word_stored : (b : ℕ) (far : Bool) (a : ℕ) (vs : List ℕ) → Tame b (word_stored far a vs) (word_stored far a vs)
+tame_word_stored b far a [] = tame_strays b
+tame_word_stored b far a (v ∷ []) = tame_go (tame_word b far a) (λ _. tame_placed b far a v)
+tame_word_stored b far a (v ∷ w ∷ vs) = tame_strays b
 
 tame_read_by : (b : ℕ) (k : Kind) (far : Bool) (a : ℕ) → Tame b (read_by k far a) (read_by k far a)
 tame_read_by b kind.Double far a =
     tame_go (tame_word b far a) (λ high. tame_go (tame_word b far ((a + 1) % 65536)) (λ low. tame_done b (high ∷ low ∷ [])))
 tame_read_by b kind.Byte far a = tame_go (tame_word b far (a / 2)) (λ w. tame_done b (byte_at a w ∷ []))
-tame_read_by b kind.Integer far a = tame_go (tame_word b far a) (λ w. tame_done b (w ∷ []))
-tame_read_by b kind.Logical far a = tame_go (tame_word b far a) (λ w. tame_done b (w ∷ []))
+tame_read_by b kind.Integer far a = tame_word_read b far a
+tame_read_by b kind.Logical far a = tame_word_read b far a
 
-pub tame_read : (b : ℕ) (p : Spot) → Tame b (read p) (read p)
+pub tame_read : (b : ℕ) (p : Located) → Tame b (read p) (read p)
 tame_read b p = tame_read_by b p.kind p.far p.address
 
 tame_store_by : (b : ℕ) (k : Kind) (far : Bool) (a : ℕ) (vs : List ℕ) → Tame b (store_by k far a vs) (store_by k far a vs)
@@ -75,84 +88,55 @@ tame_store_by b kind.Double far a (h ∷ l ∷ v ∷ vs) = tame_strays b
 tame_store_by b kind.Byte far a [] = tame_strays b
 tame_store_by b kind.Byte far a (v ∷ []) = tame_go (tame_word b far (a / 2)) (λ w. tame_placed b far (a / 2) (with_byte a (v % 256) w))
 tame_store_by b kind.Byte far a (v ∷ w ∷ vs) = tame_strays b
-tame_store_by b kind.Integer far a [] = tame_strays b
-tame_store_by b kind.Integer far a (v ∷ []) = tame_go (tame_word b far a) (λ _. tame_placed b far a v)
-tame_store_by b kind.Integer far a (v ∷ w ∷ vs) = tame_strays b
-tame_store_by b kind.Logical far a [] = tame_strays b
-tame_store_by b kind.Logical far a (v ∷ []) = tame_go (tame_word b far a) (λ _. tame_placed b far a v)
-tame_store_by b kind.Logical far a (v ∷ w ∷ vs) = tame_strays b
+tame_store_by b kind.Integer far a vs = tame_word_stored b far a vs
+tame_store_by b kind.Logical far a vs = tame_word_stored b far a vs
 
-pub tame_store : (b : ℕ) (p : Spot) (vs : List ℕ) → Tame b (store p vs) (store p vs)
+pub tame_store : (b : ℕ) (p : Located) (vs : List ℕ) → Tame b (store p vs) (store p vs)
 tame_store b p vs = tame_store_by b p.kind p.far p.address vs
 
-pub tame_store_field : (b : ℕ) (p : Spot) (start size : ℕ) (vs : List ℕ) → Tame b (store_field p start size vs) (store_field p start size vs)
+pub tame_store_field : (b : ℕ) (p : Located) (start size : ℕ) (vs : List ℕ) → Tame b (store_field p start size vs) (store_field p start size vs)
 tame_store_field b p start size [] = tame_strays b
 tame_store_field b p start size (v ∷ []) =
     tame_go (tame_word b p.far p.address) (λ w. tame_placed b p.far p.address (with_field w start size v))
 tame_store_field b p start size (v ∷ w ∷ vs) = tame_strays b
 
-tame_own : (b : ℕ) (k : Kind) (p : Option Place) (i : Option ℕ) → Tame b (own_spot k p i) (own_spot k p i)
+tame_own : (b : ℕ) (k : Kind) (p : Option Place) (i : Option ℕ) → Tame b (own_located k p i) (own_located k p i)
 tame_own b k (Some p) None =
-    tame_now (λ d s. done (variable_spot k (address p d)) s) (λ d s. done (variable_spot k (address p d)) s)
-    (λ d. tame_done b (variable_spot k (address p d)))
+    tame_now (λ d s. done (variable_located k (address_of p d)) s) (λ d s. done (variable_located k (address_of p d)) s)
+    (λ d. tame_done b (variable_located k (address_of p d)))
 tame_own b k (Some p) (Some i) = tame_strays b
 tame_own b k None i = tame_strays b
 
-tame_led : (b : ℕ) (far : Bool) (k : Kind) (p : Option Place) (i : ℕ) → Tame b (led_spot far k p i) (led_spot far k p i)
+tame_led : (b : ℕ) (far : Bool) (k : Kind) (p : Option Place) (i : ℕ) → Tame b (led_located far k p i) (led_located far k p i)
 tame_led b far k (Some p) i =
-    tame_now (λ d s. then_go (word_at false (address p d) s) (λ cell s1. done (element_spot far k cell i) s1))
-    (λ d s. then_go (word_at false (address p d) s) (λ cell s1. done (element_spot far k cell i) s1))
-    (λ d. tame_go (tame_word b false (address p d)) (λ cell. tame_done b (element_spot far k cell i)))
+    tame_now (λ d s. then_go (word_at false (address_of p d) s) (λ cell s1. done (element_located far k cell i) s1))
+    (λ d s. then_go (word_at false (address_of p d) s) (λ cell s1. done (element_located far k cell i) s1))
+    (λ d. tame_go (tame_word b false (address_of p d)) (λ cell. tame_done b (element_located far k cell i)))
 tame_led b far k None i = tame_strays b
 
-tame_passed : (b : ℕ) (k : Kind) (p : Option Place) (i : Option ℕ) → Tame b (passed_spot k p i) (passed_spot k p i)
+tame_passed : (b : ℕ) (k : Kind) (p : Option Place) (i : Option ℕ) → Tame b (passed_located k p i) (passed_located k p i)
 tame_passed b k p None = tame_led b false k p 0
 tame_passed b k p (Some i) = tame_strays b
 
-tame_result : (b : ℕ) (r : Option (Kind × Place)) (i : Option ℕ) → Tame b (result_spot r i) (result_spot r i)
+tame_result : (b : ℕ) (r : Option (Kind × Place)) (i : Option ℕ) → Tame b (result_located r i) (result_located r i)
 tame_result b (Some r) None =
-    tame_now (λ d s. done (variable_spot r.0 (address r.1 d)) s) (λ d s. done (variable_spot r.0 (address r.1 d)) s)
-    (λ d. tame_done b (variable_spot r.0 (address r.1 d)))
+    tame_now (λ d s. done (variable_located r.0 (address_of r.1 d)) s) (λ d s. done (variable_located r.0 (address_of r.1 d)) s)
+    (λ d. tame_done b (variable_located r.0 (address_of r.1 d)))
 tame_result b (Some r) (Some i) = tame_strays b
 tame_result b None i = tame_strays b
 
-tame_spot_by : (b : ℕ) (h : Here) (x : List ℕ) (o : Option Sort) (i : Option ℕ) → Tame b (spot_by h x o i) (spot_by h x o i)
-tame_spot_by b h x (Some (n.simple k own)) i = tame_own b k (h.places x) i
-tame_spot_by b h x (Some (n.value k)) i = tame_own b k (h.places x) i
-tame_spot_by b h x (Some (n.by_reference k)) i = tame_passed b k (h.places x) i
-tame_spot_by b h x (Some (n.array k own low high)) i = tame_led b false k (h.places x) (index_or_zero i)
-tame_spot_by b h x (Some (n.view k own base)) i = tame_led b false k (h.places x) (index_or_zero i)
-tame_spot_by b h x (Some (n.array_parameter k)) i = tame_led b false k (h.places x) (index_or_zero i)
-tame_spot_by b h x (Some (n.pointer k own)) i = tame_led b h.split k (h.places x) (index_or_zero i)
-tame_spot_by b h x (Some (n.equate v)) i = tame_strays b
-tame_spot_by b h x (Some n.label) i = tame_strays b
-tame_spot_by b h x (Some (n.intrinsic g)) i = tame_strays b
-tame_spot_by b h x (Some (n.procedure p)) i = tame_strays b
-tame_spot_by b h x (Some (n.subroutine p)) i = tame_strays b
-tame_spot_by b h x (Some n.unknown) i = tame_strays b
-tame_spot_by b h x None i = tame_strays b
+tame_locate_by : (b : ℕ) (h : Here) (x : List ℕ) (o : Access) (i : Option ℕ) → Tame b (locate_by h x o i) (locate_by h x o i)
+tame_locate_by b h x (its_own k) i = tame_own b k (h.places x) i
+tame_locate_by b h x (by_address k) i = tame_passed b k (h.places x) i
+tame_locate_by b h x (by_cell p k) i = tame_led b (p && h.setting.split) k (h.places x) (index_or_zero i)
+tame_locate_by b h x its_result i = tame_result b (h.results x) i
+tame_locate_by b h x nowhere i = tame_strays b
 
-pub tame_spot : (b : ℕ) (h : Here) (x : List ℕ) (i : Option ℕ) → Tame b (spot h x i) (spot h x i)
-tame_spot b h x i = tame_spot_by b h x (h.names x) i
+pub tame_locate : (b : ℕ) (h : Here) (x : List ℕ) (i : Option ℕ) → Tame b (locate h x i) (locate h x i)
+tame_locate b h x i = tame_locate_by b h x (access_of (h.names x)) i
 
-tame_target_by : (b : ℕ) (h : Here) (x : List ℕ) (o : Option Sort) (i : Option ℕ) → Tame b (target_by h x o i) (target_by h x o i)
-tame_target_by b h x (Some (n.simple k own)) i = tame_spot_by b h x (Some (n.simple k own)) i
-tame_target_by b h x (Some (n.value k)) i = tame_spot_by b h x (Some (n.value k)) i
-tame_target_by b h x (Some (n.by_reference k)) i = tame_spot_by b h x (Some (n.by_reference k)) i
-tame_target_by b h x (Some (n.array k own low high)) i = tame_spot_by b h x (Some (n.array k own low high)) i
-tame_target_by b h x (Some (n.view k own base)) i = tame_spot_by b h x (Some (n.view k own base)) i
-tame_target_by b h x (Some (n.array_parameter k)) i = tame_spot_by b h x (Some (n.array_parameter k)) i
-tame_target_by b h x (Some (n.pointer k own)) i = tame_spot_by b h x (Some (n.pointer k own)) i
-tame_target_by b h x (Some (n.equate v)) i = tame_strays b
-tame_target_by b h x (Some n.label) i = tame_strays b
-tame_target_by b h x (Some (n.intrinsic g)) i = tame_strays b
-tame_target_by b h x (Some (n.procedure p)) i = tame_result b (h.results x) i
-tame_target_by b h x (Some (n.subroutine p)) i = tame_result b (h.results x) i
-tame_target_by b h x (Some n.unknown) i = tame_strays b
-tame_target_by b h x None i = tame_strays b
-
-pub tame_target : (b : ℕ) (h : Here) (x : List ℕ) (i : Option ℕ) → Tame b (target_spot h x i) (target_spot h x i)
-tame_target b h x i = tame_target_by b h x (h.names x) i
+pub tame_target : (b : ℕ) (h : Here) (x : List ℕ) (i : Option ℕ) → Tame b (locate_target h x i) (locate_target h x i)
+tame_target b h x i = tame_locate_by b h x (target_access (h.names x)) i
 
 -- ---- operations
 
@@ -255,3 +239,52 @@ pub tame_field : (b start size : ℕ) (vs : List ℕ) → Tame b (field_done sta
 tame_field b start size [] = tame_strays b
 tame_field b start size (w ∷ []) = tame_done b _
 tame_field b start size (w ∷ v ∷ vs) = tame_strays b
+
+-- ---- transfers and arguments
+
+tame_single : (b : ℕ) (vs : List ℕ) (f : ℕ → List ℕ) → Tame b (λ s. with_single vs s (λ w. done (f w) s)) (λ s. with_single vs s (λ w. done (f w) s))
+tame_single b [] f = tame_strays b
+tame_single b (w ∷ []) f = tame_done b (f w)
+tame_single b (h ∷ l ∷ []) f = tame_done b (f l)
+tame_single b (h ∷ l ∷ w ∷ vs) f = tame_strays b
+
+tame_extended : (b : ℕ) (k : Operand) (vs : List ℕ) → Tame b (extended k vs) (extended k vs)
+tame_extended b (of kind.Integer) [] = tame_strays b
+tame_extended b (of kind.Integer) (w ∷ []) = tame_done b ((if nat_lt w 32768 then 0 else 65535) ∷ w ∷ [])
+tame_extended b (of kind.Integer) (w ∷ v ∷ vs) = tame_strays b
+tame_extended b const [] = tame_strays b
+tame_extended b const (w ∷ []) = tame_done b ((if nat_lt w 32768 then 0 else 65535) ∷ w ∷ [])
+tame_extended b const (w ∷ v ∷ vs) = tame_strays b
+tame_extended b (of kind.Double) [] = tame_strays b
+tame_extended b (of kind.Double) (h ∷ []) = tame_strays b
+tame_extended b (of kind.Double) (h ∷ l ∷ []) = tame_done b (h ∷ l ∷ [])
+tame_extended b (of kind.Double) (h ∷ l ∷ w ∷ vs) = tame_strays b
+tame_extended b (of kind.Logical) [] = tame_strays b
+tame_extended b (of kind.Logical) (w ∷ []) = tame_done b (0 ∷ w ∷ [])
+tame_extended b (of kind.Logical) (w ∷ v ∷ vs) = tame_strays b
+tame_extended b (of kind.Byte) [] = tame_strays b
+tame_extended b (of kind.Byte) (w ∷ []) = tame_done b (0 ∷ w ∷ [])
+tame_extended b (of kind.Byte) (w ∷ v ∷ vs) = tame_strays b
+tame_extended b unknown vs = tame_strays b
+
+pub tame_transferred : (b : ℕ) (k : Kind) (from : Operand) (vs : List ℕ) → Tame b (transferred k from vs) (transferred k from vs)
+tame_transferred b kind.Integer from vs = tame_single b vs (λ w. w ∷ [])
+tame_transferred b kind.Logical from vs = tame_single b vs (λ w. w ∷ [])
+tame_transferred b kind.Byte from vs = tame_single b vs (λ w. w % 256 ∷ [])
+tame_transferred b kind.Double from vs = tame_extended b from vs
+
+pub tame_passed_value : (b : ℕ) (k : Option Kind) (vs : List ℕ) → Tame b (passed k vs) (passed k vs)
+tame_passed_value b None vs = tame_strays b
+tame_passed_value b (Some kind.Integer) [] = tame_strays b
+tame_passed_value b (Some kind.Integer) (w ∷ []) = tame_done b (w ∷ [])
+tame_passed_value b (Some kind.Integer) (w ∷ v ∷ vs) = tame_strays b
+tame_passed_value b (Some kind.Logical) [] = tame_strays b
+tame_passed_value b (Some kind.Logical) (w ∷ []) = tame_done b (w ∷ [])
+tame_passed_value b (Some kind.Logical) (w ∷ v ∷ vs) = tame_strays b
+tame_passed_value b (Some kind.Byte) [] = tame_strays b
+tame_passed_value b (Some kind.Byte) (w ∷ []) = tame_done b (256 * (w % 256) ∷ [])
+tame_passed_value b (Some kind.Byte) (w ∷ v ∷ vs) = tame_strays b
+tame_passed_value b (Some kind.Double) [] = tame_strays b
+tame_passed_value b (Some kind.Double) (h ∷ []) = tame_strays b
+tame_passed_value b (Some kind.Double) (h ∷ l ∷ []) = tame_done b (h ∷ l ∷ [])
+tame_passed_value b (Some kind.Double) (h ∷ l ∷ w ∷ vs) = tame_strays b

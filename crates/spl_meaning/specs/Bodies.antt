@@ -1,11 +1,12 @@
 -- The bodies of a program: the main body, procedures and subroutines, each with its names, places and room.
-use Rattle.std.specs.Prelude.{ℕ, ◌+◌, Bool, true, false, if◌then◌else◌, List, [], ◌∷◌, ◌++◌, Option, Some, None}
+use Rattle.std.specs.Prelude.{ℕ, ◌+◌, Bool, true, false, if◌then◌else◌, List, [], ◌∷◌, ◌++◌, Option, Some, None, is_some}
 use Rattle.spl_tree.specs.declared.expressions.Kind.{Kind}
 use Rattle.spl_tree.specs.DeclarationTrees.{declarations}
 use Rattle.spl_tree.specs.StatementTrees as stat
 use Rattle.spl_tree.specs.StatementTrees.{Statements, statements}
-use Rattle.spl_meaning.specs.Names.{Sort, Table, Formal, Profile, find, or_else, same_name, profile_of}
-use Rattle.spl_meaning.specs.Tables.{Source, Routine, Subroutine, unit_table, routines_of, routine_table, routine_names, subroutines_among, subroutine_names}
+use Rattle.spl_meaning.specs.Stops.{declarations_stops}
+use Rattle.spl_meaning.specs.Names.{Sort, Table, Formal, Profile, find, or_else, nothing_declared, same_name, parameters, formals_of, profile_of}
+use Rattle.spl_meaning.specs.Tables.{Source, Routine, Subroutine, unit_table, routines_of, outer_names, routine_table, routine_names, routine_subroutines, unit_subroutines, subroutine_names}
 use Rattle.spl_meaning.specs.Places.{Place, data_word, above_base, below_base, below_return, Starts, Cell, Initial, Laid, laid, sum, list_words, list_array_words}
 use Rattle.spl_meaning.specs.Pending.{formal_words, formals_words, result_words, depth}
 use Rattle.spl_meaning.specs.References.{Here}
@@ -15,6 +16,8 @@ pub record Body : Type 0 where
   pub here : Here
   pub profile : Profile
   pub statements : Statements
+  -- the number of its first statement in its unit
+  pub number : ℕ
   -- the words of its local items and arrays
   pub words : ℕ
   -- the room that it needs above its frame
@@ -25,6 +28,10 @@ pub record Body : Type 0 where
   pub subroutines : List Subroutine
 
 -- ---- places of parameters and results
+
+-- the gap between the last word of a marker and the parameters below it
+abbrev pub marker_gap : ℕ
+marker_gap = 3
 
 -- Parameters stand one behind the other below a link, which is `gap` words above the last of them.
 abbrev pub parameter_places : (ℕ → Place) → ℕ → List Formal → Table Place
@@ -40,6 +47,20 @@ abbrev pub result_by : List ℕ → Option Kind → Place → List ℕ → Optio
 result_by name None place x = None
 result_by name (Some k) place x = if same_name x name then Some (k, place) else None
 
+-- the result of a procedure by its name, which its own list may hide
+abbrev pub own_result : Table Sort → List ℕ → Option Kind → Place → List ℕ → Option (Kind × Place)
+own_result table name k place x = if is_some (find table name) then None else result_by name k place x
+
+-- ---- settings
+
+-- the words below the last one of a procedure's marker: its other three, the parameters and the result
+abbrev pub words_below : Profile → ℕ
+words_below p = marker_gap + formals_words p.formals + result_words p
+
+-- the words below a subroutine's return word: the parameters and the result
+abbrev pub words_held : Profile → ℕ
+words_held p = formals_words p.formals + result_words p
+
 -- ---- subroutines
 
 -- The body of a subroutine, in that around it: below its return word stand its parameters and its result.
@@ -53,10 +74,11 @@ subroutine_body b s =
         names = names;
         places = λ x. or_else (find (parameter_places below_return 0 p.formals) x) (b.here.places x);
         results = λ x. or_else (result_by s.heading.name p.result (result_place below_return 0 p) x) (b.here.results x);
-        split = b.here.split;
+        setting = record b.here.setting { inside = true; held = words_held p };
       };
       profile = p;
       statements = body;
+      number = s.before;
       words = 0;
       depth' = depth names body;
       cells = [];
@@ -104,7 +126,7 @@ data_words us = primary_words us + global_array_words us + own_array_words us
 -- a unit's list, whose words and arrays begin at these addresses
 abbrev pub laid_unit : ℕ → ℕ → Source → Laid
 laid_unit primary secondary u =
-    laid false (find (unit_table u)) data_word (record { own = 0; own_arrays = 0; here = primary; here_arrays = secondary }) (unit_table u)
+    laid false nothing_declared [] data_word (record { own = 0; own_arrays = 0; here = primary; here_arrays = secondary }) (unit_table u)
     (declarations u.tree.items)
 
 -- where a procedure's OWN items and arrays begin; its others stand above the marker, its arrays behind them
@@ -119,11 +141,7 @@ routine_starts own own_arrays r = record {
 -- a procedure's list, of items that are OWN or not
 abbrev pub laid_routine : Bool → ℕ → ℕ → Routine → Laid
 laid_routine kept own own_arrays r =
-    laid kept (routine_names r) above_base (routine_starts own own_arrays r) (routine_table r) r.items
-
--- the gap between the last word of a marker and the parameters below it
-abbrev pub marker_gap : ℕ
-marker_gap = 3
+    laid kept (outer_names r) (parameters (formals_of r.heading)) above_base (routine_starts own own_arrays r) (routine_table r) r.items
 
 -- the body of a procedure, in a unit with these places
 abbrev pub procedure_body : Table Place → ℕ → ℕ → Routine → Body
@@ -135,16 +153,17 @@ procedure_body globals own own_arrays r =
       here = record {
         names = routine_names r;
         places = λ x. or_else (find (parameter_places below_base marker_gap p.formals ++ l.places) x) (find globals x);
-        results = result_by r.heading.name p.result (result_place below_base marker_gap p);
-        split = r.heading.split;
+        results = own_result (routine_table r) r.heading.name p.result (result_place below_base marker_gap p);
+        setting = record { split = r.heading.split; inside = false; below = words_below p; held = 0 };
       };
       profile = p;
       statements = body;
+      number = r.before + declarations_stops r.items;
       words = list_words false (routine_table r) + list_array_words false (routine_table r);
       depth' = depth (routine_names r) body;
       cells = l.cells;
       initials = l.initials;
-      subroutines = subroutines_among r.items;
+      subroutines = routine_subroutines r;
     }
 
 -- ---- a program
@@ -190,14 +209,20 @@ main_body globals u =
     let names = find (unit_table u) in
     let body = statements u.tree.statements in
     record {
-      here = record { names = names; places = find globals; results = λ x. None; split = false };
+      here = record {
+        names = names;
+        places = find globals;
+        results = λ x. None;
+        setting = record { split = false; inside = false; below = marker_gap; held = 0 };
+      };
       profile = record { result = None; formals = []; split = false };
       statements = body;
+      number = declarations_stops (declarations u.tree.items);
       words = 0;
       depth' = depth names body;
       cells = [];
       initials = [];
-      subroutines = subroutines_among (declarations u.tree.items);
+      subroutines = unit_subroutines u;
     }
 
 -- where the next unit's data begin

@@ -8,8 +8,8 @@ use Rattle.spl_tree.specs.StatementTrees.{Statement, Statements, Target, Source 
 use Rattle.spl_tree.specs.DeclarationTrees as decl
 use Rattle.spl_tree.specs.DeclarationTrees.{Placed, Spec, Heading, Item, Equal, Term, Shape, Declaration, Declarations, declarations}
 use Rattle.spl_meaning.specs.Names as n
-use Rattle.spl_meaning.specs.Names.{Names, Sort, find, same_name}
-use Rattle.spl_meaning.specs.Tables.{Source, Routine, Subroutine, unit_table, routines_of, routine_names, subroutines_among, subroutine_names}
+use Rattle.spl_meaning.specs.Names.{Names, Sort, same_flag, find, same_name}
+use Rattle.spl_meaning.specs.Tables.{Source, Routine, Subroutine, unit_table, routines_of, routine_names, routine_subroutines, unit_subroutines, subroutine_names}
 use Rattle.spl_meaning.specs.Places.{sum}
 
 -- ---- weights: 24 for a node, and the words of its strings
@@ -145,7 +145,7 @@ subroutines_weight ss = sum (λ s. subroutine_weight s.heading s.statement) ss
 -- a main body: its unit, the unit's subroutines and statements
 abbrev pub main_weight : Source → ℕ
 main_weight u =
-    node + subroutines_weight (subroutines_among (declarations u.tree.items)) + statements_weight (statements u.tree.statements)
+    node + subroutines_weight (unit_subroutines u) + statements_weight (statements u.tree.statements)
 
 -- ---- the names that code calls
 
@@ -229,11 +229,6 @@ pub record Want : Type 0 where
   pub gate : Bool
   pub name : List ℕ
 
--- two flags are alike
-abbrev pub same_flag : Bool → Bool → Bool
-same_flag true b = b
-same_flag false b = not b
-
 -- whether a want is among some
 abbrev pub is_wanted : List Want → Want → Bool
 is_wanted [] w = false
@@ -299,7 +294,7 @@ abbrev pub with_routines : List (List ℕ) → List Want → List Routine → Li
 with_routines here ws [] = ws
 with_routines here ws (r ∷ rs) =
     with_routines here
-    (with_calls here (routine_names r) (with_subroutines here (routine_names r) ws (subroutines_among r.items))
+    (with_calls here (routine_names r) (with_subroutines here (routine_names r) ws (routine_subroutines r))
     (statements_names (statements r.statements)))
     rs
 
@@ -307,7 +302,7 @@ with_routines here ws (r ∷ rs) =
 abbrev pub with_main : List (List ℕ) → List Want → Source → List Want
 with_main here ws u =
     with_want
-    (with_calls here (find (unit_table u)) (with_subroutines here (find (unit_table u)) ws (subroutines_among (declarations u.tree.items)))
+    (with_calls here (find (unit_table u)) (with_subroutines here (find (unit_table u)) ws (unit_subroutines u))
     (statements_names (statements u.tree.statements)))
     (record { gate = true; name = codes "TERMINATE" })
 
@@ -323,8 +318,8 @@ wants_from x here ws (u ∷ us) = wants_from x here (with_unit x here ws u) us
 -- the entries of code: a procedure or a main body, and its subroutines
 abbrev pub own_entries : List ℕ → Source → ℕ
 own_entries x u =
-    sum (λ r. 1 + length (subroutines_among r.items)) (routines_in u x)
-    + (if has_main u x then 1 + length (subroutines_among (declarations u.tree.items)) else 0)
+    sum (λ r. 1 + length (routine_subroutines r)) (routines_in u x)
+    + (if has_main u x then 1 + length (unit_subroutines u) else 0)
 
 -- the number of a segment's entries: those of its code, and its wants
 abbrev pub entries : List Source → List ℕ → ℕ

@@ -10,12 +10,12 @@ use Rattle.spl_tree.specs.StatementTrees.{Statement, Statements, statements}
 use Rattle.spl_tree.specs.DeclarationTrees as decl
 use Rattle.spl_tree.specs.DeclarationTrees.{Placed, Spec, Heading, Item, Equal, Term, Declaration, Declarations, declarations}
 use Rattle.spl_meaning.specs.Names as n
-use Rattle.spl_meaning.specs.Names.{Names, Sort, Table, Formal, Profile, find, within, nothing_declared, same_name, parameters, formals_of, profile_of, lists, spec_of, is_array_in, intrinsic_named, constant_value, sum_value}
+use Rattle.spl_meaning.specs.Names.{Names, Sort, Table, Formal, Profile, find, within, nothing_declared, same_name, parameters, formals_of, profile_of, same_flag, lists, spec_of, is_array_in, intrinsic_named, constant_value, sum_value}
 use Rattle.spl_meaning.specs.Tables.{Source, Routine, declared, shaped, with_equates, with_intrinsics, with_labels, with_declaration, with_declarations, unit_table}
 use Rattle.spl_meaning.specs.Places.{elements, is_byte_kind}
 use Rattle.spl_meaning.specs.Pending.{by_value}
 use Rattle.spl_meaning.specs.Faults.{Fault, unless}
-use Rattle.spl_meaning.specs.ExpressionRules.{Scope, in_range, constant_faults}
+use Rattle.spl_meaning.specs.ExpressionRules.{Scope, is_equate, in_range, constant_place, constant_faults}
 use Rattle.spl_meaning.specs.StatementRules.{repeated, body_faults, statement_faults, all_labels}
 
 -- What stands around a list of declarations: the names outside, whether it is a procedure's, a split one's, or a subprogram's.
@@ -31,9 +31,13 @@ twice table x at = unless (not (is_some (find table x))) 2 at
 
 -- ---- items
 
--- 15: bounds are reversed or span more than 64,000 elements
+-- the most elements of an array
+abbrev pub most_elements : ℕ
+most_elements = 64000
+
+-- 15: bounds are reversed or span more elements
 abbrev pub bounds_fit : Option ℤ → Option ℤ → Bool
-bounds_fit (Some low) (Some high) = int_le low high && nat_le (elements low high) 64000
+bounds_fit (Some low) (Some high) = int_le low high && nat_le (elements low high) most_elements
 bounds_fit _ _ = true
 
 -- 16: the base of a view is no array with bounds in the same list, or is BYTE, or the view is OWN and its base is not
@@ -63,15 +67,21 @@ shape_faults a table own k (decl.Shape.array low high) at =
 shape_faults a table own k (decl.Shape.view base) at = base_faults a.names table own k base at ++ unless (not a.split) 27 at
 shape_faults a table own k decl.Shape.pointer at = []
 
--- an initial value
--- 14: a wide constant for a word. 15: any other constant for a DOUBLE.
+-- a wide constant
 abbrev pub is_wide : Constant → Bool
 is_wide (tree.Constant.wide minus v) = true
 is_wide _ = false
 
+-- an initial value fits a DOUBLE: a wide constant does, and nothing is said of a name that stands for no constant
+abbrev pub fits_double : Names → Constant → Bool
+fits_double names (tree.Constant.wide minus v) = true
+fits_double names (tree.Constant.name x at) = not (is_equate (names x))
+fits_double names _ = false
+
 -- an initial value of a kind
+-- 14: a wide constant for a word. 15: a constant of one word for a DOUBLE.
 abbrev pub initial_faults : Names → Kind → At → Constant → List Fault
-initial_faults names kind.Double at c = constant_faults names at c ++ unless (is_wide c) 15 at
+initial_faults names kind.Double at c = constant_faults names at c ++ unless (fits_double names c) 15 (constant_place at c)
 initial_faults names _ at c = constant_faults names at c ++ unless (not (is_wide c)) 14 at
 
 -- initial values in order
@@ -79,10 +89,15 @@ abbrev pub initials_faults : Names → Kind → At → List Constant → List Fa
 initials_faults names k at [] = []
 initials_faults names k at (c ∷ cs) = initial_faults names k at c ++ initials_faults names k at cs
 
--- how many initial values an item may have
-abbrev pub values_fit : Sort → ℕ → Bool
-values_fit (n.array k own low high) given = nat_le given (elements low high)
-values_fit _ given = true
+-- no more values than elements, where the bounds have values
+abbrev pub elements_fit : Option ℤ → Option ℤ → ℕ → Bool
+elements_fit (Some low) (Some high) given = nat_le given (elements low high)
+elements_fit _ _ given = true
+
+-- an item may have so many initial values
+abbrev pub values_fit : Names → decl.Shape → ℕ → Bool
+values_fit names (decl.Shape.array low high) given = elements_fit (constant_value names low) (constant_value names high) given
+values_fit names _ given = true
 
 -- 17: an initial value on a local array or on a view
 abbrev pub may_begin : Around → Bool → decl.Shape → ℕ → Bool
@@ -95,7 +110,7 @@ abbrev pub item_faults : Around → Table Sort → Bool → Kind → Item → Li
 item_faults a table own k i =
     twice table i.name i.at ++ shape_faults a table own k i.shape i.at
     ++ initials_faults (within table a.names) k i.at i.first
-    ++ unless (values_fit (shaped (within table a.names) own k i.shape) (length i.first)) 15 i.at
+    ++ unless (values_fit (within table a.names) i.shape (length i.first)) 15 i.at
     ++ unless (may_begin a own i.shape (length i.first)) 17 i.at
     ++ unless (not own || a.in_procedure) 17 i.at ++ unless (not own || not a.split) 27 i.at ++ unless (not a.subprogram) 28 i.at
 
@@ -178,11 +193,6 @@ kind_number (Some kind.Logical) = 2
 kind_number (Some kind.Byte) = 3
 kind_number (Some kind.Double) = 4
 
--- two flags are alike
-abbrev pub same_flag : Bool → Bool → Bool
-same_flag true b = b
-same_flag false b = not b
-
 -- parameters alike, one by one
 abbrev pub same_formals : List Formal → List Formal → Bool
 same_formals [] [] = true
@@ -255,14 +265,18 @@ abbrev pub local_faults : Around → Scope → Table Sort → Declarations → L
 local_faults a sc table decl.none = []
 local_faults a sc table (decl.and d ds) = local_faults_of a sc table d ++ local_faults a sc (with_declaration a.names table d) ds
 
--- a procedure's own faults, behind the list of its unit up to its heading
+-- the results that may be assigned in a procedure: its own, where its own list does not hide its name
+abbrev pub own_results : Table Sort → List ℕ → List (List ℕ)
+own_results table name = if is_some (find table name) then [] else name ∷ []
+
+-- the scope in a procedure, behind the list of its unit up to its heading
 abbrev pub procedure_scope : Table Sort → Heading → Declarations → Scope
 procedure_scope globals h items =
     let table = with_declarations (find globals) (parameters (formals_of h)) items in
     record {
       names = within table (find globals);
       is_local = λ x. is_some (find table x);
-      results = h.name ∷ [];
+      results = own_results table h.name;
       split = h.split;
       is_main = false;
     }

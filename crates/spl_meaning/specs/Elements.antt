@@ -7,24 +7,24 @@ use Rattle.hp_word.specs.Words.{signed, logically_compared}
 use Rattle.spl_tree.specs.declared.expressions.Kind.{Kind}
 use Rattle.spl_tree.specs.declared.expressions.Kind.TheVariants as kind
 use Rattle.spl_meaning.specs.Names.{truth_word}
-use Rattle.spl_meaning.specs.References.{Spot, read, store}
+use Rattle.spl_meaning.specs.References.{Located, read, store}
 use Rattle.spl_meaning.specs.Operations.{related}
 use Rattle.spl_meaning.specs.States.{State, Outcome, done, spent, strays, then_go, stepping}
 
 -- ---- neighbours
 
--- the element behind a spot, and the one before it
-abbrev pub next_spot : Spot → Spot
-next_spot p = record p { address = (p.address + 1) % 65536 }
+-- the element behind a location
+abbrev pub next_located : Located → Located
+next_located p = record p { address = (p.address + 1) % 65536 }
 
--- and the one before it
-abbrev pub previous_spot : Spot → Spot
-previous_spot p = record p { address = (p.address + 65535) % 65536 }
+-- the element before it
+abbrev pub previous_located : Located → Located
+previous_located p = record p { address = (p.address + 65535) % 65536 }
 
 -- upwards or downwards
-abbrev pub neighbour : Bool → Spot → Spot
-neighbour true p = next_spot p
-neighbour false p = previous_spot p
+abbrev pub neighbour : Bool → Located → Located
+neighbour true p = next_located p
+neighbour false p = previous_located p
 
 -- the size of a signed count, and whether it is upwards
 abbrev pub count_size : ℤ → ℕ
@@ -42,31 +42,31 @@ with_one (w ∷ []) s go = go w s
 with_one vs s go = strays s
 
 -- how far an end address lies from the first, modulo 65,536
-abbrev pub distance : Spot → ℕ → ℕ
+abbrev pub distance : Located → ℕ → ℕ
 distance p first = (p.address + 65536 - first) % 65536
 
--- ---- MOVE. Each answers the spot behind the last element that was stored.
+-- ---- MOVE. Each answers the location behind the last element that was stored.
 
 -- so many elements: the source is read, then the target is stored
-abbrev pub moved : Bool → ℕ → Spot → Spot → State → Outcome Spot
+abbrev pub moved : Bool → ℕ → Located → Located → State → Outcome Located
 moved up zero to from s = done to s
 moved up (suc n) to from s =
     stepping s (λ s1. then_go (read from s1) (λ vs s2. then_go (store to vs s2) (λ _ s3. moved up n (neighbour up to) (neighbour up from) s3)))
 
 -- the count is a word with its sign: upwards where it is positive, downwards where it is negative
-abbrev pub moved_by : ℕ → Spot → Spot → State → Outcome Spot
+abbrev pub moved_by : ℕ → Located → Located → State → Outcome Located
 moved_by count to from s = moved (is_upward (signed count)) (count_size (signed count)) to from s
 
 -- elements as they stand in a string
-abbrev pub moved_list : List ℕ → Spot → State → Outcome Spot
+abbrev pub moved_list : List ℕ → Located → State → Outcome Located
 moved_list [] to s = done to s
-moved_list (v ∷ vs) to s = stepping s (λ s1. then_go (store to (v ∷ []) s1) (λ _ s2. moved_list vs (next_spot to) s2))
+moved_list (v ∷ vs) to s = stepping s (λ s1. then_go (store to (v ∷ []) s1) (λ _ s2. moved_list vs (next_located to) s2))
 
 -- the bytes of a string two and two, with a blank behind an odd last one
 abbrev pub as_words : List ℕ → List ℕ
 as_words [] = []
-as_words (a ∷ []) = (256 * a + 32) ∷ []
-as_words (a ∷ b ∷ bs) = (256 * a + b) ∷ as_words bs
+as_words (a ∷ []) = (256 * a + 32) % 65536 ∷ []
+as_words (a ∷ b ∷ bs) = (256 * a + b) % 65536 ∷ as_words bs
 
 -- a string as the elements of a kind
 abbrev pub text_elements : Kind → List ℕ → List ℕ
@@ -74,7 +74,7 @@ text_elements kind.Byte bytes = bytes
 text_elements _ bytes = as_words bytes
 
 -- a string
-abbrev pub moved_text : List ℕ → Spot → State → Outcome Spot
+abbrev pub moved_text : List ℕ → Located → State → Outcome Located
 moved_text bytes to s = moved_list (text_elements to.kind bytes) to s
 
 -- a letter, capital or small
@@ -96,15 +96,15 @@ abbrev pub of_class : ℕ → ℕ → ℕ
 of_class c b = if nat_le 3 c && nat_le 97 b && nat_le b 122 then b - 32 else b
 
 -- bytes while they are of a class, upwards; each is read before it counts as moved
-abbrev pub moved_while : ℕ → ℕ → Spot → Spot → State → Outcome Spot
+abbrev pub moved_while : ℕ → ℕ → Located → Located → State → Outcome Located
 moved_while zero c to from s = spent s
 moved_while (suc d) c to from s =
     then_go (read from s) (λ vs s1. with_one vs s1 (λ b s2.
     if is_of_class c b
-    then stepping s2 (λ s3. then_go (store to (of_class c b ∷ []) s3) (λ _ s4. moved_while d c (next_spot to) (next_spot from) s4))
+    then stepping s2 (λ s3. then_go (store to (of_class c b ∷ []) s3) (λ _ s4. moved_while d c (next_located to) (next_located from) s4))
     else done to s2))
 
--- ---- SCAN. It answers the spot at which it stops.
+-- ---- SCAN. It answers the location at which it stops.
 
 -- whether a byte is passed by: WHILE it equals the right byte of the test word; UNTIL it equals neither half
 abbrev pub is_passed : Bool → ℕ → ℕ → Bool
@@ -112,11 +112,11 @@ is_passed true test b = not (b == test % 256) && not (b == test / 256)
 is_passed false test b = b == test % 256
 
 -- bytes while they are passed by, upwards
-abbrev pub scanned : ℕ → Bool → ℕ → Spot → State → Outcome Spot
+abbrev pub scanned : ℕ → Bool → ℕ → Located → State → Outcome Located
 scanned zero until test from s = spent s
 scanned (suc d) until test from s =
     then_go (read from s) (λ vs s1. with_one vs s1 (λ b s2.
-    if is_passed until test b then stepping s2 (λ s3. scanned d until test (next_spot from) s3) else done from s2))
+    if is_passed until test b then stepping s2 (λ s3. scanned d until test (next_located from) s3) else done from s2))
 
 -- ---- comparisons of bytes
 
@@ -124,22 +124,22 @@ scanned (suc d) until test from s =
 abbrev pub told_apart : ℕ → ℕ → State → (State → Outcome Code) → Outcome Code
 told_apart b a s go = if b == a then go s else done (logically_compared b a) s
 
--- so many bytes from two spots on: the first that differ decide
-abbrev pub compared : Bool → ℕ → Spot → Spot → State → Outcome Code
+-- so many bytes from two locations on: the first that differ decide
+abbrev pub compared : Bool → ℕ → Located → Located → State → Outcome Code
 compared up zero p q s = done Equal s
 compared up (suc n) p q s =
     stepping s (λ s1. then_go (read p s1) (λ bs s2. then_go (read q s2) (λ as' s3.
     with_one bs s3 (λ b s4. with_one as' s4 (λ a s5. told_apart b a s5 (λ s6. compared up n (neighbour up p) (neighbour up q) s6))))))
 
 -- as many as a word with its sign says
-abbrev pub compared_by : ℕ → Spot → Spot → State → Outcome Code
+abbrev pub compared_by : ℕ → Located → Located → State → Outcome Code
 compared_by count p q s = compared (is_upward (signed count)) (count_size (signed count)) p q s
 
--- the bytes from a spot on with those of a string
-abbrev pub compared_text : Spot → List ℕ → State → Outcome Code
+-- the bytes from a location on with those of a string
+abbrev pub compared_text : Located → List ℕ → State → Outcome Code
 compared_text p [] s = done Equal s
 compared_text p (a ∷ as') s =
-    stepping s (λ s1. then_go (read p s1) (λ bs s2. with_one bs s2 (λ b s3. told_apart b a s3 (λ s4. compared_text (next_spot p) as' s4))))
+    stepping s (λ s1. then_go (read p s1) (λ bs s2. with_one bs s2 (λ b s3. told_apart b a s3 (λ s4. compared_text (next_located p) as' s4))))
 
 -- the answer of a relation by its number
 abbrev pub relation_told : ℕ → Outcome Code → Outcome (List ℕ)

@@ -1,5 +1,5 @@
 -- The rules that expressions and references may break. A constant has no place of its own; it has that of the part around it.
-use Rattle.std.specs.Prelude.{ℕ, ◌+◌, ◌==◌, ◌&&◌, ◌||◌, not, Bool, true, false, nat_lt, nat_le, ℤ, pos, ◌+ℤ◌, int_le, if◌then◌else◌, List, [], ◌∷◌, ◌++◌, length, Option, Some, None, is_some}
+use Rattle.std.specs.Prelude.{ℕ, ◌+◌, ◌==◌, ◌&&◌, ◌||◌, not, Bool, true, false, nat_le, ℤ, pos, ◌+ℤ◌, int_le, if◌then◌else◌, List, [], ◌∷◌, ◌++◌, length, Option, Some, None, is_some}
 use Rattle.spl_tree.specs.declared.names_and_places.At.{At}
 use Rattle.spl_tree.specs.declared.expressions.Kind.{Kind}
 use Rattle.spl_tree.specs.declared.expressions.Kind.TheVariants as kind
@@ -7,8 +7,8 @@ use Rattle.spl_tree.specs.Trees as tree
 use Rattle.spl_tree.specs.Trees.{Tree, Trees, Constant}
 use Rattle.spl_meaning.specs.Names as n
 use Rattle.spl_meaning.specs.Names.{Names, Sort, Formal, Profile, text_value, constant_value}
-use Rattle.spl_meaning.specs.Kinds.{Operand, Class, mixed, class_of, is_double, is_logical, is_constant, is_unknown, is_byte, kind_of, reference_kind, variable_kind, compares_text, callable}
-use Rattle.spl_meaning.specs.Pending.{by_value, first_formal, other_formals}
+use Rattle.spl_meaning.specs.Kinds.{Operand, Class, mixed, class_of, is_double, is_logical, is_constant, is_unknown, is_byte, kind_of, reference_kind, variable_kind, compares_text, callable, works_on_bits, multiplies, complement}
+use Rattle.spl_meaning.specs.Pending.{by_value, first_formal, other_formals, profile_formals}
 use Rattle.spl_meaning.specs.Faults.{Fault, fault, unless}
 
 -- What a part of a body may use: its names; those that are declared in the procedure around it; the bodies around it that have a
@@ -64,7 +64,7 @@ mixes a b = is_unknown a || is_unknown b || not (is_mixed (class_of a b))
 
 -- * / MOD are no operations of doubles
 abbrev pub is_operation : ℕ → Operand → Operand → Bool
-is_operation op a b = not (is_double a && is_double b && nat_le 13 op)
+is_operation op a b = not (is_double a && is_double b && multiplies op)
 
 -- a reference fits a parameter by reference: BYTE with BYTE, DOUBLE with DOUBLE, INTEGER and LOGICAL with each other
 abbrev pub same_sort : Kind → Kind → Bool
@@ -123,6 +123,11 @@ has_elements (Some (n.pointer k own)) = true
 has_elements (Some (n.array_parameter k)) = true
 has_elements _ = false
 
+-- whether a name is an EQUATE name
+abbrev pub is_equate : Option Sort → Bool
+is_equate (Some (n.equate v)) = true
+is_equate _ = false
+
 -- whether a name is a pointer
 abbrev pub is_pointer : Option Sort → Bool
 is_pointer (Some (n.pointer k own)) = true
@@ -180,11 +185,6 @@ uncalled_by sc x _ given at = variable_faults sc x given at
 abbrev pub name_by : Scope → List ℕ → Option Profile → ℕ → At → List Fault
 name_by sc x (Some p) given at = call_faults sc (sc.names x) p given true at
 name_by sc x None given at = uncalled_by sc x (sc.names x) given at
-
--- the parameters of what is called
-abbrev pub formals_by : Option Profile → List Formal
-formals_by (Some p) = p.formals
-formals_by None = []
 
 -- whether a name can be called
 abbrev pub is_callable : Option Profile → Bool
@@ -252,7 +252,7 @@ may_be_byte k = is_byte k
 -- an operator with its operands
 abbrev pub binary_faults : Names → ℕ → Tree → Tree → At → List Fault
 binary_faults names op a b at =
-    if nat_lt op 5 then bits_faults names at a ++ bits_faults names at b
+    if works_on_bits op then bits_faults names at a ++ bits_faults names at b
     else unless (mixes (kind_of names a) (kind_of names b)) 4 at ++ unless (is_operation op (kind_of names a) (kind_of names b)) 5 at
 
 -- ---- expressions
@@ -267,11 +267,11 @@ abbrev mutual
   faults sc around (tree.Tree.truth b) = []
   faults sc around (tree.Tree.named x es at) =
       name_by sc x (callable (sc.names x)) (count es) at
-      ++ (if is_callable (callable (sc.names x)) then arguments_faults sc (formals_by (callable (sc.names x))) es at else indices_faults sc es at)
+      ++ (if is_callable (callable (sc.names x)) then arguments_faults sc (profile_formals (callable (sc.names x))) es at else indices_faults sc es at)
   -- 27: `@` of anything but a pointer, in a split procedure
   faults sc around (tree.Tree.address x es at) =
       variable_faults sc x (count es) at ++ unless (not sc.split || is_pointer (sc.names x)) 27 at ++ indices_faults sc es at
-  faults sc around (tree.Tree.unary op e at) = faults sc at e ++ (if op == 2 then bits_faults sc.names at e else [])
+  faults sc around (tree.Tree.unary op e at) = faults sc at e ++ (if op == complement then bits_faults sc.names at e else [])
   -- 4: kinds are mixed. 5: the operation is not one of this kind.
   faults sc around (tree.Tree.binary op a b at) =
       if compares_text sc.names op a b then faults sc at a ++ far_faults sc a

@@ -1,5 +1,5 @@
 -- Kinds of expressions, and what operators do with them.
-use Rattle.std.specs.Prelude.{ℕ, ◌==◌, ◌&&◌, Bool, true, false, nat_lt, nat_le, if◌then◌else◌, length, Option, Some, None}
+use Rattle.std.specs.Prelude.{ℕ, ◌-◌, ◌==◌, ◌&&◌, Bool, true, false, nat_lt, nat_le, if◌then◌else◌, length, Option, Some, None}
 use Rattle.spl_tree.specs.declared.expressions.Kind.{Kind}
 use Rattle.spl_tree.specs.declared.expressions.Kind.TheVariants as kind
 use Rattle.spl_tree.specs.Trees as tree
@@ -84,21 +84,75 @@ class_operand logicals = of kind.Logical
 class_operand doubles = of kind.Double
 class_operand mixed = unknown
 
+-- ---- operators by their numbers: OR AND LOR XOR LAND = <> < > <= >= + - * / MOD from 0 on
+
+-- OR
+abbrev pub or_operator : ℕ
+or_operator = 0
+
+-- LOR
+abbrev pub lor_operator : ℕ
+lor_operator = 2
+
+-- XOR
+abbrev pub xor_operator : ℕ
+xor_operator = 3
+
+-- +
+abbrev pub plus : ℕ
+plus = 11
+
+-- -
+abbrev pub minus : ℕ
+minus = 12
+
+-- *
+abbrev pub times : ℕ
+times = 13
+
+-- MOD
+abbrev pub modulo : ℕ
+modulo = 15
+
+-- of operators of one operand: + that leaves a value
+abbrev pub positive : ℕ
+positive = 0
+
+-- - that negates it
+abbrev pub negative : ℕ
+negative = 1
+
+-- NOT
+abbrev pub complement : ℕ
+complement = 2
+
 -- OR and AND
 abbrev pub is_connective : ℕ → Bool
 is_connective op = nat_lt op 2
 
--- LOR, XOR and LAND
-abbrev pub is_bitwise : ℕ → Bool
-is_bitwise op = nat_le 2 op && nat_lt op 5
+-- OR, AND, LOR, XOR and LAND
+abbrev pub works_on_bits : ℕ → Bool
+works_on_bits op = nat_lt op 5
 
 -- the six relations
 abbrev pub is_relation : ℕ → Bool
 is_relation op = nat_le 5 op && nat_lt op 11
 
+-- the number of a relation among relations
+abbrev pub relation_number : ℕ → ℕ
+relation_number op = op - 5
+
+-- those that give a LOGICAL: all but + - * / MOD
+abbrev pub gives_logical : ℕ → Bool
+gives_logical op = nat_lt op 11
+
+-- * / MOD
+abbrev pub multiplies : ℕ → Bool
+multiplies op = nat_le 13 op
+
 -- the kind of what an operator makes of two operands
 abbrev pub binary_operand : ℕ → Operand → Operand → Operand
-binary_operand op a b = if nat_lt op 11 then of kind.Logical else class_operand (class_of a b)
+binary_operand op a b = if gives_logical op then of kind.Logical else class_operand (class_of a b)
 
 -- minus: a LOGICAL or BYTE gives LOGICAL, a constant INTEGER
 abbrev pub minus_operand : Operand → Operand
@@ -111,7 +165,7 @@ minus_operand unknown = unknown
 
 -- + keeps the kind, NOT gives LOGICAL
 abbrev pub unary_operand : ℕ → Operand → Operand
-unary_operand op a = if op == 0 then a else if op == 1 then minus_operand a else of kind.Logical
+unary_operand op a = if op == positive then a else if op == negative then minus_operand a else of kind.Logical
 
 -- the kind of an expression
 abbrev pub kind_of : Names → Tree → Operand

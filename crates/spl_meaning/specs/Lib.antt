@@ -1,5 +1,6 @@
 pub mod Names
 pub mod Kinds
+pub mod Stops
 pub mod Tables
 pub mod Places
 pub mod Pending
@@ -19,14 +20,4 @@ pub mod DeclarationRules
 pub mod Sound
 pub mod Limits
 pub mod Bound
-pub mod Programs
-pub mod ArithmeticRuns
-pub mod ReferenceRuns
-pub mod StatementRuns
-pub mod CallRuns
-pub mod EffectRuns
-pub mod BegunRuns
-pub mod FaultRuns
-pub mod LimitRuns
-pub mod BoundRuns
 pub mod Laws

@@ -10,12 +10,32 @@ use Rattle.spl_tree.specs.StatementTrees.{Statement, Statements, Target, Source 
 use Rattle.spl_tree.specs.DeclarationTrees as decl
 use Rattle.spl_tree.specs.DeclarationTrees.{Heading, Item, Declaration, Declarations, declarations}
 use Rattle.spl_meaning.specs.Names.{Names, Sort, Table, Formal, find, within, nothing_declared, same_name, parameters, formals_of, profile_of}
-use Rattle.spl_meaning.specs.Kinds.{kind_of, operand_width, callable}
-use Rattle.spl_meaning.specs.Tables.{Source, Routine, Subroutine, shaped, declared, with_declaration, unit_table, routines_of, outer_names, routine_table, routine_names, subroutines_among, subroutine_names}
+use Rattle.spl_meaning.specs.Kinds.{callable}
+use Rattle.spl_meaning.specs.Tables.{Source, Routine, Subroutine, shaped, declared, with_declaration, unit_table, routines_of, outer_names, routine_table, routine_names, routine_subroutines, unit_subroutines, subroutine_names}
 use Rattle.spl_meaning.specs.Places.{Place, below_return, item_words, array_words, where_own, list_words}
-use Rattle.spl_meaning.specs.Pending.{formal_words, result_words, first_formal, other_formals, argument_words, profile_formals, profile_result_words, left_words, target_words, answer_words}
+use Rattle.spl_meaning.specs.Pending.{formal_words, result_words, first_formal, other_formals, argument_words, profile_formals, profile_result_words, left_words, waiting, behind_first, behind_second}
 use Rattle.spl_meaning.specs.Bodies.{all_routines, primary_words, parameter_places, result_place}
 use Rattle.spl_meaning.specs.Faults.{fault, is_before}
+
+-- the most words of the primary area
+abbrev pub most_primary : ℕ
+most_primary = 256
+
+-- of the local items of a body
+abbrev pub most_locals : ℕ
+most_locals = 127
+
+-- of a result and parameters
+abbrev pub most_parameters : ℕ
+most_parameters = 59
+
+-- of both areas, and of the local words of a body
+abbrev pub most_data : ℕ
+most_data = 32000
+
+-- how far beneath the top a word may be used
+abbrev pub most_reach : ℕ
+most_reach = 63
 
 -- a limit that is passed at a place, by a count
 pub record Full : Type 0 where
@@ -79,13 +99,13 @@ global_sizes words us = joined (λ u. sized false words (unit_data u)) us ++ joi
 
 -- 1: the primary area has more than 256 words. 4: both areas have more than 32,000.
 abbrev pub global_limits : List Source → List Full
-global_limits us = passing 1 256 0 (global_sizes item_words us) ++ passing 4 32000 (primary_words us) (global_sizes array_words us)
+global_limits us = passing 1 most_primary 0 (global_sizes item_words us) ++ passing 4 most_data (primary_words us) (global_sizes array_words us)
 
 -- 2: the local items of a body have more than 127 words. 4: its local words are more than 32,000.
 abbrev pub local_limits : Routine → List Full
 local_limits r =
-    passing 2 127 0 (sized false item_words (routine_data r))
-    ++ passing 4 32000 (list_words false (routine_table r)) (sized false array_words (routine_data r))
+    passing 2 most_locals 0 (sized false item_words (routine_data r))
+    ++ passing 4 most_data (list_words false (routine_table r)) (sized false array_words (routine_data r))
 
 -- ---- parameters
 
@@ -96,7 +116,7 @@ parameter_sizes (f ∷ fs) = record { at = f.at; words = formal_words f } ∷ pa
 
 -- 3: a result and parameters have more than 59 words
 abbrev pub heading_limits : Heading → List Full
-heading_limits h = passing 3 59 (result_words (profile_of h)) (parameter_sizes (formals_of h))
+heading_limits h = passing 3 most_parameters (result_words (profile_of h)) (parameter_sizes (formals_of h))
 
 -- ---- uses of names, with the words that wait there
 
@@ -124,7 +144,7 @@ abbrev mutual
       ∷ uses_among names (profile_formals (callable (names x))) es (k + profile_result_words (callable (names x)))
   uses names (tree.Tree.address x es at) k = use_of x at k false ∷ uses_among names [] es k
   uses names (tree.Tree.unary op e at) k = uses names e k
-  uses names (tree.Tree.binary op a b at) k = uses names a k ++ uses names b (k + left_words op (operand_width (kind_of names a)))
+  uses names (tree.Tree.binary op a b at) k = uses names a k ++ uses names b (k + left_words names op a b)
   uses names (tree.Tree.shift op e by at) k = uses names e k
   uses names (tree.Tree.field e start size at) k = uses names e k
   uses names (tree.Tree.transfer to e at) k = uses names e k
@@ -135,24 +155,24 @@ abbrev mutual
   uses_among names fs tree.Trees.none k = []
   uses_among names fs (tree.Trees.and e es) k = uses names e k ++ uses_among names (other_formals fs) es (k + argument_words (first_formal fs))
 
--- a target: its name is assigned, its index is worked out
-abbrev pub as_target : List Use → List Use
-as_target [] = []
-as_target (u ∷ us) = record u { is_target = true } ∷ us
+-- the uses in a reference that is assigned: its name, and its index, since assigning a result is no call
+abbrev pub index_uses : Names → Tree → ℕ → List Use
+index_uses names (tree.Tree.named x es at) k = use_of x at k true ∷ uses_among names [] es k
+index_uses names _ k = []
 
 -- the uses in a target
 abbrev pub target_uses : Names → Target → ℕ → List Use
-target_uses names (stat.Target.plain r) k = as_target (uses names r k)
-target_uses names (stat.Target.field r start size) k = as_target (uses names r k)
+target_uses names (stat.Target.plain r) k = index_uses names r k
+target_uses names (stat.Target.field r start size) k = index_uses names r k
 target_uses names (stat.Target.address x at) k = use_of x at k true ∷ []
 
 -- the uses in a MOVE or a SCAN
 abbrev pub effect_uses : Names → Bool → Effect → ℕ → List Use
 effect_uses names used (stat.Effect.move to (stat.Source.counted from size)) k =
-    uses names to k ++ uses names from (k + 1 + answer_words used) ++ uses names size (k + 2 + answer_words used)
+    uses names to k ++ uses names from (behind_first used k) ++ uses names size (behind_second used k)
 effect_uses names used (stat.Effect.move to (stat.Source.text bytes)) k = uses names to k
-effect_uses names used (stat.Effect.move to (stat.Source.class_of from c)) k = uses names to k ++ uses names from (k + 1 + answer_words used)
-effect_uses names used (stat.Effect.scan from until e) k = uses names from k ++ uses names e (k + 1 + answer_words used)
+effect_uses names used (stat.Effect.move to (stat.Source.class_of from c)) k = uses names to k ++ uses names from (behind_first used k)
+effect_uses names used (stat.Effect.scan from until e) k = uses names from k ++ uses names e (behind_first used k)
 
 -- the uses in a test
 abbrev pub test_uses : Names → Test → ℕ → List Use
@@ -179,8 +199,8 @@ abbrev mutual
   statement_uses names (stat.Statement.case_of e ss at) k = uses names e k ++ statements_uses names ss k
   statement_uses names (stat.Statement.go_to x at) k = []
   statement_uses names (stat.Statement.return at) k = []
-  statement_uses names (stat.Statement.assign to e at) k = target_uses names to k ++ uses names e (k + target_words to)
-  statement_uses names (stat.Statement.assign_effect to e at) k = target_uses names to k ++ effect_uses names true e k
+  statement_uses names (stat.Statement.assign to e at) k = target_uses names to k ++ uses names e (waiting to k)
+  statement_uses names (stat.Statement.assign_effect to e at) k = target_uses names to k ++ effect_uses names true e (waiting to k)
   statement_uses names (stat.Statement.do_effect e at) k = effect_uses names false e k
   statement_uses names (stat.Statement.call x es at) k = uses names (tree.Tree.named x es at) k
 
@@ -204,7 +224,7 @@ place_used h u None = if u.is_target then (if same_name u.name h.name then Some 
 -- 5: a use more than 63 words beneath the top: the words that wait, the return word, and those between
 abbrev pub reach_by : Use → Option ℕ → List Full
 reach_by u None = []
-reach_by u (Some n) = if nat_lt 63 (u.waiting + n) then record { limit = 5; at = u.at; count = u.waiting + n } ∷ [] else []
+reach_by u (Some n) = if nat_lt most_reach (u.waiting + n) then record { limit = 5; at = u.at; count = u.waiting + n } ∷ [] else []
 
 -- a use of a subroutine's parameter or result
 abbrev pub use_limits : Heading → Use → List Full
@@ -220,11 +240,11 @@ subroutine_limits around s =
 -- the limits that a procedure passes
 abbrev pub routine_limits : Routine → List Full
 routine_limits r =
-    heading_limits r.heading ++ local_limits r ++ joined (subroutine_limits (routine_names r)) (subroutines_among r.items)
+    heading_limits r.heading ++ local_limits r ++ joined (subroutine_limits (routine_names r)) (routine_subroutines r)
 
 -- the limits that the bodies of a unit pass
 abbrev pub unit_limits : Source → List Full
-unit_limits u = joined routine_limits (routines_of u) ++ joined (subroutine_limits (find (unit_table u))) (subroutines_among (declarations u.tree.items))
+unit_limits u = joined routine_limits (routines_of u) ++ joined (subroutine_limits (find (unit_table u))) (unit_subroutines u)
 
 -- the limits that some units pass
 abbrev pub all_limits : List Source → List Full

@@ -14,6 +14,12 @@ use Rattle.spl_tree.specs.DeclarationTrees.{Placed, Spec, Heading, Term}
 abbrev pub same_name : List ℕ → List ℕ → Bool
 same_name x y = pointwise nat_eq x y
 
+-- two flags are alike
+abbrev pub same_flag : Bool → Bool → Bool
+same_flag true b = b
+same_flag false true = false
+same_flag false false = true
+
 -- a list of declarations: names with what they stand for, in order
 abbrev pub Table : Type 0 → Type 0
 Table A = List (List ℕ × A)
@@ -42,7 +48,8 @@ pub record Profile : Type 0 where
   pub formals : List Formal
   pub split : Bool
 
--- What a name stands for. The flag of data says that it is OWN; an array has its bounds, a view the name of its base.
+-- What a name stands for. The flag of data says that it is OWN; an array has its bounds, a view the name of its base, an EQUATE name its
+-- value, where it has one.
 pub data Sort : Type 0 where
   simple : Kind → Bool → Sort
   array : Kind → Bool → ℤ → ℤ → Sort
@@ -51,7 +58,7 @@ pub data Sort : Type 0 where
   value : Kind → Sort
   by_reference : Kind → Sort
   array_parameter : Kind → Sort
-  equate : ℤ → Sort
+  equate : Option ℤ → Sort
   label : Sort
   intrinsic : Intrinsic → Sort
   procedure : Profile → Sort
@@ -185,7 +192,7 @@ whole_number (Some v) = Some (pos v)
 
 -- the value of an EQUATE name
 abbrev pub equate_value : Option Sort → Option ℤ
-equate_value (Some (equate v)) = Some v
+equate_value (Some (equate v)) = v
 equate_value _ = None
 
 -- the whole number that a constant is, where it is one

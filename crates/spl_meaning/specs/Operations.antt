@@ -14,7 +14,7 @@ use Rattle.hp_word.specs.Bytes.{double, high_word, low_word}
 use Rattle.spl_tree.specs.declared.expressions.Kind.{Kind}
 use Rattle.spl_tree.specs.declared.expressions.Kind.TheVariants as kind
 use Rattle.spl_meaning.specs.Names.{truth_word}
-use Rattle.spl_meaning.specs.Kinds.{Operand, of, const, Class, integers, logicals, doubles, class_of, is_relation}
+use Rattle.spl_meaning.specs.Kinds.{Operand, of, const, Class, integers, logicals, doubles, class_of, is_relation, relation_number, works_on_bits, lor_operator, xor_operator, plus, minus, times, modulo, positive, negative}
 use Rattle.spl_meaning.specs.States.{State, trapped, Outcome, done, ends, strays}
 
 -- a double as two words
@@ -71,26 +71,26 @@ relation_done op c s = done (truth_word (related op c) ∷ []) s
 -- two INTEGERs
 abbrev pub on_integers : ℕ → ℕ → ℕ → State → Outcome (List ℕ)
 on_integers op b a s =
-    if is_relation op then relation_done (op - 5) (words_compared b a) s
-    else if op == 11 then word_done (added b a) s
-    else if op == 12 then word_done (subtracted b a) s
-    else if op == 13 then word_done (multiplied b a) s
-    else quotient_done (op == 15) (divided b a) s
+    if is_relation op then relation_done (relation_number op) (words_compared b a) s
+    else if op == plus then word_done (added b a) s
+    else if op == minus then word_done (subtracted b a) s
+    else if op == times then word_done (multiplied b a) s
+    else quotient_done (op == modulo) (divided b a) s
 
 -- two LOGICALs
 abbrev pub on_logicals : ℕ → ℕ → ℕ → State → Outcome (List ℕ)
 on_logicals op b a s =
-    if is_relation op then relation_done (op - 5) (logically_compared b a) s
-    else if op == 11 then done ((logically_added b a).value ∷ []) s
-    else if op == 12 then done ((logically_subtracted b a).value ∷ []) s
-    else if op == 13 then done ((logically_multiplied b a).value % 65536 ∷ []) s
-    else quotient_done (op == 15) (logically_divided b a) s
+    if is_relation op then relation_done (relation_number op) (logically_compared b a) s
+    else if op == plus then done ((logically_added b a).value ∷ []) s
+    else if op == minus then done ((logically_subtracted b a).value ∷ []) s
+    else if op == times then done ((logically_multiplied b a).value % 65536 ∷ []) s
+    else quotient_done (op == modulo) (logically_divided b a) s
 
 -- two DOUBLEs
 abbrev pub on_doubles : ℕ → ℕ → ℕ → State → Outcome (List ℕ)
 on_doubles op b a s =
-    if is_relation op then relation_done (op - 5) (doubles_compared b a) s
-    else if op == 11 then double_done (double_added b a) s
+    if is_relation op then relation_done (relation_number op) (doubles_compared b a) s
+    else if op == plus then double_done (double_added b a) s
     else double_done (double_subtracted b a) s
 
 -- two operands of a class
@@ -105,8 +105,8 @@ by_class _ op bs as' s = strays s
 -- LOR, XOR, LAND of two bits, by their numbers
 abbrev pub bit_of : ℕ → ℕ → ℕ → ℕ
 bit_of op b a =
-    if op == 2 then (if b + a == 0 then 0 else 1)
-    else if op == 3 then (b + a) % 2
+    if op == lor_operator then (if b + a == 0 then 0 else 1)
+    else if op == xor_operator then (b + a) % 2
     else b * a
 
 -- all bits of two words
@@ -120,7 +120,7 @@ bits_done op bs as' s = strays s
 
 -- two operands of an operator but AND and OR, with the operation that their kinds take
 abbrev pub joined : ℕ → Operand → Operand → List ℕ → List ℕ → State → Outcome (List ℕ)
-joined op left right bs as' s = if nat_lt op 5 then bits_done op bs as' s else by_class (class_of left right) op bs as' s
+joined op left right bs as' s = if works_on_bits op then bits_done op bs as' s else by_class (class_of left right) op bs as' s
 
 -- ---- operators of one operand
 
@@ -140,7 +140,7 @@ not_done vs s = strays s
 
 -- + - NOT, by their numbers
 abbrev pub signed_done : ℕ → Operand → List ℕ → State → Outcome (List ℕ)
-signed_done op k vs s = if op == 0 then done vs s else if op == 1 then minus_done k vs s else not_done vs s
+signed_done op k vs s = if op == positive then done vs s else if op == negative then minus_done k vs s else not_done vs s
 
 -- the shifts by their numbers
 abbrev pub shift_numbered : ℕ → Shift
@@ -155,50 +155,50 @@ shift_done op count vs s = strays s
 
 -- a bit field of a single word
 abbrev pub field_done : ℕ → ℕ → List ℕ → State → Outcome (List ℕ)
-field_done start size (w ∷ []) s = done (field w start size ∷ []) s
+field_done start size (w ∷ []) s = done (field w start size % 65536 ∷ []) s
 field_done start size vs s = strays s
 
 -- ---- transfers
-
--- the single word of a value: itself, or the low word of a DOUBLE
-abbrev pub single_word : List ℕ → List ℕ
-single_word (h ∷ l ∷ []) = l ∷ []
-single_word vs = vs
 
 -- the right eight bits
 abbrev pub right_byte : List ℕ → List ℕ
 right_byte (w ∷ []) = w % 256 ∷ []
 right_byte vs = vs
 
--- a word as a double: INTEGER and constants by their sign, LOGICAL and BYTE by zero
-abbrev pub extended : Operand → List ℕ → List ℕ
-extended (of kind.Integer) (w ∷ []) = (if nat_lt w 32768 then 0 else 65535) ∷ w ∷ []
-extended const (w ∷ []) = (if nat_lt w 32768 then 0 else 65535) ∷ w ∷ []
-extended (of kind.Double) vs = vs
-extended _ (w ∷ []) = 0 ∷ w ∷ []
-extended _ vs = vs
+-- the single word of a value: itself, or the low word of a DOUBLE
+abbrev pub with_single : List ℕ → State → (ℕ → Outcome (List ℕ)) → Outcome (List ℕ)
+with_single (w ∷ []) s go = go w
+with_single (h ∷ l ∷ []) s go = go l
+with_single vs s go = strays s
+
+-- a word as a double: INTEGER and constants by their sign, LOGICAL and BYTE by zero; a DOUBLE is one
+abbrev pub extended : Operand → List ℕ → State → Outcome (List ℕ)
+extended (of kind.Integer) (w ∷ []) s = done ((if nat_lt w 32768 then 0 else 65535) ∷ w ∷ []) s
+extended const (w ∷ []) s = done ((if nat_lt w 32768 then 0 else 65535) ∷ w ∷ []) s
+extended (of kind.Double) (h ∷ l ∷ []) s = done (h ∷ l ∷ []) s
+extended (of kind.Logical) (w ∷ []) s = done (0 ∷ w ∷ []) s
+extended (of kind.Byte) (w ∷ []) s = done (0 ∷ w ∷ []) s
+extended _ vs s = strays s
 
 -- a value of some kind taken as one of another
-abbrev pub transferred : Kind → Operand → List ℕ → List ℕ
-transferred kind.Integer from vs = single_word vs
-transferred kind.Logical from vs = single_word vs
-transferred kind.Byte from vs = right_byte (single_word vs)
-transferred kind.Double from vs = extended from vs
+abbrev pub transferred : Kind → Operand → List ℕ → State → Outcome (List ℕ)
+transferred kind.Integer from vs s = with_single vs s (λ w. done (w ∷ []) s)
+transferred kind.Logical from vs s = with_single vs s (λ w. done (w ∷ []) s)
+transferred kind.Byte from vs s = with_single vs s (λ w. done (w % 256 ∷ []) s)
+transferred kind.Double from vs s = extended from vs s
 
--- what is kept of a value by a variable, a parameter or a result of a kind: a BYTE keeps the right eight bits
+-- what is kept of a value by a variable or a result of a kind: a BYTE keeps the right eight bits
 abbrev pub kept : Kind → List ℕ → List ℕ
 kept kind.Byte vs = right_byte vs
 kept _ vs = vs
 
--- the words in which a parameter of a kind holds a value: a BYTE stands in the left half
-abbrev pub left_byte : List ℕ → List ℕ
-left_byte (w ∷ []) = 256 * (w % 256) ∷ []
-left_byte vs = vs
-
--- a value as a parameter of a kind holds it
-abbrev pub passed : Kind → List ℕ → List ℕ
-passed kind.Byte vs = left_byte vs
-passed _ vs = vs
+-- a value as a parameter of a kind holds it: a BYTE stands in the left half of its word
+abbrev pub passed : Option Kind → List ℕ → State → Outcome (List ℕ)
+passed (Some kind.Integer) (w ∷ []) s = done (w ∷ []) s
+passed (Some kind.Logical) (w ∷ []) s = done (w ∷ []) s
+passed (Some kind.Byte) (w ∷ []) s = done (256 * (w % 256) ∷ []) s
+passed (Some kind.Double) (h ∷ l ∷ []) s = done (h ∷ l ∷ []) s
+passed _ vs s = strays s
 
 -- the value of a result whose words these are
 abbrev pub left_half : List ℕ → List ℕ

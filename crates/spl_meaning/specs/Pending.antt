@@ -6,8 +6,8 @@ use Rattle.spl_tree.specs.Trees.{Tree, Trees}
 use Rattle.spl_tree.specs.StatementTrees as stat
 use Rattle.spl_tree.specs.StatementTrees.{Statement, Statements, Target, Source, Effect, Test}
 use Rattle.spl_meaning.specs.Names as n
-use Rattle.spl_meaning.specs.Names.{Names, Sort, Formal, Profile, intrinsic_profile}
-use Rattle.spl_meaning.specs.Kinds.{width, result_width, operand_width, kind_of, is_connective}
+use Rattle.spl_meaning.specs.Names.{Names, Sort, Formal, Profile}
+use Rattle.spl_meaning.specs.Kinds.{width, result_width, operand_width, kind_of, is_connective, compares_text, callable}
 
 -- ---- words of parameters
 
@@ -33,7 +33,7 @@ formals_words (f ∷ fs) = formal_words f + formals_words fs
 abbrev pub result_words : Profile → ℕ
 result_words p = result_width p.result
 
--- the words of a marker, and of a return word
+-- the words of a marker
 abbrev pub marker_words : ℕ
 marker_words = 4
 
@@ -48,13 +48,6 @@ abbrev pub link_words : Option Sort → ℕ
 link_words (Some (n.procedure p)) = marker_words
 link_words (Some (n.subroutine p)) = return_words
 link_words _ = 0
-
--- what a name takes and gives where it is called
-abbrev pub callee_profile : Option Sort → Option Profile
-callee_profile (Some (n.intrinsic i)) = Some (intrinsic_profile i)
-callee_profile (Some (n.procedure p)) = Some p
-callee_profile (Some (n.subroutine p)) = Some p
-callee_profile _ = None
 
 -- the first of a list of parameters, and the others
 abbrev pub first_formal : List Formal → Option Formal
@@ -81,14 +74,10 @@ abbrev pub profile_result_words : Option Profile → ℕ
 profile_result_words None = 0
 profile_result_words (Some p) = result_words p
 
--- whether a name is called
-abbrev pub is_called : Option Profile → Bool
-is_called None = false
-is_called (Some p) = true
-
--- the left value waits for the right one, but not of AND and OR
-abbrev pub left_words : ℕ → ℕ → ℕ
-left_words op w = if is_connective op then 0 else w
+-- the words of a left operand that wait for the right one: its value, but nothing of AND and OR, nor of a comparison with a string
+abbrev pub left_words : Names → ℕ → Tree → Tree → ℕ
+left_words names op a b =
+    if is_connective op then 0 else if compares_text names op a b then 0 else operand_width (kind_of names a)
 
 abbrev mutual
   -- an expression
@@ -98,12 +87,12 @@ abbrev mutual
   most names (tree.Tree.text bytes) = 0
   most names (tree.Tree.truth b) = 0
   most names (tree.Tree.named x es at) =
-      let p = callee_profile (names x) in
+      let p = callable (names x) in
       max (most_of names (profile_formals p) (profile_result_words p) es)
       (profile_result_words p + formals_words (profile_formals p) + link_words (names x))
   most names (tree.Tree.address x es at) = most_of names [] 0 es
   most names (tree.Tree.unary op e at) = most names e
-  most names (tree.Tree.binary op a b at) = max (most names a) (left_words op (operand_width (kind_of names a)) + most names b)
+  most names (tree.Tree.binary op a b at) = max (most names a) (left_words names op a b + most names b)
   most names (tree.Tree.shift op e by at) = most names e
   most names (tree.Tree.field e start size at) = most names e
   most names (tree.Tree.transfer k e at) = most names e
@@ -115,38 +104,49 @@ abbrev mutual
   most_of names fs k (tree.Trees.and e es) =
       max (k + most names e) (most_of names (other_formals fs) (k + argument_words (first_formal fs)) es)
 
--- whether a reference has an index
-abbrev pub index_words : Tree → ℕ
-index_words (tree.Tree.named x (tree.Trees.and e es) at) = 1
-index_words _ = 0
+-- what waits behind k words once the index of a reference is worked out, where it has one
+abbrev pub behind_index : Tree → ℕ → ℕ
+behind_index (tree.Tree.named x (tree.Trees.and e es) at) k = k + 1
+behind_index _ k = k
 
--- the word of an index that waits for the value
-abbrev pub target_words : Target → ℕ
-target_words (stat.Target.plain r) = index_words r
-target_words (stat.Target.field r start size) = index_words r
-target_words (stat.Target.address x at) = 0
+-- what waits behind k words while the value for a target is worked out
+abbrev pub waiting : Target → ℕ → ℕ
+waiting (stat.Target.plain r) k = behind_index r k
+waiting (stat.Target.field r start size) k = behind_index r k
+waiting (stat.Target.address x at) k = k
+
+-- a reference that is assigned: its index alone, since assigning a result is no call
+abbrev pub index_most : Names → Tree → ℕ
+index_most names (tree.Tree.named x es at) = most_of names [] 0 es
+index_most names _ = 0
 
 -- a target
 abbrev pub target_most : Names → Target → ℕ
-target_most names (stat.Target.plain r) = most names r
-target_most names (stat.Target.field r start size) = most names r
+target_most names (stat.Target.plain r) = index_most names r
+target_most names (stat.Target.field r start size) = index_most names r
 target_most names (stat.Target.address x at) = 0
 
--- a word more waits where the answer of a MOVE or SCAN is used
-abbrev pub answer_words : Bool → ℕ
-answer_words true = 1
-answer_words false = 0
+-- What waits behind k words while the second reference of a MOVE is worked out, or the test word of a SCAN: the first address, and a word
+-- more where the answer is used.
+abbrev pub behind_first : Bool → ℕ → ℕ
+behind_first true k = k + 2
+behind_first false k = k + 1
+
+-- what waits behind k words while the count of a MOVE is worked out: both addresses, and a word more where the answer is used
+abbrev pub behind_second : Bool → ℕ → ℕ
+behind_second true k = k + 3
+behind_second false k = k + 2
 
 -- what a MOVE moves
-abbrev pub source_most : Names → ℕ → Source → ℕ
-source_most names used (stat.Source.counted r count) = max (1 + used + most names r) (2 + used + most names count)
+abbrev pub source_most : Names → Bool → Source → ℕ
+source_most names used (stat.Source.counted r count) = max (behind_first used (most names r)) (behind_second used (most names count))
 source_most names used (stat.Source.text bytes) = 0
-source_most names used (stat.Source.class_of r c) = 1 + used + most names r
+source_most names used (stat.Source.class_of r c) = behind_first used (most names r)
 
 -- a MOVE or a SCAN, whose answer is used or not
 abbrev pub effect_most : Names → Bool → Effect → ℕ
-effect_most names used (stat.Effect.move r from) = max (most names r) (source_most names (answer_words used) from)
-effect_most names used (stat.Effect.scan r until e) = max (most names r) (1 + answer_words used + most names e)
+effect_most names used (stat.Effect.move r from) = max (most names r) (source_most names used from)
+effect_most names used (stat.Effect.scan r until e) = max (most names r) (behind_first used (most names e))
 
 -- what an IF tests
 abbrev pub test_most : Names → Test → ℕ
@@ -173,8 +173,8 @@ abbrev mutual
   statement_most names (stat.Statement.case_of e ss at) = max (most names e) (statements_most names ss)
   statement_most names (stat.Statement.go_to x at) = 0
   statement_most names (stat.Statement.return at) = 0
-  statement_most names (stat.Statement.assign to e at) = max (target_most names to) (target_words to + most names e)
-  statement_most names (stat.Statement.assign_effect to e at) = max (target_most names to) (effect_most names true e)
+  statement_most names (stat.Statement.assign to e at) = max (target_most names to) (waiting to (most names e))
+  statement_most names (stat.Statement.assign_effect to e at) = max (target_most names to) (waiting to (effect_most names true e))
   statement_most names (stat.Statement.do_effect e at) = effect_most names false e
   statement_most names (stat.Statement.call x es at) = most names (tree.Tree.named x es at)
 

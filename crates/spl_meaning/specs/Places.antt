@@ -7,11 +7,12 @@ use Rattle.spl_tree.specs.declared.expressions.Kind.TheVariants as kind
 use Rattle.spl_tree.specs.DeclarationTrees as decl
 use Rattle.spl_tree.specs.DeclarationTrees.{Declaration, Declarations, Item, declarations}
 use Rattle.spl_meaning.specs.Names as n
-use Rattle.spl_meaning.specs.Names.{Names, Sort, Table, Formal, find, constant_or_zero}
+use Rattle.spl_meaning.specs.Names.{Names, Sort, Table, Formal, same_flag, find, within, constant_or_zero}
 use Rattle.spl_meaning.specs.Kinds.{width}
+use Rattle.spl_meaning.specs.Tables.{declared, shaped, with_declaration}
 
--- A place: the address of a data word; or so many words above or below the last word of the live marker; or below the return
--- word of the live subroutine.
+-- A place: the address of a data word; or so many words above or below the base, the last word of the live marker, which the machine
+-- has in Q; or below the return word of the live subroutine.
 pub data Place : Type 0 where
   data_word : ℕ → Place
   above_base : ℕ → Place
@@ -135,17 +136,11 @@ cell_of places arrays x (n.array k own low high) = cell_with (find places x) fal
 cell_of places arrays x (n.view k own base) = cell_with (find places x) (is_byte_kind k) (find arrays base)
 cell_of places arrays x _ = []
 
--- two flags are alike
-abbrev pub is_same : Bool → Bool → Bool
-is_same true b = b
-is_same false true = false
-is_same false false = true
-
 -- the cells of a list's items that are OWN, or of those that are not
 abbrev pub cells_among : Bool → Table Place → Table Array → Table Sort → List Cell
 cells_among own places arrays [] = []
 cells_among own places arrays (e ∷ es) =
-    (if is_same own (is_own e.1) then cell_of places arrays e.0 e.1 else []) ++ cells_among own places arrays es
+    (if same_flag own (is_own e.1) then cell_of places arrays e.0 e.1 else []) ++ cells_among own places arrays es
 
 -- The word in the cell of an array whose data begin at an address: that address less the lower bound, twice that for a DOUBLE;
 -- for a BYTE the byte address less it.
@@ -177,25 +172,39 @@ abbrev pub initial_at : Option Place → Kind → List ℤ → List Initial
 initial_at None k vs = []
 initial_at (Some p) k vs = record { from = p; kind = k; values = vs } ∷ []
 
--- the initial values of items that are OWN or not
-abbrev pub item_initials : Names → Table Place → Table Array → Kind → List Item → List Initial
-item_initials names places arrays k [] = []
-item_initials names places arrays k (i ∷ is) =
-    initial_at (start_of (find places i.name) (find arrays i.name)) k (map (constant_or_zero names) i.first)
-    ++ item_initials names places arrays k is
+-- the initial values of a declaration's items, each read with the names before it: those outside, and the list up to the item
+abbrev pub item_initials : Names → Bool → Kind → Table Place → Table Array → Table Sort → List Item → List Initial
+item_initials outer own k places arrays table [] = []
+item_initials outer own k places arrays table (i ∷ is) =
+    initial_at (start_of (find places i.name) (find arrays i.name)) k (map (constant_or_zero (within table outer)) i.first)
+    ++ item_initials outer own k places arrays (declared table i.name (shaped (within table outer) own k i.shape)) is
 
--- the initial values of declarations
-abbrev pub initials_among : Bool → Names → Table Place → Table Array → Declarations → List Initial
-initials_among own names places arrays decl.none = []
-initials_among own names places arrays (decl.and (decl.Declaration.data_items kept k items) ds) =
-    (if is_same own kept then item_initials names places arrays k items else []) ++ initials_among own names places arrays ds
-initials_among own names places arrays (decl.and d ds) = initials_among own names places arrays ds
+-- the initial values of one declaration, where its items are OWN or where they are not
+abbrev pub declaration_initials : Bool → Names → Table Place → Table Array → Table Sort → Declaration → List Initial
+declaration_initials own outer places arrays table (decl.Declaration.data_items kept k items) =
+    if same_flag own kept then item_initials outer kept k places arrays table items else []
+declaration_initials own outer places arrays table d = []
+
+-- the initial values of declarations, behind those of a list
+abbrev pub initials_among : Bool → Names → Table Place → Table Array → Table Sort → Declarations → List Initial
+initials_among own outer places arrays table decl.none = []
+initials_among own outer places arrays table (decl.and d ds) =
+    declaration_initials own outer places arrays table d ++ initials_among own outer places arrays (with_declaration outer table d) ds
 
 -- ---- data words
 
--- the data words with v at an address
+-- the data words and one more, with v at its address
 abbrev pub put : ℕ → ℕ → (ℕ → Option ℕ) → ℕ → Option ℕ
 put a v mem b = if nat_eq a b then Some v else mem b
+
+-- a data word takes another value; what is none stays none
+abbrev pub changed : Option ℕ → ℕ → Option ℕ
+changed (Some w) v = Some v
+changed None v = None
+
+-- the same data words, of which that at an address has the value v
+abbrev pub stored : ℕ → ℕ → (ℕ → Option ℕ) → ℕ → Option ℕ
+stored a v mem b = if nat_eq a b then changed (mem b) v else mem b
 
 -- a data word, or zero where there is none
 abbrev pub word_or_zero : Option ℕ → ℕ
@@ -204,13 +213,13 @@ word_or_zero None = 0
 
 -- the data words with a byte at a byte address
 abbrev pub put_byte : ℕ → ℕ → (ℕ → Option ℕ) → ℕ → Option ℕ
-put_byte b v mem = put (b / 2) (with_byte b v (word_or_zero (mem (b / 2)))) mem
+put_byte b v mem = stored (b / 2) (with_byte b v (word_or_zero (mem (b / 2)))) mem
 
 -- the j-th value of a kind from an address on
 abbrev pub put_value : Kind → ℕ → ℕ → ℤ → (ℕ → Option ℕ) → ℕ → Option ℕ
-put_value kind.Double a j v mem = put (a + 2 * j) (high_word (double_of v)) (put (a + 2 * j + 1) (low_word (double_of v)) mem)
+put_value kind.Double a j v mem = stored (a + 2 * j) (high_word (double_of v)) (stored (a + 2 * j + 1) (low_word (double_of v)) mem)
 put_value kind.Byte a j v mem = put_byte (2 * a + j) (word_of v % 256) mem
-put_value _ a j v mem = put (a + j) (word_of v) mem
+put_value _ a j v mem = stored (a + j) (word_of v) mem
 
 -- values of a kind one behind the other
 abbrev pub put_values : Kind → ℕ → ℕ → List ℤ → (ℕ → Option ℕ) → ℕ → Option ℕ
@@ -221,7 +230,7 @@ put_values k a j (v ∷ vs) mem = put_values k a (suc j) vs (put_value k a j v m
 abbrev pub put_cells : (Place → ℕ) → List Cell → (ℕ → Option ℕ) → ℕ → Option ℕ
 put_cells address [] mem = mem
 put_cells address (c ∷ cs) mem =
-    put_cells address cs (put (address c.place) (viewed c.as_bytes (cell_word c.array.kind c.array.low (address c.array.from))) mem)
+    put_cells address cs (stored (address c.place) (viewed c.as_bytes (cell_word c.array.kind c.array.low (address c.array.from))) mem)
 
 -- all initial values
 abbrev pub put_initials : (Place → ℕ) → List Initial → (ℕ → Option ℕ) → ℕ → Option ℕ
@@ -236,13 +245,13 @@ pub record Laid : Type 0 where
   pub cells : List Cell
   pub initials : List Initial
 
--- those that are OWN, or those that are not
-abbrev pub laid : Bool → Names → (ℕ → Place) → Starts → Table Sort → Declarations → Laid
-laid own names at starts table ds =
+-- Those that are OWN, or those that are not: of declarations behind a list, with names outside it, which make the whole list.
+abbrev pub laid : Bool → Names → Table Sort → (ℕ → Place) → Starts → Table Sort → Declarations → Laid
+laid own outer before at starts table ds =
     let places = places_from at starts.own starts.here table in
     let arrays = arrays_from at starts.own_arrays starts.here_arrays table in
     record {
       places = places;
       cells = cells_among own places arrays table;
-      initials = initials_among own names places arrays ds;
+      initials = initials_among own outer places arrays before ds;
     }

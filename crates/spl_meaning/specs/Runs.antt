@@ -1,5 +1,5 @@
 -- Calls, the main body, and the run of a program alone.
-use Rattle.std.specs.Prelude.{ℕ, zero, suc, ◌+◌, ◌-◌, false, if◌then◌else◌, nat_lt, replicate, List, [], ◌∷◌, ◌++◌, Option, Some, None}
+use Rattle.std.specs.Prelude.{ℕ, zero, suc, ◌<◌, ◌+◌, ◌-◌, false, if◌then◌else◌, nat_lt, replicate, List, [], ◌∷◌, ◌++◌, Option, Some, None}
 use Rattle.hp_word.specs.declared.endings.Ending.{Ending}
 use Rattle.hp_word.specs.declared.endings.Ending.TheVariants as ending
 use Rattle.hp_word.specs.declared.endings.Trap.TheVariants.{StackOverflow}
@@ -9,7 +9,7 @@ use Rattle.spl_meaning.specs.Kinds.{width}
 use Rattle.spl_meaning.specs.Tables.{Source, Subroutine, subroutine_named}
 use Rattle.spl_meaning.specs.Places.{Place, data_word, put, put_cells, put_initials}
 use Rattle.spl_meaning.specs.Pending.{formals_words, result_words, marker_words, return_words}
-use Rattle.spl_meaning.specs.References.{address, word_at}
+use Rattle.spl_meaning.specs.References.{address_of, word_at}
 use Rattle.spl_meaning.specs.Operations.{result_value}
 use Rattle.spl_meaning.specs.Values.{procedure, subroutine, Callee}
 use Rattle.spl_meaning.specs.Statements.{run_all, run_body}
@@ -22,6 +22,43 @@ use Rattle.spl_meaning.specs.States.{Data, State, Begun, End, terminated, quit, 
 abbrev pub put_words : ℕ → List ℕ → (ℕ → Option ℕ) → ℕ → Option ℕ
 put_words a [] mem = mem
 put_words a (w ∷ ws) mem = put_words (suc a) ws (put a w mem)
+
+-- the address of the marker, or of the return word, of a call: above a top, k words that wait, the result and the parameters
+abbrev pub link_of : ℕ → ℕ → Body → ℕ
+link_of top k b = top + k + result_words b.profile + formals_words b.profile.formals
+
+-- the address of the first local word: above the marker
+abbrev pub locals_of : ℕ → ℕ → Body → ℕ
+locals_of top k b = link_of top k b + marker_words
+
+-- the data words with the result, zero at first, and the words of the parameters, behind k words that wait
+abbrev pub parameters_put : ℕ → ℕ → Body → List ℕ → (ℕ → Option ℕ) → ℕ → Option ℕ
+parameters_put top k b ws mem = put_words (top + k) (replicate (result_words b.profile) 0 ++ ws) mem
+
+-- the data of a procedure's new frame, before its local words are there
+abbrev pub procedure_framed : ℕ → Body → List ℕ → Data → Data
+procedure_framed k b ws d = record d {
+  mem = parameters_put d.top k b ws d.mem;
+  top = locals_of d.top k b + b.words;
+  base = locals_of d.top k b - 1;
+  inner = 0;
+}
+
+-- the data with a body's cells and initial values
+abbrev pub cells_set : Body → Data → Data
+cells_set b d = record d { mem = put_initials (λ p. address_of p d) b.initials (put_cells (λ p. address_of p d) b.cells d.mem) }
+
+-- the data of a subroutine's new frame
+abbrev pub subroutine_framed : ℕ → Body → List ℕ → Data → Data
+subroutine_framed k b ws d = record d {
+  mem = parameters_put d.top k b ws d.mem;
+  top = link_of d.top k b + return_words;
+  inner = link_of d.top k b;
+}
+
+-- a state with other data, at which no condition code is known
+abbrev pub framed : Data → State → State
+framed d s = record s { now = d; code = None }
 
 -- Local words become zero one by one, a step each.
 abbrev pub zeroed : ℕ → ℕ → State → (State → Outcome (List ℕ)) → Outcome (List ℕ)
@@ -53,7 +90,8 @@ result_at (Some k) a s = then_go (words_at (width k) a s) (λ ws s1. done (resul
 -- the frame of the caller, as it was, and what the callee left elsewhere
 abbrev pub left_to : Data → State → State
 left_to caller s = record s {
-  now = record s.now { mem = cut_at caller.top s.now.mem; top = caller.top; base = caller.base; inner = caller.inner; code = None };
+  now = record s.now { mem = cut_at caller.top s.now.mem; top = caller.top; base = caller.base; inner = caller.inner };
+  code = None;
 }
 
 -- a body is run, and its result is what the caller gets
@@ -64,50 +102,24 @@ called_back caller p first o = then_go (returned o) (λ _ s. then_go (result_at 
 
 -- a subroutine's body is one statement, which is in no list
 abbrev pub run_statement : Body → Callee → ℕ → State → Outcome (Unit {0})
-run_statement b call d s = run_all b.here call d b.statements 0 s
+run_statement b call d s = run_all b.here call d b.number b.statements 0 s
 
 -- A call of a procedure. Above the caller's frame and the words that wait stand its result, zero at first, its parameters, four words
 -- of a marker, and its local words. There has to be room for these and for its depth.
 abbrev pub enter_procedure : Callee → ℕ → Body → List ℕ → ℕ → State → Outcome (List ℕ)
 enter_procedure call d b ws k s =
-    let first = s.now.top + k in
-    let link = first + result_words b.profile + formals_words b.profile.formals in
-    let locals = link + marker_words in
-    if nat_lt s.now.stack (locals + b.words + b.depth')
+    if nat_lt s.now.stack (locals_of s.now.top k b + b.words + b.depth')
     then ends (trapped StackOverflow) s
-    else zeroed b.words locals
-    (record s {
-      now = record s.now {
-        mem = put_words first (replicate (result_words b.profile) 0 ++ ws) s.now.mem;
-        top = locals + b.words;
-        base = locals - 1;
-        inner = 0;
-        code = None;
-      };
-    })
-    (λ s1. called_back s.now b.profile first
-    (run_body b.here call d b.statements (record s1 {
-      now = record s1.now {
-        mem = put_initials (λ p. address p s1.now) b.initials (put_cells (λ p. address p s1.now) b.cells s1.now.mem);
-      };
-    })))
+    else zeroed b.words (locals_of s.now.top k b) (framed (procedure_framed k b ws s.now) s) (λ s1.
+    called_back s.now b.profile (s.now.top + k)
+    (run_body b.here call d b.number b.statements (record s1 { now = cells_set b s1.now })))
 
 -- A call of a subroutine: a return word stands in place of the marker, and it goes on in the frame around it.
 abbrev pub enter_subroutine : Callee → ℕ → Body → List ℕ → ℕ → State → Outcome (List ℕ)
 enter_subroutine call d b ws k s =
-    let first = s.now.top + k in
-    let link = first + result_words b.profile + formals_words b.profile.formals in
-    if nat_lt s.now.stack (link + return_words + b.depth')
+    if nat_lt s.now.stack (link_of s.now.top k b + return_words + b.depth')
     then ends (trapped StackOverflow) s
-    else called_back s.now b.profile first
-    (run_statement b call d (record s {
-      now = record s.now {
-        mem = put_words first (replicate (result_words b.profile) 0 ++ ws) s.now.mem;
-        top = link + return_words;
-        inner = link;
-        code = None;
-      };
-    }))
+    else called_back s.now b.profile (s.now.top + k) (run_statement b call d (framed (subroutine_framed k b ws s.now) s))
 
 -- a call of a procedure that is there
 abbrev pub call_procedure : Option Body → (Body → Callee) → ℕ → List ℕ → ℕ → State → Outcome (List ℕ)
@@ -132,7 +144,7 @@ abbrev pub run_main : List Named → ℕ → Body → State → Outcome (Unit {0
 run_main procedures d b s =
     stepping s (λ s1.
     if nat_lt s1.now.stack (s1.now.top + b.depth') then ends (trapped StackOverflow) s1
-    else then_go (returned (run_body b.here (calls procedures d b) d b.statements s1)) (λ _ s2. stepping s2 (λ s3. ends terminated s3)))
+    else then_go (returned (run_body b.here (calls procedures d b) d b.number b.statements s1)) (λ _ s2. stepping s2 (λ s3. ends terminated s3)))
 
 -- a program that has a main body
 abbrev pub run_program : Program → Option Body → ℕ → State → Outcome (Unit {0})
@@ -152,6 +164,16 @@ pub record Seat : Type 0 where
 abbrev pub zeros : ℕ → ℕ → Option ℕ
 zeros count a = if nat_lt a count then Some 0 else None
 
+-- numbers of a byte
+abbrev pub AreBytes : List ℕ → Type 0
+AreBytes [] = Unit {0}
+AreBytes (b ∷ bs) = (b < 256) × AreBytes bs
+
+-- lines of such
+abbrev pub LinesAreBytes : List (List ℕ) → Type 0
+LinesAreBytes [] = Unit {0}
+LinesAreBytes (l ∷ ls) = AreBytes l × LinesAreBytes ls
+
 -- an address in the program's own data
 abbrev pub global_address : Place → ℕ
 global_address (data_word a) = a
@@ -169,10 +191,10 @@ opening p seat n = record {
     lines = seat.lines;
     taken = 0;
     printed = [];
-    code = None;
     stack = seat.stack;
     room = seat.room;
   };
+  code = None;
   left = n;
   begun = [];
 }

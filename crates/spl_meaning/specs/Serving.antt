@@ -1,5 +1,5 @@
 -- What a call of an intrinsic does to the data. Its step is spent when that is done, so no ending follows a print within one step.
-use Rattle.std.specs.Prelude.{ℕ, suc, ◌+◌, ◌/◌, Bool, true, false, not, nat_lt, nat_le, if◌then◌else◌, List, [], ◌∷◌, ◌++◌, length, map, slice_get, is_some, Option}
+use Rattle.std.specs.Prelude.{ℕ, suc, ◌-◌, ◌/◌, Bool, true, false, not, nat_lt, nat_le, if◌then◌else◌, List, [], ◌∷◌, ◌++◌, length, map, slice_get, is_some, Option}
 use Rattle.std.specs.List.{list_all}
 use Rattle.hp_word.specs.Intrinsics as gate
 use Rattle.hp_word.specs.Intrinsics.{called}
@@ -49,8 +49,8 @@ carried_out e s = record s {
     mem = with_bytes e.stores s.now.mem;
     taken = lines_taken e.takes_line s.now.taken;
     printed = with_print e.prints s.now.printed;
-    code = e.code;
   };
+  code = e.code;
 }
 
 -- the call's answer, or the end of the run
@@ -61,12 +61,12 @@ answered (ending.Quit n) answer s = ends (quit n) s
 answered (ending.Trapped t) answer s = ends (trapped t) s
 
 -- A call that may be: Bounds where a word of its bytes is not below STACK; a stray reference where one is no data word; OutputLimit
--- where there is no room for what it prints. Else it is carried out, and its step is spent.
+-- where what it prints is longer than the room that is left. Else it is carried out, and its step is spent.
 abbrev pub effected : gate.Effect → State → Outcome (List ℕ)
 effected e s =
     if not (all_below s.now.stack (touched e)) then ends (trapped Bounds) s
     else if not (all_data s.now.mem (touched e)) then strays s
-    else if not (nat_le (printed_size s.now.printed + length e.prints) s.now.room) then ends (trapped OutputLimit) s
+    else if not (nat_le (length e.prints) (s.now.room - printed_size s.now.printed)) then ends (trapped OutputLimit) s
     else stepping (carried_out e s) (λ s1. answered e.ending e.answer s1)
 
 -- a call of an intrinsic with the words of its parameters

@@ -13,7 +13,8 @@ use Rattle.spl_meaning.specs.Names.{Names, Sort, Profile, same_name}
 use Rattle.spl_meaning.specs.Kinds.{Operand, kind_of, reference_kind, variable_kind, callable}
 use Rattle.spl_meaning.specs.Statements.{is_intrinsic_alone, is_intrinsic, target_keeps_code}
 use Rattle.spl_meaning.specs.Faults.{Fault, fault, unless}
-use Rattle.spl_meaning.specs.ExpressionRules.{Scope, fits, count, has_elements, field_faults, variable_faults, split_use, call_faults, formals_by, bits_faults, single_faults, may_be_byte, far_faults, faults, located_faults, indices_faults, arguments_faults}
+use Rattle.spl_meaning.specs.Pending.{profile_formals}
+use Rattle.spl_meaning.specs.ExpressionRules.{Scope, fits, count, has_elements, field_faults, variable_faults, split_use, call_faults, bits_faults, single_faults, may_be_byte, far_faults, faults, located_faults, indices_faults, arguments_faults}
 
 -- ---- targets
 
@@ -147,7 +148,7 @@ called_by sc None (Some s) given at = fault 3 at ∷ []
 -- a call as a statement
 abbrev pub call_statement_faults : Scope → List ℕ → Trees → At → List Fault
 call_statement_faults sc x es at =
-    called_by sc (callable (sc.names x)) (sc.names x) (count es) at ++ arguments_faults sc (formals_by (callable (sc.names x))) es at
+    called_by sc (callable (sc.names x)) (sc.names x) (count es) at ++ arguments_faults sc (profile_formals (callable (sc.names x))) es at
 
 -- ---- loops
 
@@ -188,7 +189,7 @@ sets_code names _ = false
 
 -- ---- labels
 
--- the labels that a list bears
+-- the labels of a statement, before it
 abbrev pub own_labels : Statement → List (List ℕ)
 own_labels (stat.Statement.labelled x at s) = x ∷ own_labels s
 own_labels _ = []

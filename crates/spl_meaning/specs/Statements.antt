@@ -12,14 +12,15 @@ use Rattle.spl_tree.specs.StatementTrees as stat
 use Rattle.spl_tree.specs.StatementTrees.{Statement, Statements, Target, Source, Effect, Test}
 use Rattle.spl_meaning.specs.Names as n
 use Rattle.spl_meaning.specs.Names.{Names, Sort, same_name, intrinsic_profile}
-use Rattle.spl_meaning.specs.Pending.{target_words, answer_words, result_words}
+use Rattle.spl_meaning.specs.Pending.{behind_index, behind_first, behind_second, result_words}
+use Rattle.spl_meaning.specs.Stops.{stops}
 use Rattle.spl_meaning.specs.Places.{Place}
-use Rattle.spl_meaning.specs.References.{Here, Spot, address, read, store, store_field, placed_word, word_at, spot, target_spot}
+use Rattle.spl_meaning.specs.References.{Here, Located, address_of, read, store, store_field, placed_word, word_at, locate, locate_target}
 use Rattle.spl_meaning.specs.Operations.{is_odd, kept, word_done, related}
 use Rattle.spl_meaning.specs.Elements.{with_one, distance, moved_by, moved_text, moved_while, scanned}
 use Rattle.spl_meaning.specs.Serving.{served}
-use Rattle.spl_meaning.specs.Values.{Callee, small_constant, value, located, index, arguments}
-use Rattle.spl_meaning.specs.States.{State, to_label, back, Outcome, done, leaves, spent, strays, then_go, stepping, without_code, noted, beginning, code_dropped}
+use Rattle.spl_meaning.specs.Values.{Callee, Sense, an_intrinsic, sense_of, small_constant, value, located, index, arguments}
+use Rattle.spl_meaning.specs.States.{State, to_label, back, Outcome, done, leaves, spent, strays, then_go, stepping, without_code, noted, beginning, stopping, code_dropped}
 
 -- ---- assignments
 
@@ -35,17 +36,17 @@ reference_name _ = []
 
 -- a word in the cell of a pointer
 abbrev pub cell_stored : Option Place → ℕ → State → Outcome (Unit {0})
-cell_stored (Some p) v s = then_go (word_at false (address p s.now) s) (λ _ s1. done tt (placed_word false (address p s1.now) v s1))
+cell_stored (Some p) v s = then_go (word_at false (address_of p s.now) s) (λ _ s1. done tt (placed_word false (address_of p s1.now) v s1))
 cell_stored None v s = strays s
 
 -- The index of a target is worked out first, then the value; then the cell is read, and the value is stored.
 abbrev pub assigned : Here → Callee → Target → (ℕ → State → Outcome (List ℕ)) → ℕ → State → Outcome (Unit {0})
 assigned h call (stat.Target.plain r) value_at k s =
-    then_go (target_index h call r k s) (λ i s1. then_go (value_at (k + target_words (stat.Target.plain r)) s1) (λ vs s2.
-    then_go (target_spot h (reference_name r) i s2) (λ p s3. store p (kept p.kind vs) s3)))
+    then_go (target_index h call r k s) (λ i s1. then_go (value_at (behind_index r k) s1) (λ vs s2.
+    then_go (locate_target h (reference_name r) i s2) (λ p s3. store p (kept p.kind vs) s3)))
 assigned h call (stat.Target.field r start size) value_at k s =
-    then_go (target_index h call r k s) (λ i s1. then_go (value_at (k + target_words (stat.Target.plain r)) s1) (λ vs s2.
-    then_go (target_spot h (reference_name r) i s2) (λ p s3.
+    then_go (target_index h call r k s) (λ i s1. then_go (value_at (behind_index r k) s1) (λ vs s2.
+    then_go (locate_target h (reference_name r) i s2) (λ p s3.
     store_field p (small_constant h.names start) (small_constant h.names size) vs s3)))
 assigned h call (stat.Target.address x at) value_at k s =
     then_go (value_at k s) (λ vs s1. with_one vs s1 (λ v s2. cell_stored (h.places x) v s2))
@@ -56,22 +57,22 @@ is_intrinsic (Some (n.intrinsic i)) = true
 is_intrinsic _ = false
 
 -- a kind that is not BYTE
-abbrev pub is_word_kind : Kind → Bool
-is_word_kind kind.Byte = false
-is_word_kind _ = true
+abbrev pub is_not_byte : Kind → Bool
+is_not_byte kind.Byte = false
+is_not_byte _ = true
 
--- a result of such a kind
-abbrev pub is_word_result : Option Kind → Bool
-is_word_result (Some k) = is_word_kind k
-is_word_result None = false
+-- a result that has a kind which is not BYTE
+abbrev pub is_not_byte_result : Option Kind → Bool
+is_not_byte_result (Some k) = is_not_byte k
+is_not_byte_result None = false
 
 -- a simple variable, a parameter or a result, that is not BYTE
 abbrev pub keeps_code : Option Sort → Bool
-keeps_code (Some (n.simple k own)) = is_word_kind k
-keeps_code (Some (n.value k)) = is_word_kind k
-keeps_code (Some (n.by_reference k)) = is_word_kind k
-keeps_code (Some (n.procedure p)) = is_word_result p.result
-keeps_code (Some (n.subroutine p)) = is_word_result p.result
+keeps_code (Some (n.simple k own)) = is_not_byte k
+keeps_code (Some (n.value k)) = is_not_byte k
+keeps_code (Some (n.by_reference k)) = is_not_byte k
+keeps_code (Some (n.procedure p)) = is_not_byte_result p.result
+keeps_code (Some (n.subroutine p)) = is_not_byte_result p.result
 keeps_code _ = false
 
 -- an expression that is a call of an intrinsic and nothing else
@@ -85,14 +86,14 @@ target_keeps_code names (stat.Target.plain (tree.Tree.named x tree.Trees.none at
 target_keeps_code names _ = false
 
 -- a value that ends with what an intrinsic left
-abbrev pub intrinsic_value : Here → Callee → Option Sort → Trees → ℕ → State → Outcome (List ℕ)
-intrinsic_value h call (Some (n.intrinsic i)) es k s =
+abbrev pub intrinsic_value : Here → Callee → Sense → Trees → ℕ → State → Outcome (List ℕ)
+intrinsic_value h call (an_intrinsic i) es k s =
     then_go (arguments h call (intrinsic_profile i).formals es (k + result_words (intrinsic_profile i)) s) (λ ws s1. served i ws s1)
 intrinsic_value h call _ es k s = strays s
 
 -- the value of such an expression
 abbrev pub alone_value : Here → Callee → Tree → ℕ → State → Outcome (List ℕ)
-alone_value h call (tree.Tree.named x es at) k s = intrinsic_value h call (h.names x) es k s
+alone_value h call (tree.Tree.named x es at) k s = intrinsic_value h call (sense_of x (h.names x)) es k s
 alone_value h call _ k s = strays s
 
 -- an assignment
@@ -111,27 +112,27 @@ value_dropped o = then_go o (λ vs s. done tt s)
 -- a call by itself
 abbrev pub call_statement : Here → Callee → List ℕ → Trees → At → ℕ → State → Outcome (Unit {0})
 call_statement h call x es at k s =
-    if is_intrinsic (h.names x) then value_dropped (intrinsic_value h call (h.names x) es k s)
+    if is_intrinsic (h.names x) then value_dropped (intrinsic_value h call (sense_of x (h.names x)) es k s)
     else value_dropped (value h call (tree.Tree.named x es at) k s)
 
 -- ---- MOVE and SCAN: what each answers, where its answer is used or not
 
 -- the end address of a target less its first
-abbrev pub moved_far : Spot → Outcome Spot → Outcome (List ℕ)
+abbrev pub moved_far : Located → Outcome Located → Outcome (List ℕ)
 moved_far p o = then_go o (λ end s. done (distance end p.address ∷ []) s)
 
 -- a MOVE or a SCAN
 abbrev pub effect_done : Here → Callee → ℕ → Bool → Effect → ℕ → State → Outcome (List ℕ)
 effect_done h call d used (stat.Effect.move to (stat.Source.counted from count)) k s =
-    then_go (located h call to k s) (λ p s1. then_go (located h call from (k + 1 + answer_words used) s1) (λ q s2.
-    then_go (value h call count (k + 2 + answer_words used) s2) (λ vs s3. with_one vs s3 (λ size s4. moved_far p (moved_by size p q s4)))))
+    then_go (located h call to k s) (λ p s1. then_go (located h call from (behind_first used k) s1) (λ q s2.
+    then_go (value h call count (behind_second used k) s2) (λ vs s3. with_one vs s3 (λ size s4. moved_far p (moved_by size p q s4)))))
 effect_done h call d used (stat.Effect.move to (stat.Source.text bytes)) k s =
     then_go (located h call to k s) (λ p s1. moved_far p (moved_text bytes p s1))
 effect_done h call d used (stat.Effect.move to (stat.Source.class_of from c)) k s =
-    then_go (located h call to k s) (λ p s1. then_go (located h call from (k + 1 + answer_words used) s1) (λ q s2.
+    then_go (located h call to k s) (λ p s1. then_go (located h call from (behind_first used k) s1) (λ q s2.
     moved_far p (moved_while (suc d) c p q s2)))
 effect_done h call d used (stat.Effect.scan from until test) k s =
-    then_go (located h call from k s) (λ p s1. then_go (value h call test (k + 1 + answer_words used) s1) (λ vs s2.
+    then_go (located h call from k s) (λ p s1. then_go (value h call test (behind_first used k) s1) (λ vs s2.
     with_one vs s2 (λ w s3. moved_far p (scanned (suc d) until w p s3))))
 
 -- ---- loops
@@ -157,12 +158,12 @@ abbrev pub goes_on : ℕ → ℕ → ℕ → Bool
 goes_on step limit v = if int_lt (signed step) (pos 0) then int_le (signed limit) (signed v) else int_le (signed v) (signed limit)
 
 -- the step is added to a variable
-abbrev pub raised : Spot → ℕ → State → Outcome (Unit {0})
+abbrev pub raised : Located → ℕ → State → Outcome (Unit {0})
 raised p step s =
     then_go (read p s) (λ vs s1. with_one vs s1 (λ v s2. then_go (word_done (added v step) s2) (λ ws s3. store p ws s3)))
 
 -- a loop over a variable: a step, the test, the body, and the variable is raised
-abbrev pub counting : ℕ → Spot → ℕ → ℕ → (State → Outcome (Unit {0})) → State → Outcome (Unit {0})
+abbrev pub counting : ℕ → Located → ℕ → ℕ → (State → Outcome (Unit {0})) → State → Outcome (Unit {0})
 counting zero p step limit body s = spent s
 counting (suc d) p step limit body s =
     stepping s (λ s1. then_go (read p s1) (λ vs s2. with_one vs s2 (λ v s3.
@@ -178,7 +179,7 @@ loop_step h call (tree.Trees.and e es) k s = value h call e k s
 -- a FOR: its value, the variable's address, the store, the step and the limit, and then the turns
 abbrev pub for_loop : Here → Callee → ℕ → List ℕ → Tree → Trees → Tree → (State → Outcome (Unit {0})) → ℕ → State → Outcome (Unit {0})
 for_loop h call d x first step last body k s =
-    then_go (value h call first k s) (λ vs s1. then_go (spot h x None s1) (λ p s2. then_go (store p vs s2) (λ _ s3.
+    then_go (value h call first k s) (λ vs s1. then_go (locate h x None s1) (λ p s2. then_go (store p vs s2) (λ _ s3.
     then_go (loop_step h call step (k + 1) s3) (λ us s4. then_go (value h call last (k + 2) s4) (λ ws s5.
     with_one us s5 (λ u s6. with_one ws s6 (λ w s7. counting (suc d) p u w body s7)))))))
 
@@ -207,66 +208,70 @@ abbrev pub code_tested : ℕ → Option Code → State → (Bool → State → O
 code_tested op (Some c) s go = go (related op c) s
 code_tested op None s go = strays s
 
--- a test of the condition code, or of a condition
-abbrev pub deciding : Here → Callee → Test → At → ℕ → State → (Bool → State → Outcome (Unit {0})) → Outcome (Unit {0})
-deciding h call (stat.Test.condition e) at k s go = beginning (Some at) s (λ s1. then_go (condition h call e k s1) go)
-deciding h call (stat.Test.code op) at k s go =
-    stepping s (λ s1. code_tested op s1.now.code (noted (Some at) s1) (λ b s2. go b (without_code s2)))
+-- a test of the condition code, or of a condition, in the statement with this number
+abbrev pub deciding : Here → Callee → ℕ → Test → At → ℕ → State → (Bool → State → Outcome (Unit {0})) → Outcome (Unit {0})
+deciding h call i (stat.Test.condition e) at k s go = stopping i at s (λ s1. then_go (condition h call e k s1) go)
+deciding h call i (stat.Test.code op) at k s go =
+    stepping s (λ s1. code_tested op s1.code (noted i at s1) (λ b s2. go b (without_code s2)))
 
+-- The first statement of each that can be stopped at has the number `i`; those behind it count on.
 abbrev mutual
   -- a statement
-  pub run : Here → Callee → ℕ → Statement → ℕ → State → Outcome (Unit {0})
-  run h call d stat.Statement.empty k s = beginning None s (λ s1. done tt s1)
-  run h call d (stat.Statement.labelled x at st) k s = beginning None s (λ s1. run h call d st k s1)
-  run h call d (stat.Statement.block ss) k s =
-      beginning None s (λ s1. code_dropped (landing d (bears_among ss) (λ x s2. run_from h call d ss x k s2) (run_all h call d ss k s1)))
-  run h call d (stat.Statement.if_test q then_part else_part at) k s =
-      deciding h call q at k s (λ b s1. code_dropped (if b then run h call d then_part k s1 else run_all h call d else_part k s1))
-  run h call d (stat.Statement.while_true e st at) k s =
-      beginning None s (λ s1. looping (suc d) (λ s2. condition h call e k s2) (λ s2. code_dropped (run h call d st k s2)) s1)
-  run h call d (stat.Statement.until_true st e at) k s =
-      beginning None s (λ s1. repeating (suc d) (λ s2. condition h call e k s2) (λ s2. code_dropped (run h call d st k s2)) s1)
-  run h call d (stat.Statement.for_values x first step last st at) k s =
-      beginning (Some at) s (λ s1. for_loop h call d x first step last (λ s2. code_dropped (run h call d st (k + 3) s2)) k s1)
-  run h call d (stat.Statement.case_of e ss at) k s =
-      beginning (Some at) s (λ s1. then_go (value h call e k s1) (λ vs s2. with_one vs s2 (λ w s3.
-      code_dropped (landing d (bears_among ss) (λ x s4. run_bearer h call d ss x k s4) (run_arm h call d ss w k s3)))))
-  run h call d (stat.Statement.go_to x at) k s = beginning (Some at) s (λ s1. leaves (to_label x) s1)
-  run h call d (stat.Statement.return at) k s = beginning (Some at) s (λ s1. leaves back s1)
-  run h call d (stat.Statement.assign to e at) k s = beginning (Some at) s (λ s1. assign h call to e k s1)
-  run h call d (stat.Statement.assign_effect to e at) k s =
-      beginning (Some at) s (λ s1. assigned h call to (λ j s2. effect_done h call d true e j s2) k s1)
-  run h call d (stat.Statement.do_effect e at) k s = beginning (Some at) s (λ s1. value_dropped (effect_done h call d false e k s1))
-  run h call d (stat.Statement.call x es at) k s = beginning (Some at) s (λ s1. call_statement h call x es at k s1)
+  pub run : Here → Callee → ℕ → ℕ → Statement → ℕ → State → Outcome (Unit {0})
+  run h call d i stat.Statement.empty k s = beginning s (λ s1. done tt s1)
+  run h call d i (stat.Statement.labelled x at st) k s = beginning s (λ s1. run h call d i st k s1)
+  run h call d i (stat.Statement.block ss) k s =
+      beginning s (λ s1. code_dropped (landing d (bears_among ss) (λ x s2. run_from h call d i ss x k s2) (run_all h call d i ss k s1)))
+  run h call d i (stat.Statement.if_test q then_part else_part at) k s =
+      deciding h call i q at k s (λ b s1. code_dropped (
+      if b then run h call d (i + 1) then_part k s1 else run_all h call d (i + 1 + stops then_part) else_part k s1))
+  run h call d i (stat.Statement.while_true e st at) k s =
+      beginning s (λ s1. looping (suc d) (λ s2. condition h call e k s2) (λ s2. code_dropped (run h call d i st k s2)) s1)
+  run h call d i (stat.Statement.until_true st e at) k s =
+      beginning s (λ s1. repeating (suc d) (λ s2. condition h call e k s2) (λ s2. code_dropped (run h call d i st k s2)) s1)
+  run h call d i (stat.Statement.for_values x first step last st at) k s =
+      stopping i at s (λ s1. for_loop h call d x first step last (λ s2. code_dropped (run h call d (i + 1) st (k + 3) s2)) k s1)
+  run h call d i (stat.Statement.case_of e ss at) k s =
+      stopping i at s (λ s1. then_go (value h call e k s1) (λ vs s2. with_one vs s2 (λ w s3.
+      code_dropped (landing d (bears_among ss) (λ x s4. run_bearer h call d (i + 1) ss x k s4) (run_arm h call d (i + 1) ss w k s3)))))
+  run h call d i (stat.Statement.go_to x at) k s = stopping i at s (λ s1. leaves (to_label x) s1)
+  run h call d i (stat.Statement.return at) k s = stopping i at s (λ s1. leaves back s1)
+  run h call d i (stat.Statement.assign to e at) k s = stopping i at s (λ s1. assign h call to e k s1)
+  run h call d i (stat.Statement.assign_effect to e at) k s =
+      stopping i at s (λ s1. assigned h call to (λ j s2. effect_done h call d true e j s2) k s1)
+  run h call d i (stat.Statement.do_effect e at) k s = stopping i at s (λ s1. value_dropped (effect_done h call d false e k s1))
+  run h call d i (stat.Statement.call x es at) k s = stopping i at s (λ s1. call_statement h call x es at k s1)
 
   -- the statements of a list, one after the other
-  pub run_all : Here → Callee → ℕ → Statements → ℕ → State → Outcome (Unit {0})
-  run_all h call d stat.Statements.none k s = done tt s
-  run_all h call d (stat.Statements.and st ss) k s = then_go (run h call d st k s) (λ _ s1. run_all h call d ss k s1)
+  pub run_all : Here → Callee → ℕ → ℕ → Statements → ℕ → State → Outcome (Unit {0})
+  run_all h call d i stat.Statements.none k s = done tt s
+  run_all h call d i (stat.Statements.and st ss) k s = then_go (run h call d i st k s) (λ _ s1. run_all h call d (i + stops st) ss k s1)
 
   -- a list from the statement that bears a label on
-  pub run_from : Here → Callee → ℕ → Statements → List ℕ → ℕ → State → Outcome (Unit {0})
-  run_from h call d stat.Statements.none x k s = strays s
-  run_from h call d (stat.Statements.and st ss) x k s =
-      if bears st x then then_go (run_at h call d st x k s) (λ _ s1. run_all h call d ss k s1) else run_from h call d ss x k s
+  pub run_from : Here → Callee → ℕ → ℕ → Statements → List ℕ → ℕ → State → Outcome (Unit {0})
+  run_from h call d i stat.Statements.none x k s = strays s
+  run_from h call d i (stat.Statements.and st ss) x k s =
+      if bears st x then then_go (run_at h call d i st x k s) (λ _ s1. run_all h call d (i + stops st) ss k s1)
+      else run_from h call d (i + stops st) ss x k s
 
   -- a statement from one of its labels on
-  pub run_at : Here → Callee → ℕ → Statement → List ℕ → ℕ → State → Outcome (Unit {0})
-  run_at h call d (stat.Statement.labelled y at st) x k s =
-      if same_name x y then beginning None s (λ s1. run h call d st k s1) else run_at h call d st x k s
-  run_at h call d _ x k s = strays s
+  pub run_at : Here → Callee → ℕ → ℕ → Statement → List ℕ → ℕ → State → Outcome (Unit {0})
+  run_at h call d i (stat.Statement.labelled y at st) x k s =
+      if same_name x y then beginning s (λ s1. run h call d i st k s1) else run_at h call d i st x k s
+  run_at h call d i _ x k s = strays s
 
   -- the statement of a CASE that bears a label
-  pub run_bearer : Here → Callee → ℕ → Statements → List ℕ → ℕ → State → Outcome (Unit {0})
-  run_bearer h call d stat.Statements.none x k s = strays s
-  run_bearer h call d (stat.Statements.and st ss) x k s = if bears st x then run_at h call d st x k s else run_bearer h call d ss x k s
+  pub run_bearer : Here → Callee → ℕ → ℕ → Statements → List ℕ → ℕ → State → Outcome (Unit {0})
+  run_bearer h call d i stat.Statements.none x k s = strays s
+  run_bearer h call d i (stat.Statements.and st ss) x k s =
+      if bears st x then run_at h call d i st x k s else run_bearer h call d (i + stops st) ss x k s
 
-  -- the statement of a CASE with this number, if there is one
-  pub run_arm : Here → Callee → ℕ → Statements → ℕ → ℕ → State → Outcome (Unit {0})
-  run_arm h call d stat.Statements.none i k s = done tt s
-  run_arm h call d (stat.Statements.and st ss) zero k s = run h call d st k s
-  run_arm h call d (stat.Statements.and st ss) (suc i) k s = run_arm h call d ss i k s
+  -- the statement of a CASE with this index, if there is one
+  pub run_arm : Here → Callee → ℕ → ℕ → Statements → ℕ → ℕ → State → Outcome (Unit {0})
+  run_arm h call d i stat.Statements.none j k s = done tt s
+  run_arm h call d i (stat.Statements.and st ss) zero k s = run h call d i st k s
+  run_arm h call d i (stat.Statements.and st ss) (suc j) k s = run_arm h call d (i + stops st) ss j k s
 
 -- a list that is a body: jumps within it are taken
-abbrev pub run_body : Here → Callee → ℕ → Statements → State → Outcome (Unit {0})
-run_body h call d ss s = landing d (bears_among ss) (λ x s1. run_from h call d ss x 0 s1) (run_all h call d ss 0 s)
+abbrev pub run_body : Here → Callee → ℕ → ℕ → Statements → State → Outcome (Unit {0})
+run_body h call d i ss s = landing d (bears_among ss) (λ x s1. run_from h call d i ss x 0 s1) (run_all h call d i ss 0 s)

@@ -1,17 +1,17 @@
 -- What a run has, and what comes of its parts.
-use Rattle.std.specs.Prelude.{ℕ, zero, suc, ◌+◌, ℤ, List, [], ◌∷◌, ◌++◌, length, Option, None, Some}
+use Rattle.std.specs.Prelude.{ℕ, zero, suc, ◌+◌, ℤ, List, [], ◌∷◌, ◌++◌, length, Option, None}
 use Rattle.hp_word.specs.declared.arithmetic.Code.{Code}
 use Rattle.hp_word.specs.declared.endings.Trap.{Trap}
 use Rattle.spl_tree.specs.declared.names_and_places.At.{At}
 
 -- What a run works on. The data words are those of globals and OWN items, of arrays and cells, and of the live calls: their results,
--- parameters and locals.
+-- parameters and locals. The base is the address that the machine has in Q.
 pub record Data : Type 0 where
   -- the data words by their addresses
   pub mem : ℕ → Option ℕ
   -- the first address above the live frame
   pub top : ℕ
-  -- the address of the last word of its marker
+  -- the base: the address of the last word of its marker
   pub base : ℕ
   -- the address of the return word of the live subroutine, where one is live
   pub inner : ℕ
@@ -22,20 +22,23 @@ pub record Data : Type 0 where
   pub taken : ℕ
   -- what was printed, each print by itself
   pub printed : List (List ℕ)
-  -- the condition code, where the statement just done has set one
-  pub code : Option Code
   -- STACK and the print room, which no step changes
   pub stack : ℕ
   pub room : ℕ
 
--- a statement that has begun: its place, and what the run had there
+-- a statement that has begun: its number in order of text and its place, and what the run had there, with the condition code that was
+-- known
 pub record Begun : Type 0 where
+  pub number : ℕ
   pub at : At
   pub data' : Data
+  pub code : Option Code
 
--- a run: its data, the steps that are left of its budget, and the statements begun so far
+-- a run: its data; the condition code, where the statement just done has set one; the steps that are left of its budget; and the
+-- statements begun so far
 pub record State : Type 0 where
   pub now : Data
+  pub code : Option Code
   pub left : ℕ
   pub begun : List Begun
 
@@ -77,16 +80,19 @@ stepping s go = step_of s.left s go
 
 -- no condition code is known
 abbrev pub without_code : State → State
-without_code s = record s { now = record s.now { code = None } }
+without_code s = record s { code = None }
 
--- a statement that can be stopped at is noted as it begins
-abbrev pub noted : Option At → State → State
-noted None s = s
-noted (Some at) s = record s { begun = s.begun ++ record { at = at; data' = s.now } ∷ [] }
+-- a statement that can be stopped at is noted as it begins, by its number and its place
+abbrev pub noted : ℕ → At → State → State
+noted i at s = record s { begun = s.begun ++ record { number = i; at = at; data' = s.now; code = s.code } ∷ [] }
 
--- A statement begins: one step, and it is noted. What is known of the condition code is for a test of it alone.
-abbrev pub beginning : {A : Type 0} → Option At → State → (State → Outcome A) → Outcome A
-beginning at s go = stepping s (λ s1. go (without_code (noted at s1)))
+-- A statement begins: one step. What is known of the condition code is for a test of it alone.
+abbrev pub beginning : {A : Type 0} → State → (State → Outcome A) → Outcome A
+beginning s go = stepping s (λ s1. go (without_code s1))
+
+-- one that can be stopped at is noted behind that step
+abbrev pub stopping : {A : Type 0} → ℕ → At → State → (State → Outcome A) → Outcome A
+stopping i at s go = stepping s (λ s1. go (without_code (noted i at s1)))
 
 -- what a part comes to, without the condition code
 abbrev pub code_dropped : {A : Type 0} → Outcome A → Outcome A

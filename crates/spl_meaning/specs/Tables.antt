@@ -1,12 +1,13 @@
 -- Lists of declarations as tables, and the bodies of procedures with the names that they see.
-use Rattle.std.specs.Prelude.{ℕ, Bool, if◌then◌else◌, List, [], ◌∷◌, ◌++◌, Option, Some, None, is_some}
+use Rattle.std.specs.Prelude.{ℕ, ◌+◌, Bool, if◌then◌else◌, List, [], ◌∷◌, ◌++◌, Option, Some, None, is_some}
 use Rattle.hp_word.specs.declared.intrinsics.Intrinsic.{Intrinsic}
 use Rattle.spl_tree.specs.declared.expressions.Kind.{Kind}
 use Rattle.spl_tree.specs.DeclarationTrees as decl
 use Rattle.spl_tree.specs.DeclarationTrees.{Declaration, Declarations, Item, Equal, Placed, Heading, UnitTree, declarations}
 use Rattle.spl_tree.specs.StatementTrees as stat
+use Rattle.spl_meaning.specs.Stops.{declaration_stops}
 use Rattle.spl_meaning.specs.Names as n
-use Rattle.spl_meaning.specs.Names.{Names, Sort, Table, find, within, nothing_declared, parameters, formals_of, profile_of, intrinsic_named, constant_or_zero, sum_value, or_zero}
+use Rattle.spl_meaning.specs.Names.{Names, Sort, Table, find, within, nothing_declared, parameters, formals_of, profile_of, intrinsic_named, constant_or_zero, sum_value}
 
 -- a unit
 pub record Source : Type 0 where
@@ -36,7 +37,7 @@ with_items outer own k table (i ∷ is) = with_items outer own k (declared table
 -- the names of an EQUATE
 abbrev pub with_equates : Names → Table Sort → List Equal → Table Sort
 with_equates outer table [] = table
-with_equates outer table (e ∷ es) = with_equates outer (declared table e.name (n.equate (or_zero (sum_value (within table outer) e.terms)))) es
+with_equates outer table (e ∷ es) = with_equates outer (declared table e.name (n.equate (sum_value (within table outer) e.terms))) es
 
 -- an intrinsic, or a name that is none
 abbrev pub intrinsic_sort : Option Intrinsic → Sort
@@ -81,18 +82,25 @@ pub record Routine : Type 0 where
   pub items : Declarations
   pub statements : List stat.Statement
   pub globals : Table Sort
+  -- how many statements stand before it in its unit
+  pub before : ℕ
+
+-- the procedure with a body that a declaration is, behind a list and some statements
+abbrev pub routine_in : Table Sort → ℕ → Declaration → List Routine
+routine_in table n (decl.Declaration.procedure h items ss) =
+    record { heading = h; items = items; statements = ss; globals = with_declaration nothing_declared table (decl.Declaration.procedure h items ss); before = n }
+    ∷ []
+routine_in table n d = []
 
 -- the procedures with bodies among declarations
-abbrev pub routines_among : Table Sort → Declarations → List Routine
-routines_among table decl.none = []
-routines_among table (decl.and (decl.Declaration.procedure h items ss) ds) =
-    let more = with_declaration nothing_declared table (decl.Declaration.procedure h items ss) in
-    record { heading = h; items = items; statements = ss; globals = more } ∷ routines_among more ds
-routines_among table (decl.and d ds) = routines_among (with_declaration nothing_declared table d) ds
+abbrev pub routines_among : Table Sort → ℕ → Declarations → List Routine
+routines_among table n decl.none = []
+routines_among table n (decl.and d ds) =
+    routine_in table n d ++ routines_among (with_declaration nothing_declared table d) (n + declaration_stops d) ds
 
 -- the procedures of a unit
 abbrev pub routines_of : Source → List Routine
-routines_of u = routines_among [] (declarations u.tree.items)
+routines_of u = routines_among [] 0 (declarations u.tree.items)
 
 -- what a procedure sees around its own list
 abbrev pub outer_names : Routine → Names
@@ -112,12 +120,26 @@ routine_names r = within (routine_table r) (outer_names r)
 pub record Subroutine : Type 0 where
   pub heading : Heading
   pub statement : stat.Statement
+  -- how many statements stand before it in its unit
+  pub before : ℕ
+
+-- the subroutine that a declaration is, behind some statements
+abbrev pub subroutine_in : ℕ → Declaration → List Subroutine
+subroutine_in n (decl.Declaration.subroutine h s) = record { heading = h; statement = s; before = n } ∷ []
+subroutine_in n d = []
 
 -- the subroutines among declarations
-abbrev pub subroutines_among : Declarations → List Subroutine
-subroutines_among decl.none = []
-subroutines_among (decl.and (decl.Declaration.subroutine h s) ds) = record { heading = h; statement = s } ∷ subroutines_among ds
-subroutines_among (decl.and d ds) = subroutines_among ds
+abbrev pub subroutines_among : ℕ → Declarations → List Subroutine
+subroutines_among n decl.none = []
+subroutines_among n (decl.and d ds) = subroutine_in n d ++ subroutines_among (n + declaration_stops d) ds
+
+-- the subroutines of a procedure
+abbrev pub routine_subroutines : Routine → List Subroutine
+routine_subroutines r = subroutines_among r.before r.items
+
+-- the subroutines of a unit, which its main body may call
+abbrev pub unit_subroutines : Source → List Subroutine
+unit_subroutines u = subroutines_among 0 (declarations u.tree.items)
 
 -- the names in a subroutine, in a list of declarations: its parameters hide those around it
 abbrev pub subroutine_names : Names → Subroutine → Names

@@ -1,5 +1,5 @@
 //! Laws of runs and rules, each as the contract of a function that does nothing.
-ghost use Rattle.spl_meaning.specs.Laws.{EndedRunsStay, PrintsOnlyGrow, LogsOnlyGrow, FirstRulesAreBroken, SoundUnitsBreakNone};
+ghost use Rattle.spl_meaning.specs.Laws.{EndedRunsStay, PrintsOnlyGrow, LogsOnlyGrow, StepsGoOn, BoundsDoNotMatter, FirstRulesAreBroken, SoundUnitsBreakNone};
 
 /// A run that has ended, or strayed, stays as it is.
 pub fn ended_runs_stay()
@@ -14,6 +14,17 @@ pub fn prints_only_grow()
 /// So do the statements begun.
 pub fn logs_only_grow()
     ensures { LogsOnlyGrow }
+{}
+
+/// A run with one step more is the same with that step left, or goes on from where the run lacked it: by one print at most, by one
+/// statement at most, and no end follows a print within one step.
+pub fn steps_go_on()
+    ensures { StepsGoOn }
+{}
+
+/// The bound on calls, jumps and turns does not matter where it is at least the steps that are left.
+pub fn bounds_do_not_matter()
+    ensures { BoundsDoNotMatter }
 {}
 
 /// The first rule that units break is broken at its place, and no other comes before it.

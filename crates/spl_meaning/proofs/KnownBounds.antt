@@ -1,9 +1,0 @@
--- How many words some segments may have, computed.
-use Rattle.std.proofs.Common.{refl}
-use Rattle.spl_meaning.specs.Programs.{AllBoundsSo}
-use Rattle.spl_meaning.specs.BoundRuns.{bound_runs}
-use Rattle.spl_meaning.proofs.Computing.{all}
-
-pub all_bound : AllBoundsSo bound_runs
-unfolding all
-all_bound = (refl, (refl, (refl, (refl, (refl, tt)))))

@@ -1,6 +1,0 @@
-use Rattle.spl_meaning.proofs.KnownBounds.{all_bound}
-use Rattle.spl_meaning.proofs.known_rules.bounds_are_counted.Goals as goal
-
--- each is computed
-pub returns : goal.returns
-returns c = all_bound

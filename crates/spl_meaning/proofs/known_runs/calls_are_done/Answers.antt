@@ -1,6 +1,0 @@
-use Rattle.spl_meaning.proofs.KnownCall.{all_run}
-use Rattle.spl_meaning.proofs.known_runs.calls_are_done.Goals as goal
-
--- each is computed
-pub returns : goal.returns
-returns c = all_run
