@@ -1,0 +1,11 @@
+pub mod Computing
+pub mod KnownArithmetic
+pub mod KnownReference
+pub mod KnownStatement
+pub mod KnownCall
+pub mod KnownEffect
+pub mod KnownBegun
+pub mod KnownFaults
+pub mod KnownRight
+pub mod KnownLimits
+pub mod KnownBounds

@@ -1,0 +1,10 @@
+pub mod Programs
+pub mod ArithmeticRuns
+pub mod ReferenceRuns
+pub mod StatementRuns
+pub mod CallRuns
+pub mod EffectRuns
+pub mod BegunRuns
+pub mod FaultRuns
+pub mod LimitRuns
+pub mod BoundRuns
