@@ -12,8 +12,8 @@ use Rattle.spl_meaning.specs.Names.{Names, Sort, Formal, find, text_value, const
 use Rattle.spl_meaning.specs.Kinds.{kind_of, is_double, reference_kind}
 use Rattle.spl_meaning.specs.Pending.{by_value}
 use Rattle.spl_meaning.specs.Faults.{Fault, fault, unless, IsAmong}
-use Rattle.spl_meaning.specs.ExpressionRules.{place_in, constant_place, is_open_sort, is_open, value_fits, passes, constant_name}
-use Rattle.spl_meaning.specs.DeclarationRules.{is_wide, is_double_kind, statement_place}
+use Rattle.spl_meaning.specs.ExpressionRules.{place_in, constant_place, is_equate, is_open_sort, is_open, value_fits, passes, constant_name}
+use Rattle.spl_meaning.specs.DeclarationRules.{is_wide, fits_double, is_double_kind, statement_place}
 use Rattle.spl_rules.specs.Parts as part
 use Rattle.spl_rules.specs.Parts.{Part}
 use Rattle.spl_rules.specs.Breaking as b
@@ -54,6 +54,14 @@ both_false : (s t : Bool) → s ≡ false → t ≡ false → (s || t) ≡ false
 both_false true t d e = cc
 both_false false t d e = e
 
+-- what does not fit a DOUBLE is a constant of one word
+narrow_is : (names : Names) (c : Constant) → fits_double names c ≡ not (allowed.is_narrow names c)
+narrow_is names (tree.Constant.wide minus v) = refl
+narrow_is names (tree.Constant.name x at) = refl
+narrow_is names (tree.Constant.number minus v) = refl
+narrow_is names (tree.Constant.text bytes) = refl
+narrow_is names (tree.Constant.truth b) = refl
+
 -- ---- from faults to what breaks
 
 constant_broken : (names : Names) (around at : At) (x : List ℕ) (f : Fault) (s : Option Sort) → s ≡ names x → IsAmong f (constant_name s at)
@@ -64,7 +72,7 @@ constant_broken names around at x f (Some (n.equate v)) e m = absurd m
 constant_broken names around at x f (Some n.unknown) e m = absurd m
 constant_broken names around at x f (Some s) e m =
     always (part.constant names around (tree.Constant.name x at)) f 3 at
-    (b.wrong_constant (ap (λ (t : Option Sort). allowed.is_equate t || is_open_sort t) (sym e))) m
+    (b.wrong_constant (ap (λ (t : Option Sort). is_equate t || is_open_sort t) (sym e))) m
 
 pub here_broken : (p : Part) (f : Fault) → IsAmong f (here p) → Broken p f
 here_broken (part.name role sc x given at) f m =
@@ -148,8 +156,8 @@ here_broken (part.base outer table own k x at) f m =
     (failed p f _ 16 at (λ h. b.no_base (not_false _ (neither _ _ h).0) (neither _ _ h).1)))
     (failed p f _ 16 at (λ h. b.double_view (not_false _ h))) m
 here_broken (part.elements a at) f m = failed (part.elements a at) f _ 27 at (λ h. b.split_elements (not_false _ h)) m
-here_broken (part.initial kind.Double at c) f m = failed (part.initial kind.Double at c) f _ 15 at (λ h. b.narrow_initial refl h) m
-here_broken (part.initial k at c) f m = failed (part.initial k at c) f _ 14 at (λ h. b.wide_initial refl (not_false _ h)) m
+here_broken (part.initial names kind.Double at c) f m = failed (part.initial names kind.Double at c) f _ 15 (constant_place at c) (λ h. b.narrow_initial refl (not_false _ (sym (narrow_is names c) ∙ h))) m
+here_broken (part.initial names k at c) f m = failed (part.initial names k at c) f _ 14 at (λ h. b.wide_initial refl (not_false _ h)) m
 here_broken (part.item a table true k i) f m =
     let p = part.item a table true k i in
     in_both f _ _ (in_both f _ _ (in_both f _ _ (in_both f _ _ (failed p f _ 15 i.at b.too_many_values) (failed p f _ 17 i.at b.no_values))
@@ -186,10 +194,10 @@ constant_undeclared names around at x None d e = inl refl
 constant_undeclared names around at x (Some s) d e = let no : allowed.is_declared (Some s) ≡ false = ap allowed.is_declared d ∙ e in cc
 
 constant_wrong : (names : Names) (around at : At) (x : List ℕ) (s : Option Sort) → s ≡ names x
-    → (allowed.is_equate (names x) || is_open_sort (names x)) ≡ false → IsAmong (fault 3 at) (constant_name s at)
-constant_wrong names around at x s d e = by s (ap (λ (t : Option Sort). allowed.is_equate t || is_open_sort t) d ∙ e)
+    → (is_equate (names x) || is_open_sort (names x)) ≡ false → IsAmong (fault 3 at) (constant_name s at)
+constant_wrong names around at x s d e = by s (ap (λ (t : Option Sort). is_equate t || is_open_sort t) d ∙ e)
   where
-    by : (s : Option Sort) → (allowed.is_equate s || is_open_sort s) ≡ false → IsAmong (fault 3 at) (constant_name s at)
+    by : (s : Option Sort) → (is_equate s || is_open_sort s) ≡ false → IsAmong (fault 3 at) (constant_name s at)
     by None e = cc
     by (Some (n.equate v)) e = cc
     by (Some n.unknown) e = cc
@@ -213,15 +221,15 @@ word_double : (names : Names) (at : At) (x : Tree) → allowed.is_wide_number x 
 word_double names at (tree.Tree.wide v) d e = cc
 word_double names at x d e = fails _ 23 (place_in at x) (false_not _ e)
 
-wide_value : (k : Kind) (at : At) (c : Constant) → is_double_kind k ≡ false → is_wide c ≡ true
-    → IsAmong (fault 14 at) (here (part.initial k at c))
-wide_value kind.Double at c d e = cc
-wide_value k at c d e = fails _ 14 at (false_not _ e)
+wide_value : (names : Names) (k : Kind) (at : At) (c : Constant) → is_double_kind k ≡ false → is_wide c ≡ true
+    → IsAmong (fault 14 at) (here (part.initial names k at c))
+wide_value names kind.Double at c d e = cc
+wide_value names k at c d e = fails _ 14 at (false_not _ e)
 
-narrow_value : (k : Kind) (at : At) (c : Constant) → is_double_kind k ≡ true → is_wide c ≡ false
-    → IsAmong (fault 15 at) (here (part.initial k at c))
-narrow_value kind.Double at c d e = fails _ 15 at e
-narrow_value k at c d e = cc
+narrow_value : (names : Names) (k : Kind) (at : At) (c : Constant) → is_double_kind k ≡ true → allowed.is_narrow names c ≡ true
+    → IsAmong (fault 15 (constant_place at c)) (here (part.initial names k at c))
+narrow_value names kind.Double at c d e = fails _ 15 (constant_place at c) (narrow_is names c ∙ false_not _ e)
+narrow_value names k at c d e = cc
 
 -- one of some faults; as a record, so that the lists are found
 record Member (f : Fault) (fs : List Fault) : Type 0 where
@@ -265,10 +273,10 @@ member r p at (b.wrong_field e) = fault_of _ 13 at e
 member r p at (b.no_word e) = fault_of _ 14 at e
 member r p at (b.no_constant e) = fault_of _ 14 at e
 member r p at b.wide_word = record { is = inl refl }
-member r p at (b.wide_initial {k = k} {c = c} d e) = record { is = wide_value k at c d e }
+member r p at (b.wide_initial {names = names} {k = k} {c = c} d e) = record { is = wide_value names k at c d e }
 member r p at (b.wrong_sum e) = fault_of _ 14 at e
 member r p at (b.wrong_bounds e) = fault_of _ 15 at e
-member r p at (b.narrow_initial {k = k} {c = c} d e) = record { is = narrow_value k at c d e }
+member r p at (b.narrow_initial {names = names} {k = k} {c = c} d e) = record { is = narrow_value names k _ c d e }
 member r p at (b.too_many_values e) = left _ (left _ (left _ (left _ (fault_of _ 15 at e))))
 member r p at (b.no_base d e) = left _ (right _ (fault_of _ 16 at (both_false _ _ (false_not _ d) e)))
 member r p at (b.double_view e) = right _ (fault_of _ 16 at (false_not _ e))

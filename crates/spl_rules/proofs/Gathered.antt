@@ -13,13 +13,13 @@ use Rattle.spl_tree.specs.DeclarationTrees as decl
 use Rattle.spl_tree.specs.DeclarationTrees.{Placed, Spec, Heading, Item, Equal, Term, Declaration, Declarations, declarations}
 use Rattle.spl_meaning.specs.Names.{Names, Sort, Formal, Table, find, within, nothing_declared, parameters, formals_of}
 use Rattle.spl_meaning.specs.Kinds.{kind_of, callable}
-use Rattle.spl_meaning.specs.Pending.{first_formal, other_formals}
+use Rattle.spl_meaning.specs.Pending.{profile_formals, first_formal, other_formals}
 use Rattle.spl_meaning.specs.Tables as unit
 use Rattle.spl_meaning.specs.Tables.{Routine, declared, shaped, with_equates, with_intrinsics, with_labels, with_declaration}
 use Rattle.spl_meaning.specs.Bodies.{all_routines}
 use Rattle.spl_meaning.specs.Faults.{Fault, fault, unless}
 use Rattle.spl_meaning.specs.Sound.{all_faults, faults_behind}
-use Rattle.spl_meaning.specs.ExpressionRules.{Scope, count, formals_by, is_callable, is_reference_formal, is_label_name, has_elements, name_by, own_faults, field_faults, faults, located_faults, indices_faults, arguments_faults}
+use Rattle.spl_meaning.specs.ExpressionRules.{Scope, count, is_callable, is_reference_formal, is_label_name, has_elements, name_by, own_faults, field_faults, faults, located_faults, indices_faults, arguments_faults}
 use Rattle.spl_meaning.specs.StatementRules.{may_be_moved_to, target_kind_by, reference_faults, assign_faults, effect_faults, target_by, answer_by, answer_faults, assign_effect_faults, call_statement_faults, step_faults, test_faults, repeated, statement_faults, statements_faults, arms_faults, body_faults, list_labels, sets_code, all_labels, all_labels_of}
 use Rattle.spl_meaning.specs.DeclarationRules.{Around, shape_faults, initials_faults, items_faults, terms_faults, equates_faults, intrinsics_faults, labels_faults, not_parameters, array_values, without_kind, split_parameters, all_listed, heading_faults, external_faults, Waiting, waiting_behind, subroutine_scope, declared_subroutine, local_faults_of, local_faults, procedure_scope, procedure_faults, global_faults, globals_faults, silent_faults, main_scope, unit_faults}
 use Rattle.spl_rules.specs.Parts as part
@@ -60,9 +60,9 @@ mutual
   faults_gathered sc around (tree.Tree.text bytes) = simp (shapes) refl
   faults_gathered sc around (tree.Tree.truth b) = refl
   faults_gathered sc around (tree.Tree.named x es at) =
-      named_gathered sc x es at (arguments_faults sc (formals_by (callable (sc.names x))) es at) (indices_faults sc es at)
-      (arguments_parts sc (formals_by (callable (sc.names x))) es at) (indices_parts sc es at)
-      (arguments_gathered sc (formals_by (callable (sc.names x))) es at) (indices_gathered sc es at)
+      named_gathered sc x es at (arguments_faults sc (profile_formals (callable (sc.names x))) es at) (indices_faults sc es at)
+      (arguments_parts sc (profile_formals (callable (sc.names x))) es at) (indices_parts sc es at)
+      (arguments_gathered sc (profile_formals (callable (sc.names x))) es at) (indices_gathered sc es at)
   faults_gathered sc around (tree.Tree.address x es at) =
       simp (shapes, variable_is sc x (sc.names x) (count es) at, indices_gathered sc es at) refl
   faults_gathered sc around (tree.Tree.unary op e at) = simp (shapes, faults_gathered sc at e) refl
@@ -188,8 +188,8 @@ call_gathered : (sc : Scope) (x : List ℕ) (es : Trees) (at : At)
     → call_statement_faults sc x es at ≡ gather (call_statement_parts sc x es at)
 call_gathered sc x es at =
     two (part.name part.callee sc x (count es) at ∷ call_parts sc x (callable (sc.names x)) (count es) false at)
-    (arguments_parts sc (formals_by (callable (sc.names x))) es at) (callee_is sc x (sc.names x) (count es) at refl)
-    (arguments_gathered sc (formals_by (callable (sc.names x))) es at)
+    (arguments_parts sc (profile_formals (callable (sc.names x))) es at) (callee_is sc x (sc.names x) (count es) at refl)
+    (arguments_gathered sc (profile_formals (callable (sc.names x))) es at)
 
 step_gathered : (sc : Scope) (at : At) (es : Trees) → step_faults sc at es ≡ gather (step_parts sc at es)
 step_gathered sc at tree.Trees.none = refl

@@ -11,11 +11,10 @@ use Rattle.spl_tree.specs.StatementTrees.{Target, Effect, Source}
 use Rattle.spl_meaning.specs.Names.{Names, Sort, within, same_name, profile_of, lists, spec_of, is_array_in, intrinsic_named, text_value, constant_value, sum_value}
 use Rattle.spl_meaning.specs.Kinds.{kind_of, is_double, reference_kind}
 use Rattle.spl_meaning.specs.Pending.{by_value}
-use Rattle.spl_meaning.specs.Tables.{shaped}
 use Rattle.spl_meaning.specs.Faults.{Fault, fault, unless, IsAmong}
 use Rattle.spl_meaning.specs.ExpressionRules.{Scope, constant_place, mixes, is_operation, in_range, is_field, is_pointer, may_be_byte, has_elements, constant_faults, call_faults, argument_faults, bits_faults, single_faults, far_faults}
 use Rattle.spl_meaning.specs.StatementRules.{target_kind, target_kind_by, is_single, moves, may_be_moved_to, has_name, is_listed, fit_faults}
-use Rattle.spl_meaning.specs.DeclarationRules.{bounds_fit, is_wide, values_fit, may_begin, gets_body, same_profile, statement_place, is_empty_statement, twice, base_faults, procedure_by}
+use Rattle.spl_meaning.specs.DeclarationRules.{bounds_fit, is_wide, fits_double, values_fit, may_begin, gets_body, same_profile, statement_place, is_empty_statement, twice, base_faults, procedure_by}
 use Rattle.spl_rules.specs.Parts as part
 use Rattle.spl_rules.specs.Parts.{Role, Part}
 use Rattle.spl_rules.specs.Roles as allowed
@@ -39,9 +38,9 @@ answered_test (stat.Target.plain r) at = []
 answered_test (stat.Target.field r start size) at = fault 3 at ∷ []
 answered_test (stat.Target.address x a) at = fault 3 at ∷ []
 
-abbrev pub initial_test : Kind → At → Constant → List Fault
-initial_test kind.Double at c = unless (is_wide c) 15 at
-initial_test _ at c = unless (not (is_wide c)) 14 at
+abbrev pub initial_test : Names → Kind → At → Constant → List Fault
+initial_test names kind.Double at c = unless (fits_double names c) 15 (constant_place at c)
+initial_test names _ at c = unless (not (is_wide c)) 14 at
 
 -- the faults of a part
 abbrev pub here : Part → List Fault
@@ -73,9 +72,9 @@ here (part.declared table x at) = twice table x at
 here (part.bounds names low high at) = unless (bounds_fit (constant_value names low) (constant_value names high)) 15 at
 here (part.base outer table own k x at) = base_faults outer table own k x at
 here (part.elements a at) = unless (not a.split) 27 at
-here (part.initial k at c) = initial_test k at c
+here (part.initial names k at c) = initial_test names k at c
 here (part.item a table own k i) =
-    unless (values_fit (shaped (within table a.names) own k i.shape) (length i.first)) 15 i.at
+    unless (values_fit (within table a.names) i.shape (length i.first)) 15 i.at
     ++ unless (may_begin a own i.shape (length i.first)) 17 i.at
     ++ unless (not own || a.in_procedure) 17 i.at ++ unless (not own || not a.split) 27 i.at ++ unless (not a.subprogram) 28 i.at
 here (part.sum names terms at) = unless (in_range (neg_ℤ (pos 32768)) (pos 65535) (sum_value names terms)) 14 at

@@ -10,8 +10,8 @@ use Rattle.spl_tree.specs.DeclarationTrees.{Placed, Spec, Heading, Item, Term, D
 use Rattle.spl_meaning.specs.Names.{Names, Sort, Formal, Profile, Table, find, within, same_name, profile_of, lists, spec_of, is_array_in, intrinsic_named, text_value, constant_value, sum_value}
 use Rattle.spl_meaning.specs.Kinds.{Operand, kind_of, is_double, reference_kind}
 use Rattle.spl_meaning.specs.Pending.{by_value}
-use Rattle.spl_meaning.specs.Tables.{Routine, shaped}
-use Rattle.spl_meaning.specs.ExpressionRules.{Scope, place_in, constant_place, mixes, is_operation, is_bits, in_range, is_field, is_subroutine, is_pointer, is_open_sort, is_open, value_fits, passes, may_be_byte, fits, has_elements}
+use Rattle.spl_meaning.specs.Tables.{Routine}
+use Rattle.spl_meaning.specs.ExpressionRules.{Scope, place_in, constant_place, mixes, is_operation, is_bits, in_range, is_field, is_subroutine, is_pointer, is_equate, is_open_sort, is_open, value_fits, passes, may_be_byte, fits, has_elements}
 use Rattle.spl_meaning.specs.StatementRules.{target_kind, target_kind_by, is_single, moves, may_be_moved_to, has_name, is_listed}
 use Rattle.spl_meaning.specs.DeclarationRules.{Around, bounds_fit, is_base, is_double_kind, is_wide, values_fit, may_begin, gets_body, same_profile, statement_place, is_empty_statement}
 use Rattle.spl_rules.specs.Parts as part
@@ -36,7 +36,7 @@ pub data BreaksHere : ℕ → Part → At → Type 0 where
       → BreaksHere 3 (part.name role sc x given at) at
   wrong_index : {role : Role} {sc : Scope} {x : List ℕ} {given : ℕ} {at : At} → allowed.has_fit_index role (sc.names x) given ≡ false
       → BreaksHere 3 (part.name role sc x given at) at
-  wrong_constant : {names : Names} {around at : At} {x : List ℕ} → (allowed.is_equate (names x) || is_open_sort (names x)) ≡ false
+  wrong_constant : {names : Names} {around at : At} {x : List ℕ} → (is_equate (names x) || is_open_sort (names x)) ≡ false
       → BreaksHere 3 (part.constant names around (tree.Constant.name x at)) at
   -- or a MOVE or a SCAN is assigned to a bit field or by @
   answer_to_a_field : {r : Tree} {start size : Constant} {at : At} → BreaksHere 3 (part.answered (stat.Target.field r start size) at) at
@@ -81,7 +81,8 @@ pub data BreaksHere : ℕ → Part → At → Type 0 where
       → BreaksHere 14 (part.constant names at (tree.Constant.text bytes)) at
   -- or a wide constant for a word
   wide_word : {names : Names} {at : At} {v : ℕ} → BreaksHere 14 (part.word names at (tree.Tree.wide v)) at
-  wide_initial : {k : Kind} {at : At} {c : Constant} → is_double_kind k ≡ false → is_wide c ≡ true → BreaksHere 14 (part.initial k at c) at
+  wide_initial : {names : Names} {k : Kind} {at : At} {c : Constant} → is_double_kind k ≡ false → is_wide c ≡ true
+      → BreaksHere 14 (part.initial names k at c) at
   -- or an EQUATE is outside -32,768 to 65,535
   wrong_sum : {names : Names} {terms : List Term} {at : At} → in_range (neg_ℤ (pos 32768)) (pos 65535) (sum_value names terms) ≡ false
       → BreaksHere 14 (part.sum names terms at) at
@@ -89,9 +90,10 @@ pub data BreaksHere : ℕ → Part → At → Type 0 where
   wrong_bounds : {names : Names} {low high : Constant} {at : At} → bounds_fit (constant_value names low) (constant_value names high) ≡ false
       → BreaksHere 15 (part.bounds names low high at) at
   -- or initial values do not fit in kind or number
-  narrow_initial : {k : Kind} {at : At} {c : Constant} → is_double_kind k ≡ true → is_wide c ≡ false → BreaksHere 15 (part.initial k at c) at
+  narrow_initial : {names : Names} {k : Kind} {at : At} {c : Constant} → is_double_kind k ≡ true → allowed.is_narrow names c ≡ true
+      → BreaksHere 15 (part.initial names k at c) (constant_place at c)
   too_many_values : {a : Around} {table : Table Sort} {own : Bool} {k : Kind} {i : Item}
-      → values_fit (shaped (within table a.names) own k i.shape) (length i.first) ≡ false → BreaksHere 15 (part.item a table own k i) i.at
+      → values_fit (within table a.names) i.shape (length i.first) ≡ false → BreaksHere 15 (part.item a table own k i) i.at
   -- 16: the base of a view is no array with bounds in the same list, or is BYTE, or the view is OWN and it is not
   no_base : {outer : Names} {table : Table Sort} {own : Bool} {k : Kind} {x : List ℕ} {at : At} → is_some (within table outer x) ≡ true
       → is_base own (find table x) ≡ false → BreaksHere 16 (part.base outer table own k x at) at

@@ -30,7 +30,7 @@ shape_parts a table own k decl.Shape.pointer at = []
 -- initial values in order
 abbrev pub initials_parts : Names → Kind → At → List Constant → List Part
 initials_parts names k at [] = []
-initials_parts names k at (c ∷ cs) = part.constant names at c ∷ part.initial k at c ∷ initials_parts names k at cs
+initials_parts names k at (c ∷ cs) = part.constant names at c ∷ part.initial names k at c ∷ initials_parts names k at cs
 
 -- the items of a declaration, each behind those before it
 abbrev pub items_parts : Around → Table Sort → Bool → Kind → List Item → List Part

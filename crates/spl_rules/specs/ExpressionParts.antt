@@ -1,12 +1,12 @@
 -- The parts of expressions and references, in order of text.
-use Rattle.std.specs.Prelude.{ℕ, ◌==◌, ◌&&◌, Bool, true, nat_lt, if◌then◌else◌, List, [], ◌∷◌, ◌++◌, Option, Some, None}
+use Rattle.std.specs.Prelude.{ℕ, ◌==◌, ◌&&◌, Bool, true, if◌then◌else◌, List, [], ◌∷◌, ◌++◌, Option, Some, None}
 use Rattle.spl_tree.specs.declared.names_and_places.At.{At}
 use Rattle.spl_tree.specs.Trees as tree
 use Rattle.spl_tree.specs.Trees.{Tree, Trees, Constant}
 use Rattle.spl_meaning.specs.Names.{Names, Formal, Profile}
-use Rattle.spl_meaning.specs.Kinds.{compares_text, callable}
-use Rattle.spl_meaning.specs.Pending.{first_formal, other_formals}
-use Rattle.spl_meaning.specs.ExpressionRules.{Scope, count, formals_by, is_callable, is_reference_formal, is_label_name}
+use Rattle.spl_meaning.specs.Kinds.{compares_text, callable, works_on_bits, complement}
+use Rattle.spl_meaning.specs.Pending.{profile_formals, first_formal, other_formals}
+use Rattle.spl_meaning.specs.ExpressionRules.{Scope, count, is_callable, is_reference_formal, is_label_name}
 use Rattle.spl_rules.specs.Parts as part
 use Rattle.spl_rules.specs.Parts.{Part}
 
@@ -26,7 +26,7 @@ own_parts names f e ps = if is_reference_formal f && is_label_name names e then 
 -- an operator with its operands
 abbrev pub operation_parts : Names → ℕ → Tree → Tree → At → List Part
 operation_parts names op a b at =
-    if nat_lt op 5 then part.bits names at a ∷ part.bits names at b ∷ [] else part.operation names op a b at ∷ []
+    if works_on_bits op then part.bits names at a ∷ part.bits names at b ∷ [] else part.operation names op a b at ∷ []
 
 abbrev mutual
   -- the parts of an expression, in a scope and in a part with this place
@@ -37,10 +37,10 @@ abbrev mutual
   expression_parts sc around (tree.Tree.truth b) = []
   expression_parts sc around (tree.Tree.named x es at) =
       part.name part.operand sc x (count es) at ∷ call_parts sc x (callable (sc.names x)) (count es) true at
-      ++ (if is_callable (callable (sc.names x)) then arguments_parts sc (formals_by (callable (sc.names x))) es at else indices_parts sc es at)
+      ++ (if is_callable (callable (sc.names x)) then arguments_parts sc (profile_formals (callable (sc.names x))) es at else indices_parts sc es at)
   expression_parts sc around (tree.Tree.address x es at) =
       part.name part.variable sc x (count es) at ∷ part.address sc x at ∷ indices_parts sc es at
-  expression_parts sc around (tree.Tree.unary op e at) = expression_parts sc at e ++ (if op == 2 then part.bits sc.names at e ∷ [] else [])
+  expression_parts sc around (tree.Tree.unary op e at) = expression_parts sc at e ++ (if op == complement then part.bits sc.names at e ∷ [] else [])
   -- a string behind a relation with BYTEs is no word
   expression_parts sc around (tree.Tree.binary op a b at) =
       if compares_text sc.names op a b then expression_parts sc at a ++ part.far sc a ∷ []

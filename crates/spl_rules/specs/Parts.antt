@@ -84,8 +84,8 @@ pub data Part : Type 0 where
   base : Names → Table Sort → Bool → Kind → List ℕ → At → Part
   -- an array or a view
   elements : Around → At → Part
-  -- an initial value
-  initial : Kind → At → Constant → Part
+  -- an initial value of a kind, with the names before its item
+  initial : Names → Kind → At → Constant → Part
   -- an item behind those of a list
   item : Around → Table Sort → Bool → Kind → Item → Part
   -- the sum of an EQUATE

@@ -2,11 +2,11 @@
 use Rattle.std.specs.Prelude.{ℕ, ◌&&◌, ◌||◌, not, Bool, true, false, if◌then◌else◌, List, Option, Some, None, is_some}
 use Rattle.spl_tree.specs.declared.expressions.Kind.TheVariants as kind
 use Rattle.spl_tree.specs.Trees as tree
-use Rattle.spl_tree.specs.Trees.{Tree}
+use Rattle.spl_tree.specs.Trees.{Tree, Constant}
 use Rattle.spl_meaning.specs.Names as n
-use Rattle.spl_meaning.specs.Names.{Sort, Profile}
+use Rattle.spl_meaning.specs.Names.{Names, Sort, Profile}
 use Rattle.spl_meaning.specs.Kinds.{variable_kind, callable}
-use Rattle.spl_meaning.specs.ExpressionRules.{Scope, has_elements, is_pointer, is_open_sort, is_callable, index_fits}
+use Rattle.spl_meaning.specs.ExpressionRules.{Scope, has_elements, is_equate, is_pointer, is_open_sort, is_callable, index_fits}
 use Rattle.spl_meaning.specs.StatementRules.{has_name}
 use Rattle.spl_rules.specs.Parts as part
 use Rattle.spl_rules.specs.Parts.{Role}
@@ -15,11 +15,6 @@ use Rattle.spl_rules.specs.Parts.{Role}
 abbrev pub is_declared : Option Sort → Bool
 is_declared None = false
 is_declared s = true
-
--- an EQUATE name
-abbrev pub is_equate : Option Sort → Bool
-is_equate (Some (n.equate v)) = true
-is_equate _ = false
 
 -- a procedure or a subroutine, whose name is its result in its body
 abbrev pub has_result : Option Sort → Bool
@@ -95,3 +90,9 @@ is_near role sc x s = if is_data_use role s then not sc.split || sc.is_local x e
 abbrev pub is_wide_number : Tree → Bool
 is_wide_number (tree.Tree.wide v) = true
 is_wide_number _ = false
+
+-- 15: a constant of one word; a name is one where it is an EQUATE name, and breaks another rule where it is none
+abbrev pub is_narrow : Names → Constant → Bool
+is_narrow names (tree.Constant.wide minus v) = false
+is_narrow names (tree.Constant.name x at) = is_equate (names x)
+is_narrow names _ = true

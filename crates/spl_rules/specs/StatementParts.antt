@@ -8,7 +8,8 @@ use Rattle.spl_tree.specs.StatementTrees as stat
 use Rattle.spl_tree.specs.StatementTrees.{Statement, Statements, Target, Source, Effect, Test}
 use Rattle.spl_tree.specs.DeclarationTrees.{Placed}
 use Rattle.spl_meaning.specs.Kinds.{kind_of, callable}
-use Rattle.spl_meaning.specs.ExpressionRules.{Scope, count, formals_by}
+use Rattle.spl_meaning.specs.Pending.{profile_formals}
+use Rattle.spl_meaning.specs.ExpressionRules.{Scope, count}
 use Rattle.spl_meaning.specs.StatementRules.{target_kind, field_kind, sets_code, list_labels, all_labels_of}
 use Rattle.spl_rules.specs.Parts as part
 use Rattle.spl_rules.specs.Parts.{Part, Role}
@@ -66,7 +67,7 @@ assign_effect_parts sc (stat.Target.address x a) e at =
 abbrev pub call_statement_parts : Scope → List ℕ → Trees → At → List Part
 call_statement_parts sc x es at =
     part.name part.callee sc x (count es) at ∷ call_parts sc x (callable (sc.names x)) (count es) false at
-    ++ arguments_parts sc (formals_by (callable (sc.names x))) es at
+    ++ arguments_parts sc (profile_formals (callable (sc.names x))) es at
 
 -- the step of a loop, where there is one
 abbrev pub step_parts : Scope → At → Trees → List Part

@@ -1,0 +1,4 @@
+pub mod Order
+pub mod FoundExpressions
+pub mod FoundStatements
+pub mod FoundDeclarations

@@ -1,0 +1,3 @@
+pub mod FoundExpressions
+pub mod FoundStatements
+pub mod FoundDeclarations
