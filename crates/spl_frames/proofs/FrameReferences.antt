@@ -1,281 +1,266 @@
--- References, operations, elements and intrinsics are tame.
-use Rattle.std.proofs.Common.{ℕ, zero, suc, ◌≡◌, ap, ◌+◌, ◌-◌, ◌/◌, ◌%◌, ◌==◌, Bool, true, false, List, [], ◌∷◌, length, Option, Some, None, refl}
-use Rattle.std.specs.Prelude.{if◌then◌else◌, nat_lt, nat_eq, is_some, slice_index}
-use Rattle.hp_word.specs.declared.arithmetic.Arith.{Arith}
-use Rattle.hp_word.specs.declared.arithmetic.Wide.{Wide}
-use Rattle.hp_word.specs.declared.arithmetic.Quotient.{Quotient}
-use Rattle.hp_word.specs.declared.arithmetic.Code.{Code}
-use Rattle.hp_word.specs.declared.endings.Trap.TheVariants.{IntegerOverflow, DivideByZero, Bounds}
-use Rattle.hp_word.specs.Words.{added, subtracted, multiplied, negated, divided, logically_added, logically_subtracted, logically_multiplied, logically_divided, double_added, double_subtracted, double_negated, words_compared, logically_compared, doubles_compared}
+-- Words, and where names lead: both are steady.
+use Rattle.std.proofs.Common.{ℕ, zero, suc, ◌≡◌, ◌+◌, ◌/◌, ◌%◌, ◌==◌, Bool, true, false, List, [], ◌∷◌, length, Option, Some, None, refl, sym, ap, subst, ◌∙◌, arith}
+use Rattle.std.specs.Prelude.{◌&&◌, if◌then◌else◌, nat_lt, nat_eq, is_some, slice_index, slice_set}
+use Rattle.std.proofs.lemmas.Bool.{eqb-true}
+use Rattle.std.proofs.lemmas.List.{length-set}
+use Rattle.hp_word.specs.declared.endings.Trap.TheVariants.{Bounds}
 use Rattle.hp_word.specs.Bits.{with_field}
-use Rattle.hp_word.specs.Bytes.{byte_at, with_byte, double}
+use Rattle.hp_word.specs.Bytes.{byte_at, with_byte}
+use Rattle.hp_word.proofs.FieldLemmas.{with_field-below}
 use Rattle.spl_tree.specs.declared.expressions.Kind.{Kind}
 use Rattle.spl_tree.specs.declared.expressions.Kind.TheVariants as kind
-use Rattle.spl_meaning.specs.Names as n
-use Rattle.spl_meaning.specs.Names.{Sort, truth_word}
-use Rattle.spl_meaning.specs.Kinds.{Operand, of, const, unknown, Class, integers, logicals, doubles, mixed, class_of, is_relation}
-use Rattle.spl_meaning.specs.Places.{Place, put}
-use Rattle.spl_meaning.specs.States.{trapped, done, ends, then_go}
-use Rattle.spl_meaning.specs.References.{Here, with_word, Spot, address, data_word_read, word_at, placed_word, variable_spot, element_spot, read_by, read, store_by, store, store_field, index_or_zero, own_spot, led_spot, passed_spot, result_spot, spot_by, spot, target_by, target_spot}
-use Rattle.spl_meaning.specs.Operations.{word_done, double_done, quotient_done, relation_done, on_integers, on_logicals, on_doubles, by_class, bits_done, joined, minus_done, not_done, signed_done, shift_done, field_done, double_words, related}
-use Rattle.spl_frames.proofs.Steady.{Steady, steady_done, steady_ends, steady_strays, steady_go, steady_if, steady_now, Stays, steady_in}
+use Rattle.spl_meaning.specs.Places.{Place, put, changed, stored}
+use Rattle.spl_meaning.specs.States.{Data, State, trapped, Outcome, done, ends, then_go}
+use Rattle.spl_meaning.specs.References.{Here, Located, address_of, data_word_read, word_at, placed_word, variable_located, element_located, word_read, read_by, read, word_stored, store_by, store, store_field, index_or_zero, own_located, led_located, passed_located, result_located, Access, its_own, by_address, by_cell, its_result, nowhere, access_of, target_access, locate_by, locate, locate_target}
+use Rattle.spl_frames.specs.Frames as frame
+use Rattle.spl_frames.specs.Words.{AllOf}
+use Rattle.spl_frames.proofs.Steady.{MemOf, Knowledge, Known, Any, Good, Steady, stays_on, steady_give, steady_done, steady_ends, steady_strays, steady_go, steady_if, steady_now, Stays, steady_in}
 
 -- ---- words
 
-steady_data_word : (b : ℕ) (o : Option ℕ) → Steady (data_word_read o)
-steady_data_word b (Some v) = steady_done b v
-steady_data_word b None = steady_strays b
+steady_data_word : (v : Knowledge) (o : Option ℕ) → ((w : ℕ) → o ≡ Some w → v.W w) → Steady v v.W (data_word_read o)
+steady_data_word v (Some w) h = steady_give v w (h w refl)
+steady_data_word v None h = steady_strays v
 
-pub steady_word : (b : ℕ) (far : Bool) (a : ℕ) → Steady (word_at far a)
-steady_word b true a =
+-- a word of a list
+pub all_index : (v : Knowledge) (ws : List ℕ) (i : ℕ) → AllOf v.W ws → v.W (slice_index ws i)
+all_index v [] i h = v.small 0 (omega arith)
+all_index v (w ∷ ws) zero h = h.0
+all_index v (w ∷ ws) (suc i) h = all_index v ws i h.1
+
+all_set : (v : Knowledge) (ws : List ℕ) (i w : ℕ) → AllOf v.W ws → v.W w → AllOf v.W (slice_set ws i w)
+all_set v [] i w h p = tt
+all_set v (x ∷ ws) zero w h p = (p, h.1)
+all_set v (x ∷ ws) (suc i) w h p = (h.0, all_set v ws i w h.1 p)
+
+pub steady_word : (v : Knowledge) (far : Bool) (a : ℕ) → Steady v v.W (word_at far a)
+steady_word v true a =
     steady_now (λ d s. if nat_lt a (length d.extra) then done (slice_index d.extra a) s else ends (trapped Bounds) s)
-    (λ d. steady_if (nat_lt a (length d.extra)) (steady_done b (slice_index d.extra a)) (steady_ends b (trapped Bounds)))
-steady_word b false a =
+    (λ d h. steady_if (nat_lt a (length d.extra)) (steady_give v (slice_index d.extra a) (all_index v d.extra a h.extra)) (steady_ends v (trapped Bounds)))
+steady_word v false a =
     steady_now (λ d s. if nat_lt a d.stack then data_word_read (d.mem a) s else ends (trapped Bounds) s)
-    (λ d. steady_if (nat_lt a d.stack) (steady_data_word b (d.mem a)) (steady_ends b (trapped Bounds)))
+    (λ d h. steady_if (nat_lt a d.stack) (steady_data_word v (d.mem a) (h.mem a)) (steady_ends v (trapped Bounds)))
 
 -- a word that is put leaves all data words there
-pub put_there : (a v : ℕ) (mem : ℕ → Option ℕ) (b : ℕ) → is_some (mem b) ≡ true → is_some (put a v mem b) ≡ true
-put_there a v mem b m = by (nat_eq a b)
+pub put_there : (a w : ℕ) (mem : ℕ → Option ℕ) (b : ℕ) → is_some (mem b) ≡ true → is_some (put a w mem b) ≡ true
+put_there a w mem b m = by (nat_eq a b)
   where
-    by : (t : Bool) → is_some (if t then Some v else mem b) ≡ true
+    by : (t : Bool) → is_some (if t then Some w else mem b) ≡ true
     by true = refl
     by false = m
 
--- a list with another word is as long
-with_word_length : (a v : ℕ) (ws : List ℕ) → length (with_word a v ws) ≡ length ws
-with_word_length a v [] = refl
-with_word_length zero v (w ∷ ws) = refl
-with_word_length (suc a) v (w ∷ ws) = ap suc (with_word_length a v ws)
+-- and makes none but at its address
+pub put_no_other : (a w : ℕ) (mem : ℕ → Option ℕ) (b : ℕ) → (a ≡ b → ⊥) → is_some (mem b) ≡ false → is_some (put a w mem b) ≡ false
+put_no_other a w mem b n m = by (nat_eq a b) refl
+  where
+    by : (t : Bool) → nat_eq a b ≡ t → is_some (if t then Some w else mem b) ≡ false
+    by true e = absurd (n (eqb-true a b e))
+    by false e = m
 
-pub stays_placed : (far : Bool) (a v : ℕ) → Stays (placed_word far a v)
-stays_placed true a v = record {
+-- where there is one, it makes none
+put_in_place : (a w x : ℕ) (mem : ℕ → Option ℕ) (b : ℕ) → mem a ≡ Some x → is_some (mem b) ≡ false → is_some (put a w mem b) ≡ false
+put_in_place a w x mem b e m =
+    put_no_other a w mem b (λ q. let s : is_some (mem a) ≡ true = ap is_some e in
+    let t : is_some (mem a) ≡ false = subst (λ (n : ℕ). is_some (mem n) ≡ false) (sym q) m in cc) m
+
+pub mem_put : (v : Knowledge) (a w : ℕ) (mem : ℕ → Option ℕ) → MemOf v.W mem → v.W w → MemOf v.W (put a w mem)
+mem_put v a w mem h p b u e = by (nat_eq a b) e
+  where
+    by : (t : Bool) → (if t then Some w else mem b) ≡ Some u → v.W u
+    by true e = let q : w ≡ u = cc in subst (λ (n : ℕ). v.W n) q p
+    by false e = h b u e
+
+-- a word that is stored at a data word leaves the same data words
+pub stored_there : (a w : ℕ) (mem : ℕ → Option ℕ) (b : ℕ) → is_some (stored a w mem b) ≡ is_some (mem b)
+stored_there a w mem b = by (nat_eq a b) (mem b)
+  where
+    by : (t : Bool) (o : Option ℕ) → is_some (if t then changed o w else o) ≡ is_some o
+    by true (Some x) = refl
+    by true None = refl
+    by false o = refl
+
+pub mem_stored : (v : Knowledge) (a w : ℕ) (mem : ℕ → Option ℕ) → MemOf v.W mem → v.W w → MemOf v.W (stored a w mem)
+mem_stored v a w mem h p b u e = by (nat_eq a b) (mem b) refl e
+  where
+    by : (t : Bool) (o : Option ℕ) → mem b ≡ o → (if t then changed o w else o) ≡ Some u → v.W u
+    by true (Some x) m e = let q : w ≡ u = cc in subst (λ (n : ℕ). v.W n) q p
+    by true None m e = cc
+    by false o m e = h b u (m ∙ e)
+
+-- a word in the extra segment
+pub stays_far : (v : Knowledge) (a w : ℕ) → v.W w → Stays v (placed_word true a w)
+stays_far v a w p = record {
   is = λ s. record {
     top = refl;
     base = refl;
     inner = refl;
     words = λ b l m. m;
+    none = λ b m. m;
     stack = refl;
     room = refl;
     lines = refl;
-    extra = with_word_length a v s.now.extra;
+    extra = length-set s.now.extra a w;
   };
-}
-stays_placed false a v = record {
-  is = λ s. record {
-    top = refl;
-    base = refl;
-    inner = refl;
-    words = λ b l m. put_there a v s.now.mem b m;
-    stack = refl;
-    room = refl;
-    lines = refl;
-    extra = refl;
-  };
+  known = λ s h. record { mem = h.mem; extra = all_set v s.now.extra a w h.extra p; lines = h.lines };
 }
 
-pub steady_placed : (b : ℕ) (far : Bool) (a v : ℕ)
-    → Steady {A = Unit {0}} (λ s. done tt (placed_word far a v s))
-steady_placed b far a v = steady_in (stays_placed far a v) (steady_done {A = Unit {0}} b tt)
+-- a data word of the stack
+pub stays_near : (a w x : ℕ) (d : Data) → d.mem a ≡ Some x → frame.Stays d (record d { mem = put a w d.mem })
+stays_near a w x d e = record {
+  top = refl;
+  base = refl;
+  inner = refl;
+  words = λ b l m. put_there a w d.mem b m;
+  none = λ b m. put_in_place a w x d.mem b e m;
+  stack = refl;
+  room = refl;
+  lines = refl;
+  extra = refl;
+}
 
--- ---- spots
+-- A part that reads a word, and goes on from a state in which there is one.
+pub near_word : {A : Type 0} (P : A → Type 0) (v : Knowledge) (a : ℕ) (s : State) (go : ℕ → State → Outcome A) → Known v s.now
+    → ((w : ℕ) → s.now.mem a ≡ Some w → Good v P s.now (go w s)) → Good v P s.now (then_go (word_at false a s) go)
+near_word {A = A} P v a s go h k = by (nat_lt a s.now.stack) (s.now.mem a) refl
+  where
+    by : (t : Bool) (o : Option ℕ) → s.now.mem a ≡ o → Good v P s.now (then_go (if t then data_word_read o s else ends (trapped Bounds) s) go)
+    by true (Some w) e = k w e
+    by true None e = (tt, h)
+    by false o e = (tt, h)
 
-steady_read_by : (b : ℕ) (k : Kind) (far : Bool) (a : ℕ) → Steady (read_by k far a)
-steady_read_by b kind.Double far a =
-    steady_go (steady_word b far a) (λ high. steady_go (steady_word b far ((a + 1) % 65536)) (λ low. steady_done b (high ∷ low ∷ [])))
-steady_read_by b kind.Byte far a = steady_go (steady_word b far (a / 2)) (λ w. steady_done b (byte_at a w ∷ []))
-steady_read_by b kind.Integer far a = steady_go (steady_word b far a) (λ w. steady_done b (w ∷ []))
-steady_read_by b kind.Logical far a = steady_go (steady_word b far a) (λ w. steady_done b (w ∷ []))
+-- a word is stored where there is one: a function of it
+pub steady_replaced : (v : Knowledge) (far : Bool) (a : ℕ) (f : ℕ → ℕ) → ((w : ℕ) → v.W w → v.W (f w))
+    → Steady {A = Unit {0}} v Any (λ s. then_go (word_at far a s) (λ w s1. done tt (placed_word far a (f w) s1)))
+steady_replaced v true a f p =
+    steady_go (steady_word v true a) (λ w q. steady_in (stays_far v a (f w) (p w q)) (steady_done {A = Unit {0}} v tt))
+steady_replaced v false a f p = record {
+  is = λ s h. near_word Any v a s (λ w s1. done tt (placed_word false a (f w) s1)) h (λ w e. (
+    stays_near a (f w) w s.now e,
+    (tt, record { mem = mem_put v a (f w) s.now.mem h.mem (p w (h.mem a w e)); extra = h.extra; lines = h.lines }),
+  ));
+}
 
-pub steady_read : (b : ℕ) (p : Spot) → Steady (read p)
-steady_read b p = steady_read_by b p.kind p.far p.address
+-- two words, where there are two
+pub steady_replaced_two : (v : Knowledge) (far : Bool) (a b high low : ℕ) → v.W high → v.W low
+    → Steady {A = Unit {0}} v Any (λ s. then_go (word_at far a s) (λ _ s1. then_go (word_at far b s1) (λ _ s2.
+    done tt (placed_word far b low (placed_word far a high s2)))))
+steady_replaced_two v true a b high low p q =
+    steady_go (steady_word v true a) (λ _ _. steady_go (steady_word v true b) (λ _ _.
+    steady_in (stays_far v a high p) (steady_in (stays_far v b low q) (steady_done {A = Unit {0}} v tt))))
+steady_replaced_two v false a b high low p q = record {
+  is = λ s h.
+      near_word Any v a s (λ _ s1. then_go (word_at false b s1) (λ _ s2. done tt (placed_word false b low (placed_word false a high s2)))) h (λ x e.
+      near_word Any v b s (λ _ s2. done tt (placed_word false b low (placed_word false a high s2))) h (λ y g.
+      let d : Data = record s.now { mem = put a high s.now.mem } in
+      let there : (z : ℕ) × (d.mem b ≡ Some z) = second a high s.now.mem b y g in (
+        stays_on s.now d (record d { mem = put b low d.mem }) (stays_near a high x s.now e) (stays_near b low there.0 d there.1),
+        (tt, record { mem = mem_put v b low d.mem (mem_put v a high s.now.mem h.mem p) q; extra = h.extra; lines = h.lines }),
+      )));
+}
+  where
+    second : (a high : ℕ) (mem : ℕ → Option ℕ) (b y : ℕ) → mem b ≡ Some y → (z : ℕ) × (put a high mem b ≡ Some z)
+    second a high mem b y g = by (nat_eq a b)
+      where
+        by : (t : Bool) → (z : ℕ) × ((if t then Some high else mem b) ≡ Some z)
+        by true = (high, refl)
+        by false = (y, g)
 
-steady_store_by : (b : ℕ) (k : Kind) (far : Bool) (a : ℕ) (vs : List ℕ) → Steady (store_by k far a vs)
-steady_store_by b kind.Double far a [] = steady_strays b
-steady_store_by b kind.Double far a (h ∷ []) = steady_strays b
-steady_store_by b kind.Double far a (high ∷ low ∷ []) =
-    steady_go (steady_word b far a) (λ _. steady_go (steady_word b far ((a + 1) % 65536)) (λ _.
-    steady_in (stays_placed far a high) (steady_placed b far ((a + 1) % 65536) low)))
-steady_store_by b kind.Double far a (h ∷ l ∷ v ∷ vs) = steady_strays b
-steady_store_by b kind.Byte far a [] = steady_strays b
-steady_store_by b kind.Byte far a (v ∷ []) = steady_go (steady_word b far (a / 2)) (λ w. steady_placed b far (a / 2) (with_byte a (v % 256) w))
-steady_store_by b kind.Byte far a (v ∷ w ∷ vs) = steady_strays b
-steady_store_by b kind.Integer far a [] = steady_strays b
-steady_store_by b kind.Integer far a (v ∷ []) = steady_go (steady_word b far a) (λ _. steady_placed b far a v)
-steady_store_by b kind.Integer far a (v ∷ w ∷ vs) = steady_strays b
-steady_store_by b kind.Logical far a [] = steady_strays b
-steady_store_by b kind.Logical far a (v ∷ []) = steady_go (steady_word b far a) (λ _. steady_placed b far a v)
-steady_store_by b kind.Logical far a (v ∷ w ∷ vs) = steady_strays b
+-- ---- locations
 
-pub steady_store : (b : ℕ) (p : Spot) (vs : List ℕ) → Steady (store p vs)
-steady_store b p vs = steady_store_by b p.kind p.far p.address vs
+steady_word_read : (v : Knowledge) (far : Bool) (a : ℕ) → Steady v (AllOf v.W) (word_read far a)
+steady_word_read v far a = steady_go (steady_word v far a) (λ w p. steady_give v (w ∷ []) (p, tt))
 
-pub steady_store_field : (b : ℕ) (p : Spot) (start size : ℕ) (vs : List ℕ) → Steady (store_field p start size vs)
-steady_store_field b p start size [] = steady_strays b
-steady_store_field b p start size (v ∷ []) =
-    steady_go (steady_word b p.far p.address) (λ w. steady_placed b p.far p.address (with_field w start size v))
-steady_store_field b p start size (v ∷ w ∷ vs) = steady_strays b
+steady_word_stored : (v : Knowledge) (far : Bool) (a : ℕ) (vs : List ℕ) → AllOf v.W vs → Steady v Any (word_stored far a vs)
+steady_word_stored v far a [] p = steady_strays v
+steady_word_stored v far a (w ∷ []) p = steady_replaced v far a (λ _. w) (λ _ _. p.0)
+steady_word_stored v far a (w ∷ x ∷ vs) p = steady_strays v
 
-steady_own : (b : ℕ) (k : Kind) (p : Option Place) (i : Option ℕ) → Steady (own_spot k p i)
-steady_own b k (Some p) None =
-    steady_now (λ d s. done (variable_spot k (address p d)) s)
-    (λ d. steady_done b (variable_spot k (address p d)))
-steady_own b k (Some p) (Some i) = steady_strays b
-steady_own b k None i = steady_strays b
+-- a byte of a word
+byte_known : (v : Knowledge) (a w : ℕ) → v.W w → v.W (byte_at a w)
+unfolding byte_at
+byte_known v a w p = by (a % 2 == 0)
+  where
+    by : (t : Bool) → v.W (if t then w / 256 else w % 256)
+    by true = v.less w (w / 256) p (omega arith)
+    by false = v.small (w % 256) (omega arith)
 
-steady_led : (b : ℕ) (far : Bool) (k : Kind) (p : Option Place) (i : ℕ) → Steady (led_spot far k p i)
-steady_led b far k (Some p) i =
-    steady_now (λ d s. then_go (word_at false (address p d) s) (λ cell s1. done (element_spot far k cell i) s1))
-    (λ d. steady_go (steady_word b false (address p d)) (λ cell. steady_done b (element_spot far k cell i)))
-steady_led b far k None i = steady_strays b
+steady_read_by : (v : Knowledge) (k : Kind) (far : Bool) (a : ℕ) → Steady v (AllOf v.W) (read_by k far a)
+steady_read_by v kind.Double far a =
+    steady_go (steady_word v far a) (λ high p. steady_go (steady_word v far ((a + 1) % 65536)) (λ low q.
+    steady_give v (high ∷ low ∷ []) (p, (q, tt))))
+steady_read_by v kind.Byte far a =
+    steady_go (steady_word v far (a / 2)) (λ w p. steady_give v (byte_at a w ∷ []) (byte_known v a w p, tt))
+steady_read_by v kind.Integer far a = steady_word_read v far a
+steady_read_by v kind.Logical far a = steady_word_read v far a
 
-steady_passed : (b : ℕ) (k : Kind) (p : Option Place) (i : Option ℕ) → Steady (passed_spot k p i)
-steady_passed b k p None = steady_led b false k p 0
-steady_passed b k p (Some i) = steady_strays b
+pub steady_read : (v : Knowledge) (p : Located) → Steady v (AllOf v.W) (read p)
+steady_read v p = steady_read_by v p.kind p.far p.address
 
-steady_result : (b : ℕ) (r : Option (Kind × Place)) (i : Option ℕ) → Steady (result_spot r i)
-steady_result b (Some r) None =
-    steady_now (λ d s. done (variable_spot r.0 (address r.1 d)) s)
-    (λ d. steady_done b (variable_spot r.0 (address r.1 d)))
-steady_result b (Some r) (Some i) = steady_strays b
-steady_result b None i = steady_strays b
+steady_store_by : (v : Knowledge) (k : Kind) (far : Bool) (a : ℕ) (vs : List ℕ) → AllOf v.W vs → Steady v Any (store_by k far a vs)
+steady_store_by v kind.Double far a [] p = steady_strays v
+steady_store_by v kind.Double far a (h ∷ []) p = steady_strays v
+steady_store_by v kind.Double far a (high ∷ low ∷ []) p = steady_replaced_two v far a ((a + 1) % 65536) high low p.0 p.1.0
+steady_store_by v kind.Double far a (h ∷ l ∷ w ∷ vs) p = steady_strays v
+steady_store_by v kind.Byte far a [] p = steady_strays v
+steady_store_by v kind.Byte far a (x ∷ []) p = steady_replaced v far (a / 2) (with_byte a (x % 256)) (λ w q. v.byte a x w q)
+steady_store_by v kind.Byte far a (x ∷ w ∷ vs) p = steady_strays v
+steady_store_by v kind.Integer far a vs p = steady_word_stored v far a vs p
+steady_store_by v kind.Logical far a vs p = steady_word_stored v far a vs p
 
-steady_spot_by : (b : ℕ) (h : Here) (x : List ℕ) (o : Option Sort) (i : Option ℕ) → Steady (spot_by h x o i)
-steady_spot_by b h x (Some (n.simple k own)) i = steady_own b k (h.places x) i
-steady_spot_by b h x (Some (n.value k)) i = steady_own b k (h.places x) i
-steady_spot_by b h x (Some (n.by_reference k)) i = steady_passed b k (h.places x) i
-steady_spot_by b h x (Some (n.array k own low high)) i = steady_led b false k (h.places x) (index_or_zero i)
-steady_spot_by b h x (Some (n.view k own base)) i = steady_led b false k (h.places x) (index_or_zero i)
-steady_spot_by b h x (Some (n.array_parameter k)) i = steady_led b false k (h.places x) (index_or_zero i)
-steady_spot_by b h x (Some (n.pointer k own)) i = steady_led b h.split k (h.places x) (index_or_zero i)
-steady_spot_by b h x (Some (n.equate v)) i = steady_strays b
-steady_spot_by b h x (Some n.label) i = steady_strays b
-steady_spot_by b h x (Some (n.intrinsic g)) i = steady_strays b
-steady_spot_by b h x (Some (n.procedure p)) i = steady_strays b
-steady_spot_by b h x (Some (n.subroutine p)) i = steady_strays b
-steady_spot_by b h x (Some n.unknown) i = steady_strays b
-steady_spot_by b h x None i = steady_strays b
+pub steady_store : (v : Knowledge) (p : Located) (vs : List ℕ) → AllOf v.W vs → Steady v Any (store p vs)
+steady_store v p vs q = steady_store_by v p.kind p.far p.address vs q
 
-pub steady_spot : (b : ℕ) (h : Here) (x : List ℕ) (i : Option ℕ) → Steady (spot h x i)
-steady_spot b h x i = steady_spot_by b h x (h.names x) i
+-- one value that may be stored: of a BYTE any number
+abbrev pub Storable : Knowledge → Kind → ℕ → Type 0
+Storable v kind.Byte x = Unit {0}
+Storable v _ x = v.W x
 
-steady_target_by : (b : ℕ) (h : Here) (x : List ℕ) (o : Option Sort) (i : Option ℕ) → Steady (target_by h x o i)
-steady_target_by b h x (Some (n.simple k own)) i = steady_spot_by b h x (Some (n.simple k own)) i
-steady_target_by b h x (Some (n.value k)) i = steady_spot_by b h x (Some (n.value k)) i
-steady_target_by b h x (Some (n.by_reference k)) i = steady_spot_by b h x (Some (n.by_reference k)) i
-steady_target_by b h x (Some (n.array k own low high)) i = steady_spot_by b h x (Some (n.array k own low high)) i
-steady_target_by b h x (Some (n.view k own base)) i = steady_spot_by b h x (Some (n.view k own base)) i
-steady_target_by b h x (Some (n.array_parameter k)) i = steady_spot_by b h x (Some (n.array_parameter k)) i
-steady_target_by b h x (Some (n.pointer k own)) i = steady_spot_by b h x (Some (n.pointer k own)) i
-steady_target_by b h x (Some (n.equate v)) i = steady_strays b
-steady_target_by b h x (Some n.label) i = steady_strays b
-steady_target_by b h x (Some (n.intrinsic g)) i = steady_strays b
-steady_target_by b h x (Some (n.procedure p)) i = steady_result b (h.results x) i
-steady_target_by b h x (Some (n.subroutine p)) i = steady_result b (h.results x) i
-steady_target_by b h x (Some n.unknown) i = steady_strays b
-steady_target_by b h x None i = steady_strays b
+pub steady_store_one : (v : Knowledge) (p : Located) (x : ℕ) → Storable v p.kind x → Steady v Any (store p (x ∷ []))
+steady_store_one v p x h = by p.kind h
+  where
+    by : (k : Kind) → Storable v k x → Steady v Any (store_by k p.far p.address (x ∷ []))
+    by kind.Byte h = steady_replaced v p.far (p.address / 2) (with_byte p.address (x % 256)) (λ w q. v.byte p.address x w q)
+    by kind.Integer h = steady_store_by v kind.Integer p.far p.address (x ∷ []) (h, tt)
+    by kind.Logical h = steady_store_by v kind.Logical p.far p.address (x ∷ []) (h, tt)
+    by kind.Double h = steady_strays v
 
-pub steady_target : (b : ℕ) (h : Here) (x : List ℕ) (i : Option ℕ) → Steady (target_spot h x i)
-steady_target b h x i = steady_target_by b h x (h.names x) i
+pub steady_store_field : (v : Knowledge) (p : Located) (start size : ℕ) (vs : List ℕ) → Steady v Any (store_field p start size vs)
+steady_store_field v p start size [] = steady_strays v
+steady_store_field v p start size (x ∷ []) =
+    steady_replaced v p.far p.address (λ w. with_field w start size x) (λ w q. v.small (with_field w start size x) (with_field-below w start size x))
+steady_store_field v p start size (x ∷ w ∷ vs) = steady_strays v
 
--- ---- operations
+steady_own : (v : Knowledge) (k : Kind) (p : Option Place) (i : Option ℕ) → Steady v Any (own_located k p i)
+steady_own v k (Some p) None =
+    steady_now (λ d s. done (variable_located k (address_of p d)) s) (λ d h. steady_done v (variable_located k (address_of p d)))
+steady_own v k (Some p) (Some i) = steady_strays v
+steady_own v k None i = steady_strays v
 
-pub steady_word_done : (b : ℕ) (r : Arith) → Steady (word_done r)
-steady_word_done b r = steady_if r.overflow (steady_ends b (trapped IntegerOverflow)) (steady_done b (r.value ∷ []))
+steady_led : (v : Knowledge) (far : Bool) (k : Kind) (p : Option Place) (i : ℕ) → Steady v Any (led_located far k p i)
+steady_led v far k (Some p) i =
+    steady_now (λ d s. then_go (word_at false (address_of p d) s) (λ cell s1. done (element_located far k cell i) s1))
+    (λ d h. steady_go (steady_word v false (address_of p d)) (λ cell _. steady_done v (element_located far k cell i)))
+steady_led v far k None i = steady_strays v
 
-steady_double_done : (b : ℕ) (r : Wide) → Steady (double_done r)
-steady_double_done b r = steady_if r.overflow (steady_ends b (trapped IntegerOverflow)) (steady_done b (double_words r.value))
+steady_passed : (v : Knowledge) (k : Kind) (p : Option Place) (i : Option ℕ) → Steady v Any (passed_located k p i)
+steady_passed v k p None = steady_led v false k p 0
+steady_passed v k p (Some i) = steady_strays v
 
-steady_quotient : (b : ℕ) (rest : Bool) (o : Option Quotient) → Steady (quotient_done rest o)
-steady_quotient b rest None = steady_ends b (trapped DivideByZero)
-steady_quotient b rest (Some q) =
-    steady_if q.overflow (steady_ends b (trapped IntegerOverflow)) (steady_done b ((if rest then q.remainder else q.quotient) ∷ []))
+steady_result : (v : Knowledge) (r : Option (Kind × Place)) (i : Option ℕ) → Steady v Any (result_located r i)
+steady_result v (Some r) None =
+    steady_now (λ d s. done (variable_located r.0 (address_of r.1 d)) s) (λ d h. steady_done v (variable_located r.0 (address_of r.1 d)))
+steady_result v (Some r) (Some i) = steady_strays v
+steady_result v None i = steady_strays v
 
-steady_relation : (b op : ℕ) (c : Code) → Steady (relation_done op c)
-steady_relation b op c = steady_done b (truth_word (related op c) ∷ [])
+steady_locate_by : (v : Knowledge) (h : Here) (x : List ℕ) (o : Access) (i : Option ℕ) → Steady v Any (locate_by h x o i)
+steady_locate_by v h x (its_own k) i = steady_own v k (h.places x) i
+steady_locate_by v h x (by_address k) i = steady_passed v k (h.places x) i
+steady_locate_by v h x (by_cell p k) i = steady_led v (p && h.setting.split) k (h.places x) (index_or_zero i)
+steady_locate_by v h x its_result i = steady_result v (h.results x) i
+steady_locate_by v h x nowhere i = steady_strays v
 
-steady_integers : (b op x y : ℕ) → Steady (on_integers op x y)
-steady_integers b op x y =
-    steady_if (is_relation op) (steady_relation b (op - 5) (words_compared x y))
-    (steady_if (op == 11) (steady_word_done b (added x y))
-    (steady_if (op == 12) (steady_word_done b (subtracted x y))
-    (steady_if (op == 13) (steady_word_done b (multiplied x y)) (steady_quotient b (op == 15) (divided x y)))))
+pub steady_locate : (v : Knowledge) (h : Here) (x : List ℕ) (i : Option ℕ) → Steady v Any (locate h x i)
+steady_locate v h x i = steady_locate_by v h x (access_of (h.names x)) i
 
-steady_logicals : (b op x y : ℕ) → Steady (on_logicals op x y)
-steady_logicals b op x y =
-    steady_if (is_relation op) (steady_relation b (op - 5) (logically_compared x y))
-    (steady_if (op == 11) (steady_done b ((logically_added x y).value ∷ []))
-    (steady_if (op == 12) (steady_done b ((logically_subtracted x y).value ∷ []))
-    (steady_if (op == 13) (steady_done b ((logically_multiplied x y).value % 65536 ∷ [])) (steady_quotient b (op == 15) (logically_divided x y)))))
-
-steady_doubles : (b op x y : ℕ) → Steady (on_doubles op x y)
-steady_doubles b op x y =
-    steady_if (is_relation op) (steady_relation b (op - 5) (doubles_compared x y))
-    (steady_if (op == 11) (steady_double_done b (double_added x y)) (steady_double_done b (double_subtracted x y)))
-
-steady_by_class : (b : ℕ) (c : Class) (op : ℕ) (xs ys : List ℕ) → Steady (by_class c op xs ys)
-steady_by_class b integers op [] ys = steady_strays b
-steady_by_class b integers op (x ∷ []) [] = steady_strays b
-steady_by_class b integers op (x ∷ []) (y ∷ []) = steady_integers b op x y
-steady_by_class b integers op (x ∷ []) (y ∷ z ∷ ys) = steady_strays b
-steady_by_class b integers op (x ∷ w ∷ xs) ys = steady_strays b
-steady_by_class b logicals op [] ys = steady_strays b
-steady_by_class b logicals op (x ∷ []) [] = steady_strays b
-steady_by_class b logicals op (x ∷ []) (y ∷ []) = steady_logicals b op x y
-steady_by_class b logicals op (x ∷ []) (y ∷ z ∷ ys) = steady_strays b
-steady_by_class b logicals op (x ∷ w ∷ xs) ys = steady_strays b
-steady_by_class b doubles op [] ys = steady_strays b
-steady_by_class b doubles op (h ∷ []) ys = steady_strays b
-steady_by_class b doubles op (h ∷ l ∷ []) [] = steady_strays b
-steady_by_class b doubles op (h ∷ l ∷ []) (k ∷ []) = steady_strays b
-steady_by_class b doubles op (h ∷ l ∷ []) (k ∷ m ∷ []) = steady_doubles b op (double h l) (double k m)
-steady_by_class b doubles op (h ∷ l ∷ []) (k ∷ m ∷ z ∷ ys) = steady_strays b
-steady_by_class b doubles op (h ∷ l ∷ w ∷ xs) ys = steady_strays b
-steady_by_class b mixed op xs ys = steady_strays b
-
-steady_bits : (b op : ℕ) (xs ys : List ℕ) → Steady (bits_done op xs ys)
-steady_bits b op [] ys = steady_strays b
-steady_bits b op (x ∷ []) [] = steady_strays b
-steady_bits b op (x ∷ []) (y ∷ []) = steady_done b _
-steady_bits b op (x ∷ []) (y ∷ z ∷ ys) = steady_strays b
-steady_bits b op (x ∷ w ∷ xs) ys = steady_strays b
-
-pub steady_joined : (b op : ℕ) (l r : Operand) (xs ys : List ℕ) → Steady (joined op l r xs ys)
-steady_joined b op l r xs ys = steady_if (nat_lt op 5) (steady_bits b op xs ys) (steady_by_class b (class_of l r) op xs ys)
-
-steady_minus : (b : ℕ) (k : Operand) (vs : List ℕ) → Steady (minus_done k vs)
-steady_minus b (of kind.Integer) [] = steady_strays b
-steady_minus b (of kind.Integer) (a ∷ []) = steady_word_done b (negated a)
-steady_minus b (of kind.Integer) (a ∷ c ∷ vs) = steady_strays b
-steady_minus b const [] = steady_strays b
-steady_minus b const (a ∷ []) = steady_word_done b (negated a)
-steady_minus b const (a ∷ c ∷ vs) = steady_strays b
-steady_minus b (of kind.Logical) [] = steady_strays b
-steady_minus b (of kind.Logical) (a ∷ []) = steady_done b ((logically_subtracted 0 a).value ∷ [])
-steady_minus b (of kind.Logical) (a ∷ c ∷ vs) = steady_strays b
-steady_minus b (of kind.Byte) [] = steady_strays b
-steady_minus b (of kind.Byte) (a ∷ []) = steady_done b ((logically_subtracted 0 a).value ∷ [])
-steady_minus b (of kind.Byte) (a ∷ c ∷ vs) = steady_strays b
-steady_minus b (of kind.Double) [] = steady_strays b
-steady_minus b (of kind.Double) (h ∷ []) = steady_strays b
-steady_minus b (of kind.Double) (h ∷ l ∷ []) = steady_double_done b (double_negated (double h l))
-steady_minus b (of kind.Double) (h ∷ l ∷ c ∷ vs) = steady_strays b
-steady_minus b unknown vs = steady_strays b
-
-steady_not : (b : ℕ) (vs : List ℕ) → Steady (not_done vs)
-steady_not b [] = steady_strays b
-steady_not b (a ∷ []) = steady_done b ((65535 - a) ∷ [])
-steady_not b (a ∷ c ∷ vs) = steady_strays b
-
-pub steady_signed : (b op : ℕ) (k : Operand) (vs : List ℕ) → Steady (signed_done op k vs)
-steady_signed b op k vs = steady_if (op == 0) (steady_done b vs) (steady_if (op == 1) (steady_minus b k vs) (steady_not b vs))
-
-pub steady_shift : (b op count : ℕ) (vs : List ℕ) → Steady (shift_done op count vs)
-steady_shift b op count [] = steady_strays b
-steady_shift b op count (w ∷ []) = steady_done b _
-steady_shift b op count (w ∷ v ∷ vs) = steady_strays b
-
-pub steady_field : (b start size : ℕ) (vs : List ℕ) → Steady (field_done start size vs)
-steady_field b start size [] = steady_strays b
-steady_field b start size (w ∷ []) = steady_done b _
-steady_field b start size (w ∷ v ∷ vs) = steady_strays b
+pub steady_target : (v : Knowledge) (h : Here) (x : List ℕ) (i : Option ℕ) → Steady v Any (locate_target h x i)
+steady_target v h x i = steady_locate_by v h x (target_access (h.names x)) i

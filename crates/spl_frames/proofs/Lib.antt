@@ -1,8 +1,15 @@
 mod Steady
 mod FrameReferences
+mod FrameOperations
 mod FrameElements
 mod FrameValues
 mod FrameStatements
 mod FrameRuns
+mod PartLaws
+mod WordFacts
+mod WordRuns
+mod SizeLaws
+mod UseLaws
+mod CallLaws
 mod LawfulStates
 mod EntryLaws

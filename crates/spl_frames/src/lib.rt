@@ -3,4 +3,7 @@
 
 mod laws;
 
-pub use laws::{bodies_begin_lawfully, calls_enter, lawful_states_stay, statements_keep_frames};
+pub use laws::{
+    bodies_begin_lawfully, calls_enter, depths_cover_calls, depths_cover_uses, lawful_states_stay,
+    openings_have_their_words, parts_keep_frames, values_have_their_words, words_stay_words,
+};
