@@ -1,0 +1,4 @@
+pub mod Profiles
+pub mod Sorts
+pub mod Tables
+pub mod Reports
