@@ -1,0 +1,5 @@
+pub mod Counts
+pub mod Labels
+pub mod Named
+pub mod Texts
+pub mod Walks
