@@ -1,0 +1,7 @@
+-- Slices are compared element by element.
+use Rattle.std.specs.Cmp.{booleans_Decides}
+use Rattle.std.proofs.lemmas.Slice.Eq.{slice_eq-Decides}
+use Rattle.spl_branch.proofs.rounds.same_forms.Goals as goal
+
+pub returns : goal.returns
+returns c = slice_eq-Decides booleans_Decides _ _ _ c.eq.ensures

@@ -1,0 +1,9 @@
+-- In reading order.
+pub mod Pieces
+pub mod Codes
+pub mod Branches
+pub mod Stands
+pub mod Fixes
+pub mod Modules
+pub mod Words
+pub mod Rounds
