@@ -1,0 +1,5 @@
+-- In reading order.
+pub mod NameLemmas
+pub mod DefinedLemmas
+pub mod LaidLemmas
+pub mod SegmentLaws
