@@ -4,20 +4,34 @@
 use hp_outside::{StdSink, StdSource};
 use hp3000_top::{Exit, hp3000_main};
 use std::env;
+use std::io::ErrorKind;
 use std::process::ExitCode;
 
-/// The words of the command line after the program's name, if there is memory for them.
-fn words(rt: &HostRuntime) -> Option<Vec<String>> {
+/// The words of the command line after the program's name. Err: how the program ends where there are none: memory is
+/// wanting, or a word is no text, so that it is none of a verb.
+fn words(rt: &HostRuntime) -> Result<Vec<String>, Exit> {
+    let args = match env::args(rt) {
+        Ok(args) => args,
+        Err(error) => {
+            return Err(match error.kind() {
+                ErrorKind::OutOfMemory => Exit::NoMemory,
+                _ => Exit::Usage,
+            });
+        }
+    };
     let mut words = Vec::new(rt.alloc());
-    for word in env::args(rt).ok()?.skip(1) {
-        words.push(word).ok()?;
+    for word in args.skip(1) {
+        if words.push(word).is_err() {
+            return Err(Exit::NoMemory);
+        }
     }
-    Some(words)
+    Ok(words)
 }
 
 fn main(rt: HostRuntime) -> ExitCode {
-    let Some(words) = words(&rt) else {
-        return ExitCode::from(Exit::NoMemory.status());
+    let words = match words(&rt) {
+        Ok(words) => words,
+        Err(exit) => return ExitCode::from(exit.status()),
     };
     let mut input = StdSource {
         reader: rt.stdin(),

@@ -6,7 +6,7 @@ use Rattle.std.specs.Io.KnownBytes.{Appends}
 use Rattle.std.proofs.Math.Bool.{and-true}
 use Rattle.std.proofs.lemmas.Bool.Decides.{nat_tests}
 use Rattle.spl_tree.specs.declared.names_and_places.At.{At}
-use Rattle.spl_front.specs.declared.faults.Kind.{Kind}
+use Rattle.spl_tree.specs.declared.fault_kinds.FaultKind.{FaultKind}
 use Rattle.hp_program.specs.declared.program.Program.{Program}
 use Rattle.hp_outside.specs.Whole.{ReadsToEnd, IsLongerThan}
 use Rattle.hp_outside.specs.declared.streams.Failed.{Failed}
@@ -131,7 +131,7 @@ pub not_built_of : (left rest : Option (List ℕ)) (bytes : List ℕ) → ReadsT
 not_built_of None rest bytes r h = tt
 not_built_of (Some all) rest bytes r h = subst IsUnbuilt r.all h
 
-pub faulty_of : (left rest : Option (List ℕ)) (bytes name : List ℕ) (kind : Kind) (at : At) → ReadsToEnd 1048576 left rest bytes → IsFaultOf bytes name kind at
+pub faulty_of : (left rest : Option (List ℕ)) (bytes name : List ℕ) (kind : FaultKind) (at : At) → ReadsToEnd 1048576 left rest bytes → IsFaultOf bytes name kind at
     → HasFaulty left name kind at
 faulty_of None rest bytes name kind at r h = tt
 faulty_of (Some all) rest bytes name kind at r h = subst (Faulty name kind at) r.all h.has
@@ -146,24 +146,24 @@ built_not_long None b n = b
 built_not_long (Some bytes) b n = let m = b.3 in omega (arith, n, m)
 
 -- nor one with a fault; it is not answered by a report, nor by the other line
-pub faulty_not_long : (left : Option (List ℕ)) (name : List ℕ) (kind : Kind) (at : At) → IsFaulty left name kind at → IsLongerThan 1048576 left → ⊥
+pub faulty_not_long : (left : Option (List ℕ)) (name : List ℕ) (kind : FaultKind) (at : At) → IsFaulty left name kind at → IsLongerThan 1048576 left → ⊥
 faulty_not_long None name kind at b n = b
 faulty_not_long (Some bytes) name kind at b n = let m = b.1 in omega (arith, n, m)
 
-pub faulty_not_sound : (left rest : Option (List ℕ)) (bytes name : List ℕ) (kind : Kind) (at : At) → ReadsToEnd 1048576 left rest bytes → IsSound bytes
+pub faulty_not_sound : (left rest : Option (List ℕ)) (bytes name : List ℕ) (kind : FaultKind) (at : At) → ReadsToEnd 1048576 left rest bytes → IsSound bytes
     → IsFaulty left name kind at → ⊥
 faulty_not_sound None rest bytes name kind at r s b = b
 faulty_not_sound (Some all) rest bytes name kind at r s b = (subst IsSound r.all s) name kind at b.0
 
-pub same_fault : (left rest : Option (List ℕ)) (bytes name other : List ℕ) (kind k : Kind) (at a : At) → ReadsToEnd 1048576 left rest bytes → IsFaultOf bytes name kind at
+pub same_fault : (left rest : Option (List ℕ)) (bytes name other : List ℕ) (kind k : FaultKind) (at a : At) → ReadsToEnd 1048576 left rest bytes → IsFaultOf bytes name kind at
     → IsFaulty left other k a → fault_line name kind at ≡ fault_line other k a
 same_fault None rest bytes name other kind k at a r h b = absurd b
 same_fault (Some all) rest bytes name other kind k at a r h b =
     let s = h.only other k a (subst (Faulty other k a) (sym r.all) b.0) in
-    ap (λ (n : List ℕ). fault_line n kind at) s.0 ∙ ap (λ (q : Kind). fault_line other q at) s.1 ∙ ap (λ (p : At). fault_line other k p) s.2
+    ap (λ (n : List ℕ). fault_line n kind at) s.0 ∙ ap (λ (q : FaultKind). fault_line other q at) s.1 ∙ ap (λ (p : At). fault_line other k p) s.2
 
 -- nor is a thin job refused for a fault
-pub built_not_faulty : (left rest : Option (List ℕ)) (bytes name : List ℕ) (kind : Kind) (at : At) → ReadsToEnd 1048576 left rest bytes → IsFaultOf bytes name kind at
+pub built_not_faulty : (left rest : Option (List ℕ)) (bytes name : List ℕ) (kind : FaultKind) (at : At) → ReadsToEnd 1048576 left rest bytes → IsFaultOf bytes name kind at
     → IsBuilt left → ⊥
 built_not_faulty None rest bytes name kind at r h b = b
 built_not_faulty (Some all) rest bytes name kind at r h b = h.no_job b.0 (subst (Thin_job b.0) (sym r.all) b.1)

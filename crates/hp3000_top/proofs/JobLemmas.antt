@@ -3,7 +3,7 @@ use Rattle.std.proofs.Common.{◌≡◌, ℕ, ◌<◌, ◌≤◌, Bool, true, fa
 use Rattle.std.specs.Prelude.{option_and_then, is_some, IsErrAnd}
 use Rattle.spl_tree.specs.declared.names_and_places.At.{At}
 use Rattle.spl_tree.specs.declared.units.SplUnit.{SplUnit}
-use Rattle.spl_front.specs.declared.faults.Kind.{Kind}
+use Rattle.spl_tree.specs.declared.fault_kinds.FaultKind.{FaultKind}
 use Rattle.spl_front.specs.declared.faults.UnitFault.{UnitFault}
 use Rattle.spl_front.specs.declared.faults.UnitFault.TheVariants as fault
 use Rattle.spl_front.specs.Fronts.{Source, source_of, Spells, HasFault, Tells, Gives, Refuses}
@@ -63,7 +63,7 @@ same_frame bytes f g e v = some_is (sym (frame_read g bytes v) ∙ e)
 spelled_here : (bytes : List ℕ) (f g : Frame) (s : Source) → frame_in bytes ≡ Some f → Framed g bytes → Spells 1 g.text s → Spells 1 f.text s
 spelled_here bytes f g s e v w = subst (λ (h : Frame). Spells 1 h.text s) (same_frame bytes f g e v) w
 
-fault_here : (bytes : List ℕ) (f g : Frame) (k : Kind) (at : At) → frame_in bytes ≡ Some f → Framed g bytes → HasFault 1 g.text k at → HasFault 1 f.text k at
+fault_here : (bytes : List ℕ) (f g : Frame) (k : FaultKind) (at : At) → frame_in bytes ≡ Some f → Framed g bytes → HasFault 1 g.text k at → HasFault 1 f.text k at
 fault_here bytes f g k at e v w = subst (λ (h : Frame). HasFault 1 h.text k at) (same_frame bytes f g e v) w
 
 -- no other unit is spelled than that which was read
@@ -72,7 +72,7 @@ Only text x = (s : Source) → Spells 1 text s → source_of x ≡ s
 
 -- it has no fault
 abbrev pub Sound : List ℕ → Type 0
-Sound text = (k : Kind) (at : At) → HasFault 1 text k at → ⊥
+Sound text = (k : FaultKind) (at : At) → HasFault 1 text k at → ⊥
 
 sound_job : (bytes : List ℕ) (f : Frame) → frame_in bytes ≡ Some f → Sound f.text → IsSound bytes
 sound_job bytes f e h = λ name kind at k. h kind at (fault_here bytes f k.frame kind at e k.framed k.has_fault)
@@ -114,8 +114,8 @@ is_job bytes f x e v only sound h = by (thin_of x) refl h
     }
 
 -- a fault is the job's
-pub is_fault : (bytes : List ℕ) (f : Frame) (kind : Kind) (at : At) → frame_in bytes ≡ Some f → HasFault 1 f.text kind at
-    → ((k : Kind) (a : At) → HasFault 1 f.text k a → (kind ≡ k) × (at ≡ a)) → ((s : Source) → Spells 1 f.text s → ⊥) → IsFaultOf bytes f.name kind at
+pub is_fault : (bytes : List ℕ) (f : Frame) (kind : FaultKind) (at : At) → frame_in bytes ≡ Some f → HasFault 1 f.text kind at
+    → ((k : FaultKind) (a : At) → HasFault 1 f.text k a → (kind ≡ k) × (at ≡ a)) → ((s : Source) → Spells 1 f.text s → ⊥) → IsFaultOf bytes f.name kind at
 is_fault bytes f kind at e v only none = record {
   has = record { frame = f; framed = frame_spelled f bytes e; has_name = refl; has_fault = v };
   only = λ other k a w. let p = only k a (fault_here bytes f w.frame k a e w.framed w.has_fault) in
@@ -137,14 +137,14 @@ pub is_job_in : (bytes text : List ℕ) (f : Frame) (x : SplUnit) → frame_in b
 is_job_in bytes text f x e t v only sound =
     is_job bytes f x e (subst (λ (t : List ℕ). Spells 1 t (source_of x)) t v) (subst (λ (t : List ℕ). Only t x) t only) (subst Sound t sound)
 
-pub is_fault_in : (bytes text : List ℕ) (f : Frame) (told : UnitFault) (kind : Kind) (at : At) → frame_in bytes ≡ Some f → text ≡ f.text → told ≡ fault.Fault kind at
-    → Tells 1 text told → ((k : Kind) (a : At) → HasFault 1 text k a → Refuses (Err told) k a) → ((s : Source) → Spells 1 text s → Gives (Err told) s)
+pub is_fault_in : (bytes text : List ℕ) (f : Frame) (told : UnitFault) (kind : FaultKind) (at : At) → frame_in bytes ≡ Some f → text ≡ f.text → told ≡ fault.Fault kind at
+    → Tells 1 text told → ((k : FaultKind) (a : At) → HasFault 1 text k a → Refuses (Err told) k a) → ((s : Source) → Spells 1 text s → Gives (Err told) s)
     → IsFaultOf bytes f.name kind at
 is_fault_in bytes text f told kind at e t is v only none =
     is_fault bytes f kind at e
     (subst (λ (t : List ℕ). HasFault 1 t kind at) t (subst (Tells 1 text) is v))
-    (subst (λ (t : List ℕ). (k : Kind) (a : At) → HasFault 1 t k a → (kind ≡ k) × (at ≡ a)) t
-    (subst (λ (told : UnitFault). (k : Kind) (a : At) → HasFault 1 text k a → Refuses (Err told) k a) is only))
+    (subst (λ (t : List ℕ). (k : FaultKind) (a : At) → HasFault 1 t k a → (kind ≡ k) × (at ≡ a)) t
+    (subst (λ (told : UnitFault). (k : FaultKind) (a : At) → HasFault 1 text k a → Refuses (Err told) k a) is only))
     (subst (λ (t : List ℕ). (s : Source) → Spells 1 t s → ⊥) t
     (subst (λ (told : UnitFault). (s : Source) → Spells 1 text s → Gives (Err told) s) is none))
 

@@ -3,7 +3,7 @@ use Rattle.std.specs.Prelude.{◌≡◌, ℕ, Bool, true, false, List, [], ◌�
 use Rattle.std.specs.Io.KnownBytes.{Appends, IsAtEnd}
 use lib.Pointwise.{pointwise}
 use Rattle.spl_tree.specs.declared.names_and_places.At.{At}
-use Rattle.spl_front.specs.declared.faults.Kind.{Kind}
+use Rattle.spl_tree.specs.declared.fault_kinds.FaultKind.{FaultKind}
 use Rattle.hp_program.specs.declared.program.Program.{Program}
 use Rattle.hp_session.specs.State.{Machine}
 use Rattle.hp3000_top.specs.declared.exit.Exit.{Exit}
@@ -61,7 +61,7 @@ abbrev pub Delivers : Option (List ℕ) → List Program → Option (List ℕ) �
 Delivers left made old new = IfSome left (λ bytes. (job : Job) × Thin_job job bytes × (bound_of job.unit.statements ≤ 16383) × DeliversJob job made old new)
 
 -- the unit of the bytes that were left has this fault
-abbrev pub HasFaulty : Option (List ℕ) → List ℕ → Kind → At → Type 0
+abbrev pub HasFaulty : Option (List ℕ) → List ℕ → FaultKind → At → Type 0
 HasFaulty left name kind at = IfSome left (Faulty name kind at)
 
 -- no unit of them has a fault, and no segment can be made of them
@@ -71,7 +71,7 @@ IsNotBuilt left = IfSome left IsUnbuilt
 -- one line was appended to what was written: that of what is not built, or that of the fault
 pub data Refuses (left old new : Option (List ℕ)) : Type 0 where
   later : Appends old new later_line → IsNotBuilt left → Refuses left old new
-  faulty : (name : List ℕ) (kind : Kind) (at : At) → Appends old new (fault_line name kind at) → HasFaulty left name kind at
+  faulty : (name : List ℕ) (kind : FaultKind) (at : At) → Appends old new (fault_line name kind at) → HasFaulty left name kind at
       → Refuses left old new
 
 -- the report of a source run that stands so was appended to what was written; of one that has strayed there is none
@@ -97,12 +97,12 @@ IsDone e.NoMemory = Unit {0}
 IsDone _ = ⊥
 
 -- the bytes that are left are those of a job whose unit has a fault, at most 1,048,576
-abbrev pub IsFaulty : Option (List ℕ) → List ℕ → Kind → At → Type 0
+abbrev pub IsFaulty : Option (List ℕ) → List ℕ → FaultKind → At → Type 0
 IsFaulty None name kind at = ⊥
 IsFaulty (Some bytes) name kind at = Faulty name kind at bytes × (length bytes ≤ 1048576)
 
 -- the line of this fault was appended, unless memory is wanting
-abbrev pub IsRefused : Exit → Option (List ℕ) → Option (List ℕ) → List ℕ → Kind → At → Type 0
+abbrev pub IsRefused : Exit → Option (List ℕ) → Option (List ℕ) → List ℕ → FaultKind → At → Type 0
 IsRefused e.Refused old new name kind at = Appends old new (fault_line name kind at)
 IsRefused e.NoMemory old new name kind at = Unit {0}
 IsRefused _ old new name kind at = ⊥

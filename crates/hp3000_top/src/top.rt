@@ -3,7 +3,7 @@ ghost use Rattle.std.specs.Prelude.{◌≡◌, ◌≢◌, ◌↔◌, ◌≤◌, 
 ghost use Rattle.hp_outside.specs.Faults.{Rose};
 ghost use Rattle.hp_outside.specs.Whole.{IsLongerThan};
 ghost use Rattle.spl_tree.specs.declared.names_and_places.At as places;
-ghost use Rattle.spl_front.specs.declared.faults.Kind as kinds;
+ghost use Rattle.spl_tree.specs.declared.fault_kinds.FaultKind as kinds;
 ghost use Rattle.thin_jobs.specs.declared.unread.Unread.TheVariants.{NoMemory};
 ghost use Rattle.hp3000_top.specs.Answers.{is_run, IsAnswered, IsWhole, IsSilent, Delivers, Refuses, IsAsAlone, IsBuilt, IsDone, IsFaulty, IsRefused, report_of_run};
 ghost use Rattle.hp3000_top.specs.Refusals.{Excuses};
@@ -115,7 +115,7 @@ pub fn hp3000_main<I: Source, O: Sink>(
     // The headline: the session has printed and ended exactly as its source, run alone, has at some step. And when it is done.
     ensures headline { result ≡ Exit.Done → IsAsAlone (I.left input.old) (O.written output.old) (O.written output.new) }
     ensures complete { is_run (map (λ w. string_bytes w) words.now.items) ≡ true → IsBuilt (I.left input.old) → (Rose (I.faults input.old) (I.faults input.new) → ⊥) → (Rose (O.faults output.old) (O.faults output.new) → ⊥) → IsDone result }
-    ensures faulty { is_run (map (λ w. string_bytes w) words.now.items) ≡ true → (name : List ℕ) (kind : kinds.Kind) (at : places.At) → IsFaulty (I.left input.old) name kind at → (Rose (I.faults input.old) (I.faults input.new) → ⊥) → (Rose (O.faults output.old) (O.faults output.new) → ⊥) → IsRefused result (O.written output.old) (O.written output.new) name kind at }
+    ensures faulty { is_run (map (λ w. string_bytes w) words.now.items) ≡ true → (name : List ℕ) (kind : kinds.FaultKind) (at : places.At) → IsFaulty (I.left input.old) name kind at → (Rose (I.faults input.old) (I.faults input.new) → ⊥) → (Rose (O.faults output.old) (O.faults output.new) → ⊥) → IsRefused result (O.written output.old) (O.written output.new) name kind at }
     ensures kept { result ≢ Exit.Done → made.new ≡ made.old }
 {
     if !runs(words) {

@@ -2,11 +2,10 @@
 ghost use Rattle.std.specs.Prelude.{◌≡◌, IfOk};
 ghost use Rattle.thin_jobs.specs.declared.unread.Unread.TheVariants as unread;
 ghost use Rattle.hp3000_top.specs.declared.unanswered.Unanswered.TheVariants as variants;
-ghost use Rattle.hp3000_top.specs.Refusals.{refusal_of, fault_line};
+ghost use Rattle.hp3000_top.specs.Refusals.{fault_line};
 
 use job_report::{Refusal, UnitRefusal, refusal_line};
-use spl_front::Kind;
-use spl_tree::{At, Name};
+use spl_tree::{At, FaultKind, Name};
 use std::alloc::{AllocError, AllocFailed, Global};
 use thin_jobs::Unread;
 
@@ -16,7 +15,11 @@ pub enum Unanswered {
     /// It has a form that is not built yet.
     Later,
     /// The unit of a program has a fault.
-    Faulty { program: Name, kind: Kind, at: At },
+    Faulty {
+        program: Name,
+        kind: FaultKind,
+        at: At,
+    },
     /// Memory is wanting.
     NoMemory,
 }
@@ -37,32 +40,19 @@ impl<T: Drop> From<AllocFailed<T>> for Unanswered {
     }
 }
 
-/// A fault of a unit's text, as a refusal names it.
-fn refusal_of(kind: Kind) -> UnitRefusal
-    ensures { result ≡ refusal_of kind }
-{
-    match kind {
-        Kind::BadByte => UnitRefusal::BadByte,
-        Kind::BadCommand => UnitRefusal::BadCommand,
-        Kind::OpenString => UnitRefusal::OpenString,
-        Kind::OpenComment => UnitRefusal::OpenComment,
-        Kind::NameTooLong => UnitRefusal::NameTooLong,
-        Kind::NumberTooLarge => UnitRefusal::NumberTooLarge,
-        Kind::BadDefine => UnitRefusal::BadDefine,
-        Kind::TooManyTokens => UnitRefusal::TooManyTokens,
-        Kind::Syntax => UnitRefusal::Syntax,
-        Kind::TooDeep => UnitRefusal::TooDeep,
-    }
-}
-
 /// The line for a unit with a fault.
-pub fn fault_line(alloc: Global, program: Name, kind: Kind, at: At) -> Result<Vec<u8>, AllocError>
+pub fn fault_line(
+    alloc: Global,
+    program: Name,
+    kind: FaultKind,
+    at: At,
+) -> Result<Vec<u8>, AllocError>
     ensures { IfOk result (λ line. line.items ≡ fault_line program.text.items kind at) }
 {
     let refusal = Refusal::Unit {
         program,
         at,
-        fault: refusal_of(kind),
+        fault: UnitRefusal::Text(kind),
     };
     refusal_line(alloc, &refusal)
 }

@@ -8,7 +8,7 @@ ghost use Rattle.thin_jobs.specs.ThinJobs.{job_lines, is_blank, words, digits_af
 ghost use Rattle.thin_jobs.specs.CommandViews.{command_view};
 
 use crate::bytes::{capital, digit, name_byte};
-use crate::names::{name_of, same};
+use crate::names::same;
 use bstr::ByteSlice;
 use spl_tree::Name;
 use std::alloc::{AllocError, Global};
@@ -113,7 +113,7 @@ fn name(word: &[u8]) -> Option<Name>
     ensures { option_map (λ n. n.text.items) result ≡ name_in word.now }
 {
     if program_name(word) {
-        Some(name_of(word))
+        Some(Name::new(word))
     } else {
         None
     }

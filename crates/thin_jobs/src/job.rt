@@ -5,7 +5,7 @@ ghost use Rattle.thin_jobs.specs.ThinJobs.{is_in_unit, is_whole, fed_all, start}
 ghost use Rattle.thin_jobs.specs.JobViews.{job_state, place_of};
 
 use crate::commands::{Command, command_in, lines};
-use crate::names::{name_of, same};
+use crate::names::same;
 use crate::unread::Unread;
 use spl_tree::Name;
 use std::alloc::{AllocError, Global};
@@ -115,7 +115,7 @@ pub fn read_lines(alloc: Global, lines: &[&[u8]]) -> Result<JobReading, Unread>
 {
     let mut reading = JobReading {
         quantum: 100,
-        name: name_of(b""),
+        name: Name::new(b""),
         text: Vec::new(alloc),
         due: Due::Job,
     };

@@ -1,10 +1,9 @@
 //! Names, and tests of them.
-ghost use Rattle.std.specs.Prelude.{◌≡◌, ◌≤◌, not, codes, length};
+ghost use Rattle.std.specs.Prelude.{◌≡◌, not, codes};
 ghost use Rattle.std.specs.List.{list_any};
 ghost use Rattle.thin_jobs.specs.ThinUnits.{same_name, is_declared, has_gate, quit_gate, terminate_gate};
 ghost use Rattle.thin_jobs.specs.ThinTrees.{names_of, gates_of};
 
-use arrayvec::ArrayVec;
 use spl_tree::{At, Item, Name};
 
 /// Two names are equal.
@@ -78,14 +77,4 @@ pub fn terminate_declared(gates: &[(Name, At)]) -> bool
     ensures { result ≡ has_gate (gates_of gates.now) terminate_gate }
 {
     any_other(gates)
-}
-
-/// A name of these bytes, at most 15.
-pub fn name_of(bytes: &[u8]) -> Name
-    requires { length bytes.now ≤ 15 }
-    ensures { result.text.items ≡ bytes.now }
-{
-    let mut text = ArrayVec::new();
-    text.try_extend_from_slice(bytes).unwrap();
-    Name { text }
 }
