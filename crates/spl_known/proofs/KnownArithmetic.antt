@@ -1,5 +1,7 @@
 -- Runs of arithmetic, constants and tokens, computed.
 use Rattle.std.proofs.Common.{refl}
+use Rattle.std.specs.Prelude.{◌≡◌, pos, neg_ℤ}
+use Rattle.spl_meaning.specs.Names.{cut}
 use Rattle.spl_known.specs.Programs.{IsSo, AllRunSo}
 use Rattle.spl_known.specs.ArithmeticRuns as known
 use Rattle.spl_known.proofs.Computing.{all}
@@ -218,3 +220,17 @@ string_of_two_as_a_word = refl
 
 pub all_run : AllRunSo known.arithmetic_runs
 all_run = (addition_overflows, (adds_and_quits, (arithmetic_shift_right, (assignment_to_a_bit_field, (bit_field_of_a_word, (bit_operations_and_relations, (byte_variable_keeps_eight_bits, (constants_of_all_sorts, (declaration_alone, (define_of_a_define, (define_stands_for_a_number, (defined_word_is_replaced_where_it_stands, (division_truncates_toward_zero, (double_keeps_the_sign_of_an_integer, (double_of_a_logical_is_not_negative, (double_overflow, (doubles_are_compared_with_sign, (equate_of_equates, (initial_values_of_variables, (integer_overflow_by_addition, (integer_product_overflows, (least_integer_over_minus_one, (logical_division_by_zero, (logical_division_is_unsigned, (logical_product_wraps, (logicals_are_compared_without_sign, (low_word_of_a_double, (minus_of_a_logical, (minus_of_the_least_integer, (modulo_by_zero, (negated_number_binds_first, (not_of_a_word, (six_shifts_of_one_word, (small_letters_comments_and_commands, (tabs_and_returns_are_blanks, (quit_with_a_negative_number, (before_the_first_step, (one_step_before_the_quit, (the_step_of_the_quit, (an_ended_run_stays, (before_the_last_step, (the_last_step, (xor_lor_and_land, (double_sum, (double_negated, (double_of_the_least_negated, (byte_of_a_word, (remainder_of_a_negative, (remainder_of_a_logical, (least_integer_modulo_minus_one, (plus_in_front, (not_of_truth, (string_of_two_as_a_word, tt)))))))))))))))))))))))))))))))))))))))))))))))))))))
+
+-- values that a name of a sum is kept with
+
+usual_values_are_kept : cut (neg_ℤ (pos 32768)) ≡ neg_ℤ (pos 32768)
+usual_values_are_kept = refl
+
+the_greatest_is_kept : cut (pos 1099511627776) ≡ pos 1099511627776
+the_greatest_is_kept = refl
+
+one_more_is_cut : cut (pos 1099511627777) ≡ pos 1099511627776
+one_more_is_cut = refl
+
+one_less_is_cut : cut (neg_ℤ (pos 1099511627777)) ≡ neg_ℤ (pos 1099511627776)
+one_less_is_cut = refl

@@ -1,5 +1,5 @@
 -- What names stand for: sorts, lists of declarations, and constants.
-use Rattle.std.specs.Prelude.{ℕ, ◌+◌, ◌*◌, ℤ, pos, neg_ℤ, ◌+ℤ◌, Bool, true, false, if◌then◌else◌, nat_eq, List, [], ◌∷◌, codes, Option, Some, None}
+use Rattle.std.specs.Prelude.{ℕ, ◌+◌, ◌*◌, ℤ, pos, neg_ℤ, ◌+ℤ◌, int_le, Bool, true, false, if◌then◌else◌, nat_eq, List, [], ◌∷◌, codes, Option, Some, None}
 use lib.Pointwise.{pointwise}
 use Prim.Native.String.{String}
 use Rattle.hp_word.specs.declared.intrinsics.Intrinsic.{Intrinsic}
@@ -221,6 +221,19 @@ sum_from names sum (t ∷ ts) = sum_from names (sum_with sum t.minus (constant_v
 -- the value of a sum of constants
 abbrev pub sum_value : Names → List Term → Option ℤ
 sum_value names terms = sum_from names (Some (pos 0)) terms
+
+-- the greatest value that a name of a sum is kept with; a sum beyond it breaks a rule where it stands
+abbrev pub most_kept : ℕ
+most_kept = 1099511627776
+
+-- a value between the least and the greatest that are kept
+abbrev pub cut : ℤ → ℤ
+cut v = if int_le (pos most_kept) v then pos most_kept else if int_le v (neg_ℤ (pos most_kept)) then neg_ℤ (pos most_kept) else v
+
+-- the value that a name of a sum is kept with
+abbrev pub kept_value : Option ℤ → Option ℤ
+kept_value None = None
+kept_value (Some v) = Some (cut v)
 
 -- the value, or zero where there is none
 abbrev pub or_zero : Option ℤ → ℤ

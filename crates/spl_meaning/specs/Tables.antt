@@ -37,7 +37,7 @@ with_items outer own k table (i ∷ is) = with_items outer own k (declared table
 -- the names of an EQUATE
 abbrev pub with_equates : Names → Table Sort → List Equal → Table Sort
 with_equates outer table [] = table
-with_equates outer table (e ∷ es) = with_equates outer (declared table e.name (n.equate (sum_value (within table outer) e.terms))) es
+with_equates outer table (e ∷ es) = with_equates outer (declared table e.name (n.equate (n.kept_value (sum_value (within table outer) e.terms)))) es
 
 -- an intrinsic, or a name that is none
 abbrev pub intrinsic_sort : Option Intrinsic → Sort
