@@ -1,4 +1,5 @@
 pub mod Order
+pub mod OwnNames
 pub mod FoundExpressions
 pub mod FoundStatements
 pub mod FoundDeclarations

@@ -1,3 +1,4 @@
 pub mod FoundExpressions
 pub mod FoundStatements
+pub mod OwnNames
 pub mod FoundDeclarations
