@@ -251,12 +251,12 @@ whole_global a sc others waiting t (decl.Declaration.procedure h items ss) ds = 
 whole_global a sc others waiting t (decl.Declaration.subroutine h s) ds = refl
 
 -- the rest of a list, behind a declaration
-rest_of_globals : (a : Around) (others : List Routine) (waiting : Waiting) (t : Table Sort) (d : Declaration) (ds : Declarations) (g : Option Fault)
+pub rest_of_globals : (a : Around) (others : List Routine) (waiting : Waiting) (t : Table Sort) (d : Declaration) (ds : Declarations) (g : Option Fault)
     → found_globals a others waiting (behind_declaration nothing_declared (find t) d) ds g
     ≡ found_globals a others waiting (find (with_declaration nothing_declared t d)) ds g
 rest_of_globals a others waiting t d ds g = ap (λ (here : Names). found_globals a others waiting here ds g) (sym (find_declaration nothing_declared t d))
 
-globals_last : (a : Around) (others : List Routine) (waiting : Waiting) (t : Table Sort) (ds : Declarations) (f : Option Fault) (fs : List Fault)
+pub globals_last : (a : Around) (others : List Routine) (waiting : Waiting) (t : Table Sort) (ds : Declarations) (f : Option Fault) (fs : List Fault)
     → found_globals a others waiting (find t) ds (first_fault f fs) ≡ first_fault (found_globals a others waiting (find t) ds f) fs
 globals_last a others waiting t decl.none f fs = refl
 globals_last a others waiting t (decl.and d ds) f fs =
