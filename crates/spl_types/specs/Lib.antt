@@ -1,0 +1,3 @@
+pub mod WaitingNames
+pub mod SameFormal
+pub mod Heads

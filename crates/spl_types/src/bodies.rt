@@ -1,0 +1,86 @@
+//! The procedures of a unit that have bodies.
+ghost use Rattle.std.specs.Prelude.{◌≡◌, if◌then◌else◌, option_map, OnOk};
+ghost use Rattle.spl_tree.specs.Views.{letters};
+ghost use Rattle.spl_meaning.specs.Names.{find, label, procedure};
+ghost use Rattle.spl_sorts.specs.Profiles.{profile_of};
+ghost use Rattle.spl_sorts.specs.Sorts.{sort_of};
+ghost use Rattle.spl_sorts.specs.Tables.{table_of};
+ghost use Rattle.spl_found.specs.OwnNames.{with_name};
+ghost use Rattle.spl_types.specs.Heads.{heads_of, heads_with, no_heads, agreed, differs};
+
+use crate::alike::same_profile;
+use spl_sorts::{Profile, Sort, Table};
+use spl_tree::Name;
+use std::alloc::{AllocError, Global};
+
+/// The procedures of a unit that have bodies: the first of each name, and the names of which another differs from it.
+#[derive(Debug, Drop)]
+pub struct Bodies {
+    pub firsts: Table,
+    pub unlike: Table,
+}
+
+impl Bodies {
+    /// No procedure.
+    pub fn new(alloc: Global) -> Bodies
+        ensures { heads_of result ≡ no_heads }
+    {
+        Bodies {
+            firsts: Table::new(alloc),
+            unlike: Table::new(alloc),
+        }
+    }
+
+    /// A procedure more.
+    pub fn add(&mut self, name: &Name, profile: Profile) -> Result<(), AllocError>
+        ensures { OnOk result (heads_of self.new ≡ heads_with (heads_of self.old) (letters name.now) (profile_of profile)) }
+    {
+        let other = differs(self.firsts.find(name), &profile);
+        note_where(&mut self.unlike, other, name)?;
+        declare_procedure(&mut self.firsts, name, profile)?;
+        Ok(())
+    }
+
+    /// Whether all procedures of this name take and give the same as this.
+    pub fn agree(&self, name: &Name, profile: &Profile) -> bool
+        ensures { result ≡ agreed (heads_of self.now) (letters name.now) (profile_of profile.now) }
+    {
+        if self.unlike.has(name) {
+            return false;
+        }
+        match self.firsts.find(name) {
+            Some(Sort::Procedure(first)) => same_profile(profile, first),
+            _ => true,
+        }
+    }
+}
+
+/// Whether a procedure differs from the first of its name.
+fn differs(first: Option<&Sort>, profile: &Profile) -> bool
+    ensures { result ≡ differs (option_map (λ s. sort_of s.now) first.entry) (profile_of profile.now) }
+{
+    match first {
+        Some(Sort::Procedure(first)) => !same_profile(first, profile),
+        _ => false,
+    }
+}
+
+/// Notes a name where this holds.
+#[tactic(auto, using(crate::proofs::Declares::declares))]
+fn note_where(table: &mut Table, holds: bool, name: &Name) -> Result<(), AllocError>
+    ensures { OnOk result (find (table_of table.new) ≡ (if holds then with_name (find (table_of table.old)) (letters name.now) label else find (table_of table.old))) }
+{
+    if holds {
+        table.declare(name, Sort::Label)?;
+    }
+    Ok(())
+}
+
+/// Declares a procedure.
+#[tactic(auto, using(crate::proofs::Declares::declares))]
+fn declare_procedure(table: &mut Table, name: &Name, profile: Profile) -> Result<(), AllocError>
+    ensures { OnOk result (find (table_of table.new) ≡ with_name (find (table_of table.old)) (letters name.now) (procedure (profile_of profile))) }
+{
+    table.declare(name, Sort::Procedure(profile))?;
+    Ok(())
+}

@@ -1,0 +1,10 @@
+//! The rules of units, and the first rule that units break.
+#![tactic(auto)]
+
+mod alike;
+mod bodies;
+mod waiting;
+
+pub use alike::same_profile;
+pub use bodies::Bodies;
+pub use waiting::Waiting;
