@@ -3,3 +3,4 @@ pub mod Inserts
 pub mod Declares
 pub mod ProfileLaws
 pub mod HeadLaws
+pub mod ForwardLaws

@@ -1,3 +1,4 @@
 pub mod WaitingNames
 pub mod SameFormal
 pub mod Heads
+pub mod Forwards

@@ -65,19 +65,25 @@ fn differs(first: Option<&Sort>, profile: &Profile) -> bool
     }
 }
 
+/// Notes a name.
+pub fn note_name(table: &mut Table, name: &Name) -> Result<(), AllocError>
+    ensures { OnOk result (find (table_of table.new) ≡ with_name (find (table_of table.old)) (letters name.now) label) }
+{
+    table.declare(name, Sort::Label)?;
+    Ok(())
+}
+
 /// Notes a name where this holds.
-#[tactic(auto, using(crate::proofs::Declares::declares))]
 fn note_where(table: &mut Table, holds: bool, name: &Name) -> Result<(), AllocError>
     ensures { OnOk result (find (table_of table.new) ≡ (if holds then with_name (find (table_of table.old)) (letters name.now) label else find (table_of table.old))) }
 {
     if holds {
-        table.declare(name, Sort::Label)?;
+        note_name(table, name)?;
     }
     Ok(())
 }
 
 /// Declares a procedure.
-#[tactic(auto, using(crate::proofs::Declares::declares))]
 fn declare_procedure(table: &mut Table, name: &Name, profile: Profile) -> Result<(), AllocError>
     ensures { OnOk result (find (table_of table.new) ≡ with_name (find (table_of table.old)) (letters name.now) (procedure (profile_of profile))) }
 {

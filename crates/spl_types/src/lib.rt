@@ -4,7 +4,9 @@
 mod alike;
 mod bodies;
 mod waiting;
+mod wanted;
 
 pub use alike::same_profile;
 pub use bodies::Bodies;
 pub use waiting::Waiting;
+pub use wanted::forwards;
