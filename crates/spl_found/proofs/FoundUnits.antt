@@ -106,35 +106,39 @@ external_is h (r ∷ rs) f =
 
 -- ---- the list of a unit
 
+-- a heading agrees with these
+abbrev agree_with : List Routine → Heading → Bool
+agree_with others h = agree h others
+
 -- behind a declaration a FORWARD's body may be looked for at once
 forward_last : (a : Around) (others : List Routine) (w v : Waiting) (t u : Table Sort) (d : Declaration) (ds : Declarations) (f : Option Fault)
-    → found_forward d ds (found_globals a others v (find u) ds (walked a others (find w) (find t) d f))
+    → found_forward d ds (found_globals a others v (find u) ds (walked a (agree_with others) (find w) (find t) d f))
     ≡ found_globals a others v (find u) ds (found_global a others w (find t) d ds f)
 forward_last a others w v t u (decl.Declaration.data_items own k items) ds f = refl
 forward_last a others w v t u (decl.Declaration.equate es) ds f = refl
 forward_last a others w v t u (decl.Declaration.intrinsic xs) ds f = refl
 forward_last a others w v t u (decl.Declaration.label xs) ds f = refl
 forward_last a others w v t u (decl.Declaration.forward h) ds f =
-    sym (globals_last a others v u ds (walked a others (find w) (find t) (decl.Declaration.forward h) f) (unless (gets_body ds h.name) 19 h.at))
+    sym (globals_last a others v u ds (walked a (agree_with others) (find w) (find t) (decl.Declaration.forward h) f) (unless (gets_body ds h.name) 19 h.at))
 forward_last a others w v t u (decl.Declaration.external h) ds f =
     ap (found_globals a others v (find u) ds) (external_is h others (found_heading h.split h (first_fault f (again (find t) h.name h.at))))
 forward_last a others w v t u (decl.Declaration.procedure h items ss) ds f = refl
 forward_last a others w v t u (decl.Declaration.subroutine h s) ds f = refl
 
 lists_are : (a : Around) (others : List Routine) (w : Waiting) (t : Table Sort) (ds : Declarations) (f : Option Fault)
-    → found_forwards ds (walked_list a others (find w) (find t) ds f) ≡ found_globals a others w (find t) ds f
+    → found_forwards ds (walked_list a (agree_with others) (find w) (find t) ds f) ≡ found_globals a others w (find t) ds f
 lists_are a others w t decl.none f = refl
 lists_are a others w t (decl.and d ds) f =
     let u = with_declaration nothing_declared t d in
     let v = waiting_behind w d in
-    let e = walked a others (find w) (find t) d f in
-    ap (λ (x : Waits). found_forward d ds (found_forwards ds (walked_list a others x (behind_declaration nothing_declared (find t) d) ds e))) (waits_are w d)
-    ∙ ap (λ (here : Names). found_forward d ds (found_forwards ds (walked_list a others (find v) here ds e))) (sym (find_declaration nothing_declared t d))
+    let e = walked a (agree_with others) (find w) (find t) d f in
+    ap (λ (x : Waits). found_forward d ds (found_forwards ds (walked_list a (agree_with others) x (behind_declaration nothing_declared (find t) d) ds e))) (waits_are w d)
+    ∙ ap (λ (here : Names). found_forward d ds (found_forwards ds (walked_list a (agree_with others) (find v) here ds e))) (sym (find_declaration nothing_declared t d))
     ∙ ap (found_forward d ds) (lists_are a others v u ds e)
     ∙ forward_last a others w v t u d ds f
     ∙ sym (rest_of_globals a others v t d ds (found_global a others w (find t) d ds f))
 
-unit_walked : (others : List Routine) (u : Source) (f : Option Fault) → walked_unit others u f ≡ found_unit others u f
+unit_walked : (others : List Routine) (u : Source) (f : Option Fault) → walked_unit (agree_with others) u f ≡ found_unit others u f
 unit_walked others u f = ap
     (λ (e : Option Fault). let g = found_body (scope_in_main u) (statements u.tree.statements) (found_subroutines (scope_in_main u) (declarations u.tree.items) e) in
     if u.subprogram then found_silent u.tree.at u.tree.statements g else g)
@@ -143,7 +147,7 @@ unit_walked others u f = ap
 pub units_walked : (before us : List Source) (f : Option Fault) → walked_units before us f ≡ found_units before us f
 units_walked before [] f = refl
 units_walked before (u ∷ us) f =
-    units_walked (before ++ u ∷ []) us (walked_unit (all_routines before ++ all_routines us) u f)
+    units_walked (before ++ u ∷ []) us (walked_unit (agree_with (all_routines before ++ all_routines us)) u f)
     ∙ ap (found_units (before ++ u ∷ []) us) (unit_walked (all_routines before ++ all_routines us) u f)
 
 pub first_walked : FirstRulesAreWalked

@@ -45,24 +45,25 @@ abbrev pub agree : Heading → List Routine → Bool
 agree h [] = true
 agree h (r ∷ rs) = if agrees_with h r then agree h rs else false
 
--- a declaration of a unit, but for a subroutine's own rules and for the body that a FORWARD wants
-abbrev pub walked : Around → List Routine → Waits → Names → Declaration → Option Fault → Option Fault
-walked a others w here (decl.Declaration.data_items own k items) f = found_items a here own k items f
-walked a others w here (decl.Declaration.equate es) f = found_equates a here es f
-walked a others w here (decl.Declaration.intrinsic xs) f = found_intrinsics here xs f
-walked a others w here (decl.Declaration.label xs) f = found_labels here xs f
-walked a others w here (decl.Declaration.forward h) f = found_heading h.split h (first_fault f (again here h.name h.at))
-walked a others w here (decl.Declaration.external h) f =
-    first_fault (found_heading h.split h (first_fault f (again here h.name h.at))) (unless (agree h others) 19 h.at)
-walked a others w here (decl.Declaration.procedure h items ss) f =
+-- A declaration of a unit, but for a subroutine's own rules and for the body that a FORWARD wants; `agrees` says whether an EXTERNAL
+-- heading agrees with the procedures of the other units.
+abbrev pub walked : Around → (Heading → Bool) → Waits → Names → Declaration → Option Fault → Option Fault
+walked a agrees w here (decl.Declaration.data_items own k items) f = found_items a here own k items f
+walked a agrees w here (decl.Declaration.equate es) f = found_equates a here es f
+walked a agrees w here (decl.Declaration.intrinsic xs) f = found_intrinsics here xs f
+walked a agrees w here (decl.Declaration.label xs) f = found_labels here xs f
+walked a agrees w here (decl.Declaration.forward h) f = found_heading h.split h (first_fault f (again here h.name h.at))
+walked a agrees w here (decl.Declaration.external h) f =
+    first_fault (found_heading h.split h (first_fault f (again here h.name h.at))) (unless (agrees h) 19 h.at)
+walked a agrees w here (decl.Declaration.procedure h items ss) f =
     found_procedure (with_name here h.name (n.procedure (profile_of h))) h items ss (first_fault f (procedure_by here (w h.name) h))
-walked a others w here (decl.Declaration.subroutine h s) f = found_declared a here h f
+walked a agrees w here (decl.Declaration.subroutine h s) f = found_declared a here h f
 
 -- the declarations of a unit in order
-abbrev pub walked_list : Around → List Routine → Waits → Names → Declarations → Option Fault → Option Fault
-walked_list a others w here decl.none f = f
-walked_list a others w here (decl.and d ds) f =
-    walked_list a others (waits_behind w d) (behind_declaration nothing_declared here d) ds (walked a others w here d f)
+abbrev pub walked_list : Around → (Heading → Bool) → Waits → Names → Declarations → Option Fault → Option Fault
+walked_list a agrees w here decl.none f = f
+walked_list a agrees w here (decl.and d ds) f =
+    walked_list a agrees (waits_behind w d) (behind_declaration nothing_declared here d) ds (walked a agrees w here d f)
 
 -- a FORWARD that never gets its body
 abbrev pub found_forward : Declaration → Declarations → Option Fault → Option Fault
@@ -74,18 +75,18 @@ abbrev pub found_forwards : Declarations → Option Fault → Option Fault
 found_forwards decl.none f = f
 found_forwards (decl.and d ds) f = found_forward d ds (found_forwards ds f)
 
--- a unit, with the procedures of the others: its list, the FORWARDs in it, the subroutines in it, its statements
-abbrev pub walked_unit : List Routine → Source → Option Fault → Option Fault
-walked_unit others u f =
+-- a unit: its list, the FORWARDs in it, the subroutines in it, its statements
+abbrev pub walked_unit : (Heading → Bool) → Source → Option Fault → Option Fault
+walked_unit agrees u f =
     let ds = declarations u.tree.items in
     let g = found_body (scope_in_main u) (statements u.tree.statements) (found_subroutines (scope_in_main u) ds
-    (found_forwards ds (walked_list (around_unit u) others none_waits nothing_declared ds f))) in
+    (found_forwards ds (walked_list (around_unit u) agrees none_waits nothing_declared ds f))) in
     if u.subprogram then found_silent u.tree.at u.tree.statements g else g
 
 -- units behind others
 abbrev pub walked_units : List Source → List Source → Option Fault → Option Fault
 walked_units before [] f = f
-walked_units before (u ∷ us) f = walked_units (before ++ u ∷ []) us (walked_unit (all_routines before ++ all_routines us) u f)
+walked_units before (u ∷ us) f = walked_units (before ++ u ∷ []) us (walked_unit (λ h. agree h (all_routines before ++ all_routines us)) u f)
 
 -- the first rule that units break is what is found in this walk
 abbrev pub FirstRulesAreWalked : Type 0

@@ -1,5 +1,5 @@
 -- Bodies that FORWARDs want, one declaration after the other from the last back.
-use Rattle.std.proofs.Common.{ℕ, ◌≡◌, ◌<◌, ◌≤◌, ◌+◌, ◌-◌, suc, rules, arith, Bool, true, false, List, [], ◌∷◌, map, length, get_or, drop, drop-cons, add-one, Option, Some, None, refl, sym, ap, ◌∙◌, is_some}
+use Rattle.std.proofs.Common.{ℕ, ◌≡◌, ◌<◌, ◌≤◌, ◌+◌, ◌-◌, suc, arith, Bool, true, false, List, [], ◌∷◌, map, length, get_or, drop, drop-cons, Option, Some, None, refl, sym, ap, ◌∙◌, is_some}
 use Rattle.std.specs.Prelude.{if◌then◌else◌}
 use Rattle.std.proofs.lemmas.List.{drop_all}
 use Rattle.spl_tree.specs.declared.declarations.Decl.{Decl}

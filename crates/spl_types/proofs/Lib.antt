@@ -4,3 +4,5 @@ pub mod Declares
 pub mod ProfileLaws
 pub mod HeadLaws
 pub mod ForwardLaws
+pub mod SilentLaws
+pub mod OtherLaws

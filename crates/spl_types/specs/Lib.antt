@@ -2,3 +2,4 @@ pub mod WaitingNames
 pub mod SameFormal
 pub mod Heads
 pub mod Forwards
+pub mod OtherUnits

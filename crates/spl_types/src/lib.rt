@@ -3,10 +3,14 @@
 
 mod alike;
 mod bodies;
+mod others;
+mod silence;
 mod waiting;
 mod wanted;
 
 pub use alike::same_profile;
 pub use bodies::Bodies;
+pub use others::Others;
+pub use silence::silent;
 pub use waiting::Waiting;
 pub use wanted::forwards;
