@@ -11,7 +11,7 @@ use Rattle.spl_meaning.specs.Tables.{Source, Routine, declared, shaped, with_equ
 use Rattle.spl_meaning.specs.Bodies.{all_routines}
 use Rattle.spl_meaning.specs.Faults.{Fault, unless, first_fault}
 use Rattle.spl_meaning.specs.ExpressionRules.{Scope, in_range, constant_faults}
-use Rattle.spl_meaning.specs.StatementRules.{repeated, all_labels}
+use Rattle.spl_meaning.specs.StatementRules.{has_name, repeated, all_labels}
 use Rattle.spl_meaning.specs.DeclarationRules.{Around, Waiting, twice, shape_faults, initial_faults, values_fit, may_begin, not_parameters, all_listed, array_values, without_kind, split_parameters, gets_body, procedure_by, external_faults, subroutine_scope, procedure_scope, waiting_behind, is_empty_statement, statement_place, main_scope}
 use Rattle.spl_meaning.specs.Sound.{first_broken}
 use Rattle.spl_found.specs.FoundStatements.{found_statement, found_body}
@@ -74,7 +74,7 @@ found_heading split h f =
 
 -- a subroutine in a scope
 abbrev pub found_subroutine : Scope → Heading → Statement → Option Fault → Option Fault
-found_subroutine sc h s f = first_fault (found_statement (subroutine_scope sc h) [] false s (found_heading sc.split h f)) (repeated 20 [] (all_labels s))
+found_subroutine sc h s f = first_fault (found_statement (subroutine_scope sc h) (has_name []) false s (found_heading sc.split h f)) (repeated 20 [] (all_labels s))
 
 -- a subroutine in a list of declarations
 abbrev pub found_declared : Around → Table Sort → Scope → Heading → Statement → Option Fault → Option Fault
