@@ -1,8 +1,6 @@
 //! MOVE and SCAN, and where their answers go.
-ghost use Rattle.std.specs.Prelude.{◌≡◌, option_map};
+ghost use Rattle.std.specs.Prelude.{◌≡◌};
 ghost use Rattle.spl_tree.specs.Views as view;
-ghost use Rattle.spl_tree.specs.Views.{letters};
-ghost use Rattle.spl_meaning.specs.Faults.{first_fault};
 ghost use Rattle.spl_meaning.specs.Kinds as kinds;
 ghost use Rattle.spl_meaning.specs.ExpressionRules as expressions;
 ghost use Rattle.spl_meaning.specs.StatementRules as rules;

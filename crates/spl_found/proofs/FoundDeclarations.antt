@@ -1,21 +1,21 @@
 -- What is found along declarations and units is the first of their faults.
-use Rattle.std.proofs.Common.{ℕ, ◌≡◌, not, Bool, true, false, List, [], ◌∷◌, ◌++◌, length, Option, None, refl, ap, ◌∙◌}
-use Rattle.std.specs.Prelude.{◌||◌, if◌then◌else◌, is_some, pos, neg_ℤ}
+use Rattle.std.proofs.Common.{◌≡◌, Bool, false, List, [], ◌∷◌, ◌++◌, Option, None, refl, ap, ◌∙◌}
+use Rattle.std.specs.Prelude.{if◌then◌else◌, pos, neg_ℤ}
 use Rattle.spl_tree.specs.declared.names_and_places.At.{At}
 use Rattle.spl_tree.specs.declared.expressions.Kind.{Kind}
 use Rattle.spl_tree.specs.Trees.{Constant}
 use Rattle.spl_tree.specs.StatementTrees.{Statement, statements}
 use Rattle.spl_tree.specs.DeclarationTrees as decl
 use Rattle.spl_tree.specs.DeclarationTrees.{Placed, Heading, Item, Equal, Term, Declaration, Declarations, declarations}
-use Rattle.spl_meaning.specs.Names.{Names, Sort, Table, find, within, nothing_declared, parameters, formals_of, intrinsic_named, sum_value}
+use Rattle.spl_meaning.specs.Names.{Names, Sort, Table, within, nothing_declared, parameters, formals_of, sum_value}
 use Rattle.spl_meaning.specs.Tables.{Source, Routine, declared, shaped, with_equates, with_intrinsics, with_labels, with_declaration}
 use Rattle.spl_meaning.specs.Bodies.{all_routines}
 use Rattle.spl_meaning.specs.Faults.{Fault, unless, first_fault}
-use Rattle.spl_meaning.specs.ExpressionRules.{Scope, in_range, constant_faults}
+use Rattle.spl_meaning.specs.ExpressionRules.{Scope, in_range}
 use Rattle.spl_meaning.specs.StatementRules.{has_name, repeated, all_labels, statement_faults, body_faults}
 use Rattle.spl_meaning.specs.DeclarationRules as dr
 use Rattle.spl_meaning.specs.DeclarationRules.{Around, Waiting}
-use Rattle.spl_meaning.specs.Sound.{faults_behind, first_broken}
+use Rattle.spl_meaning.specs.Sound.{faults_behind}
 use Rattle.spl_found.specs.FoundStatements.{found_statement, found_body}
 use Rattle.spl_found.specs.FoundDeclarations.{found_initials, found_given, found_item, found_items, found_terms, found_equate, found_equates, found_intrinsics, found_labels, found_heading, found_subroutine, found_declared, found_local, found_locals, around_procedure, found_procedure, found_global, found_globals, found_silent, around_unit, found_unit, found_units, FirstRulesAreFound}
 use Rattle.spl_found.proofs.Order.{first_then}

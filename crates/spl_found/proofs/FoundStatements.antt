@@ -1,17 +1,16 @@
 -- What is found along statements is the first of their faults.
-use Rattle.std.proofs.Common.{ℕ, ◌≡◌, ◌&&◌, ◌||◌, not, Bool, true, false, List, [], ◌∷◌, ◌++◌, Option, Some, refl, sym, ap, ◌∙◌}
+use Rattle.std.proofs.Common.{ℕ, ◌≡◌, ◌||◌, Bool, true, false, List, [], ◌∷◌, ◌++◌, Option, refl, sym, ap, ◌∙◌}
 use Rattle.std.specs.Prelude.{if◌then◌else◌}
 use Rattle.spl_tree.specs.declared.names_and_places.At.{At}
-use Rattle.spl_tree.specs.declared.expressions.Kind.TheVariants as kind
 use Rattle.spl_tree.specs.Trees as tree
 use Rattle.spl_tree.specs.Trees.{Tree, Trees}
 use Rattle.spl_tree.specs.StatementTrees as stat
 use Rattle.spl_tree.specs.StatementTrees.{Statement, Statements, Target, Effect, Test}
 use Rattle.spl_meaning.specs.Names.{same_name}
-use Rattle.spl_meaning.specs.Kinds.{kind_of, reference_kind, callable}
+use Rattle.spl_meaning.specs.Kinds.{reference_kind, callable}
 use Rattle.spl_meaning.specs.Pending.{profile_formals}
 use Rattle.spl_meaning.specs.Faults.{Fault, fault, unless, first_fault}
-use Rattle.spl_meaning.specs.ExpressionRules.{Scope, count, has_elements, field_faults, bits_faults, single_faults, may_be_byte, far_faults, faults, located_faults, indices_faults}
+use Rattle.spl_meaning.specs.ExpressionRules.{Scope, count, has_elements, field_faults, bits_faults, single_faults, may_be_byte, faults, indices_faults}
 use Rattle.spl_meaning.specs.StatementRules as sr
 use Rattle.spl_found.specs.FoundExpressions.{found, found_far}
 use Rattle.spl_found.specs.FoundStatements.{found_reference, found_single, found_condition, found_assign, found_effect, found_answer, found_assign_effect, found_call, found_step, found_test, with_list, found_statement, found_statements, found_arms, found_body}

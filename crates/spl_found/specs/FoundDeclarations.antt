@@ -1,5 +1,5 @@
 -- The first broken rule of headings, declarations and units, as it is found along the tree.
-use Rattle.std.specs.Prelude.{ℕ, ◌≡◌, ◌||◌, ◌++◌, not, Bool, true, false, pos, neg_ℤ, if◌then◌else◌, List, [], ◌∷◌, length, Option, None, is_some}
+use Rattle.std.specs.Prelude.{◌≡◌, ◌||◌, ◌++◌, not, Bool, true, false, pos, neg_ℤ, if◌then◌else◌, List, [], ◌∷◌, length, Option, None, is_some}
 use Rattle.spl_tree.specs.declared.names_and_places.At.{At}
 use Rattle.spl_tree.specs.declared.expressions.Kind.{Kind}
 use Rattle.spl_tree.specs.Trees.{Constant}
