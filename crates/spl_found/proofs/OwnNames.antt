@@ -25,23 +25,29 @@ find_last (e ∷ t) x a y = by (same_name y e.0) (find_last t x a y)
     by false h = h
 
 -- a name that is there hides another declaration of it
-hides : (o p : Option Sort) (b : Bool) (s : Sort) → is_some o ≡ true → (b ≡ true → p ≡ o) → p ≡ or_else p (if b then Some s else None)
+hides : {A : Type 0} (o p : Option A) (b : Bool) (s : A) → is_some o ≡ true → (b ≡ true → p ≡ o) → p ≡ or_else p (if b then Some s else None)
 hides o (Some q) b s there same = refl
 hides o None false s there same = refl
 hides (Some q) None true s there same = cc (same refl)
 hides None None true s there same = cc
 
--- a name of a table with a declaration more
-found_with : (t : Table Sort) (x : List ℕ) (s : Sort) (y : List ℕ) → find (declared t x s) y ≡ with_name (find t) x s y
-found_with t x s y = by (is_some (find t x)) refl
-  where
-    by : (b : Bool) → is_some (find t x) ≡ b → find (if b then t else t ++ (x, s) ∷ []) y ≡ with_name (find t) x s y
-    by true there = hides (find t x) (find t y) (same_name y x) s there (λ same. ap (find t) (same_text y x (sym same)))
-    by false there = find_last t x s y
+-- nothing changes where a name is declared again
+pub still : {A : Type 0} (t : Table A) (x : List ℕ) (s : A) → is_some (find t x) ≡ true → find t ≡ with_name (find t) x s
+unfolding with_name
+still t x s there i y = hides (find t x) (find t y) (same_name y x) s there (λ same. ap (find t) (same_text y x (sym same))) i
 
--- and all of its names
+-- and a name that was not declared stands last
+pub find_pushed : {A : Type 0} (t : Table A) (x : List ℕ) (s : A) → find (t ++ (x, s) ∷ []) ≡ with_name (find t) x s
+unfolding with_name
+find_pushed t x s i y = find_last t x s y i
+
+-- the names of a table with a declaration more
 pub find_declared : (t : Table Sort) (x : List ℕ) (s : Sort) → find (declared t x s) ≡ with_name (find t) x s
-find_declared t x s i y = found_with t x s y i
+find_declared t x s = by (is_some (find t x)) refl
+  where
+    by : (b : Bool) → is_some (find t x) ≡ b → find (if b then t else t ++ (x, s) ∷ []) ≡ with_name (find t) x s
+    by true there = still t x s there
+    by false there = find_pushed t x s
 
 pub find_items : (outer : Names) (own : Bool) (k : Kind) (t : Table Sort) (is : List Item)
     → find (with_items outer own k t is) ≡ behind_items outer own k (find t) is

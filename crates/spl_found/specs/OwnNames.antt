@@ -1,10 +1,10 @@
 -- A list of declarations as what each of its names stands for: all that rules ask of it.
-use Rattle.std.specs.Prelude.{ℕ, Bool, if◌then◌else◌, List, [], ◌∷◌, Some, None}
+use Rattle.std.specs.Prelude.{ℕ, Bool, if◌then◌else◌, List, [], ◌∷◌, Option, Some, None}
 use Rattle.spl_tree.specs.declared.expressions.Kind.{Kind}
 use Rattle.spl_tree.specs.DeclarationTrees as decl
 use Rattle.spl_tree.specs.DeclarationTrees.{Placed, Item, Equal, Declaration, Declarations}
 use Rattle.spl_meaning.specs.Names as n
-use Rattle.spl_meaning.specs.Names.{Names, Sort, or_else, same_name, profile_of, intrinsic_named, sum_value}
+use Rattle.spl_meaning.specs.Names.{Names, or_else, same_name, profile_of, intrinsic_named, sum_value}
 use Rattle.spl_meaning.specs.Tables.{shaped, intrinsic_sort}
 
 -- the names of a list hide those around it
@@ -12,7 +12,7 @@ abbrev pub over : Names → Names → Names
 over here outer x = or_else (here x) (outer x)
 
 -- a name is declared: nothing changes where it is there
-abbrev pub with_name : Names → List ℕ → Sort → Names
+unfoldable pub with_name : {A : Type 0} → (List ℕ → Option A) → List ℕ → A → List ℕ → Option A
 with_name here x s y = or_else (here y) (if same_name y x then Some s else None)
 
 -- ---- the names of a list behind more of it

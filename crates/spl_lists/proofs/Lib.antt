@@ -1,0 +1,6 @@
+pub mod NameLemmas
+pub mod NameWalks
+pub mod HeadingWalks
+pub mod HeadingLaws
+pub mod OwnLemmas
+pub mod DataWalks

@@ -1,0 +1,4 @@
+pub mod NameSets
+pub mod Listings
+pub mod Headings
+pub mod Arounds
