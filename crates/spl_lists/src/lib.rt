@@ -6,3 +6,6 @@ mod headings;
 mod listings;
 mod name_sets;
 mod own;
+
+pub use headings::{formals, heading, profile};
+pub use own::{Around, again, declare, parameters, seen};

@@ -10,6 +10,7 @@ use Rattle.spl_meaning.specs.Names as n
 use Rattle.spl_meaning.specs.Names.{Names, Sort, or_else, same_name, nothing_declared}
 use Rattle.spl_meaning.specs.Faults.{Fault, unless, first_fault}
 use Rattle.spl_meaning.specs.DeclarationRules.{gets_body}
+use Rattle.spl_found.specs.OwnNames.{with_name}
 use Rattle.spl_found.specs.FoundUnits.{found_forward, found_forwards}
 use Rattle.spl_types.specs.Forwards.{bodied, bodies_of, forward_by}
 
@@ -21,6 +22,7 @@ body_more (Some s) false = refl
 
 -- a name with a body is among those
 bodies_are : (ds : Declarations) (x : List ℕ) → is_some (bodies_of ds x) ≡ gets_body ds x
+unfolding with_name
 bodies_are decl.none x = refl
 bodies_are (decl.and (decl.Declaration.data_items own c items) ds) x = bodies_are ds x
 bodies_are (decl.and (decl.Declaration.equate es) ds) x = bodies_are ds x

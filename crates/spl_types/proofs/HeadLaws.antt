@@ -79,7 +79,7 @@ same_choice false o = refl
 -- a procedure more, at each name
 one_more : (s : Heads) (x : List ℕ) (q : Profile) (y : List ℕ) (p : Profile) → AreHeads s
     → agreed (heads_with s x q) y p ≡ (agreed s y p && (not (same_name y x) || same_profile p q))
-unfolding AreHeads
+unfolding AreHeads with_name
 one_more s x q y p ok = by (same_name y x) refl
   where
     firsts : Option Sort → Option Sort
@@ -102,7 +102,7 @@ one_more s x q y p ok = by (same_name y x) refl
         ∙ more_by (s.firsts y) (s.unlike y) p q (ok y)
 
 still_heads : (s : Heads) (d : Declaration) → AreHeads s → AreHeads (heads_behind s d)
-unfolding AreHeads IsHead
+unfolding AreHeads IsHead with_name
 still_heads s (decl.Declaration.data_items own k items) ok = ok
 still_heads s (decl.Declaration.equate es) ok = ok
 still_heads s (decl.Declaration.intrinsic xs) ok = ok

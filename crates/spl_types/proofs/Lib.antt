@@ -6,3 +6,4 @@ pub mod HeadLaws
 pub mod ForwardLaws
 pub mod SilentLaws
 pub mod OtherLaws
+pub mod InsideLaws

@@ -3,3 +3,4 @@ pub mod SameFormal
 pub mod Heads
 pub mod Forwards
 pub mod OtherUnits
+pub mod Insides

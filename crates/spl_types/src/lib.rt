@@ -3,6 +3,7 @@
 
 mod alike;
 mod bodies;
+mod insides;
 mod others;
 mod silence;
 mod waiting;
@@ -10,6 +11,7 @@ mod wanted;
 
 pub use alike::same_profile;
 pub use bodies::Bodies;
+pub use insides::{Inside, subroutines};
 pub use others::Others;
 pub use silence::silent;
 pub use waiting::Waiting;
