@@ -11,7 +11,7 @@ use Rattle.spl_meaning.specs.DeclarationRules.{same_profile}
 use Rattle.spl_meaning.specs.Stops.{declaration_stops}
 use Rattle.spl_found.specs.OwnNames.{with_name}
 use Rattle.spl_found.specs.FoundUnits.{agrees_with, agree}
-use Rattle.spl_types.specs.Heads.{Heads, no_heads, differs, heads_with, heads_behind, heads_list, agreed_by, agreed}
+use Rattle.spl_types.specs.HeadTables.{Heads, no_heads, differs, heads_with, heads_behind, heads_list, agreed_by, agreed}
 use Rattle.spl_types.proofs.ProfileLaws.{as_one, both_alike}
 
 -- nothing, or a procedure

@@ -7,3 +7,5 @@ pub mod ForwardLaws
 pub mod SilentLaws
 pub mod OtherLaws
 pub mod InsideLaws
+pub mod HeadWalks
+pub mod DeclViews

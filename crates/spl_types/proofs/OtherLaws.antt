@@ -7,8 +7,8 @@ use Rattle.spl_meaning.specs.Names.{Profile, profile_of}
 use Rattle.spl_meaning.specs.Tables.{Source, routines_of}
 use Rattle.spl_meaning.specs.Bodies.{all_routines}
 use Rattle.spl_found.specs.FoundUnits.{agree}
-use Rattle.spl_types.specs.declared.bodies.Bodies.{Bodies}
-use Rattle.spl_types.specs.Heads.{Heads, no_heads, heads_list, agreed, heads_of}
+use Rattle.spl_types.specs.declared.heads.Bodies.{Bodies}
+use Rattle.spl_types.specs.HeadTables.{Heads, no_heads, heads_list, agreed, heads_of}
 use Rattle.spl_types.specs.OtherUnits.{all_agreed}
 use Rattle.spl_types.proofs.SilentLaws.{front}
 use Rattle.spl_types.proofs.HeadLaws.{unit_agrees, agree_both}

@@ -3,7 +3,7 @@ use Rattle.std.specs.Prelude.{ℕ, ◌&&◌, Bool, true, false, if◌then◌else
 use Rattle.spl_tree.specs.DeclarationTrees.{Heading}
 use Rattle.spl_meaning.specs.Names.{Profile, profile_of}
 use Rattle.spl_types.specs.declared.others.Others.{Others}
-use Rattle.spl_types.specs.Heads.{Heads, agreed, heads_of}
+use Rattle.spl_types.specs.HeadTables.{Heads, agreed, heads_of}
 
 -- all procedures of a name in some units take and give this
 abbrev pub all_agreed : List Heads → List ℕ → Profile → Bool

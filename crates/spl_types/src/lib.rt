@@ -2,7 +2,7 @@
 #![tactic(auto)]
 
 mod alike;
-mod bodies;
+mod heads;
 mod insides;
 mod others;
 mod silence;
@@ -10,7 +10,7 @@ mod waiting;
 mod wanted;
 
 pub use alike::same_profile;
-pub use bodies::Bodies;
+pub use heads::{Bodies, bodies_among};
 pub use insides::{Inside, subroutines};
 pub use others::Others;
 pub use silence::silent;

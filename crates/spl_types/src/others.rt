@@ -4,10 +4,10 @@ ghost use Rattle.spl_tree.specs.Views.{letters};
 ghost use Rattle.spl_tree.specs.Spells.{heading_tree};
 ghost use Rattle.spl_meaning.specs.Names as n;
 ghost use Rattle.spl_sorts.specs.Profiles.{profile_of};
-ghost use Rattle.spl_types.specs.Heads.{heads_of};
+ghost use Rattle.spl_types.specs.HeadTables.{heads_of};
 ghost use Rattle.spl_types.specs.OtherUnits.{all_agreed, agrees_of};
 
-use crate::bodies::Bodies;
+use crate::heads::Bodies;
 use spl_sorts::Profile;
 use spl_tree::{Heading, Name};
 

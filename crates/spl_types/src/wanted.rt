@@ -7,7 +7,7 @@ ghost use Rattle.spl_sorts.specs.Tables.{table_of};
 ghost use Rattle.spl_found.specs.FoundUnits.{found_forwards};
 ghost use Rattle.spl_types.specs.Forwards.{bodied, forward_by};
 
-use crate::bodies::note_name;
+use crate::heads::note_name;
 use spl_sorts::{Report, Table};
 use spl_tree::Decl;
 use std::alloc::{AllocError, Global};

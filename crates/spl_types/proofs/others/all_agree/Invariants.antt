@@ -1,7 +1,7 @@
 use Rattle.std.proofs.Common.{◌≡◌, map}
 use Rattle.spl_tree.specs.Views.{letters}
 use Rattle.spl_sorts.specs.Profiles.{profile_of}
-use Rattle.spl_types.specs.Heads.{heads_of}
+use Rattle.spl_types.specs.HeadTables.{heads_of}
 use Rattle.spl_types.specs.OtherUnits.{all_agreed}
 use Rattle.spl_types.proofs.OtherLaws.{left}
 use Rattle.spl_types.proofs.others.all_agree.Given as goal

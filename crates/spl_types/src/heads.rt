@@ -1,16 +1,20 @@
 //! The procedures of a unit that have bodies.
-ghost use Rattle.std.specs.Prelude.{◌≡◌, if◌then◌else◌, option_map, OnOk};
+ghost use Rattle.std.specs.Prelude.{◌≡◌, if◌then◌else◌, map, option_map, OnOk, IfOk};
+ghost use Rattle.spl_tree.specs.DeclarationTrees.{declarations};
+ghost use Rattle.spl_tree.specs.Spells.{declaration, heading_tree};
 ghost use Rattle.spl_tree.specs.Views.{letters};
+ghost use Rattle.spl_meaning.specs.Names as n;
 ghost use Rattle.spl_meaning.specs.Names.{find, label, procedure};
 ghost use Rattle.spl_sorts.specs.Profiles.{profile_of};
 ghost use Rattle.spl_sorts.specs.Sorts.{sort_of};
 ghost use Rattle.spl_sorts.specs.Tables.{table_of};
 ghost use Rattle.spl_found.specs.OwnNames.{with_name};
-ghost use Rattle.spl_types.specs.Heads.{heads_of, heads_with, no_heads, agreed, differs};
+ghost use Rattle.spl_types.specs.HeadTables.{heads_of, heads_with, heads_behind, heads_list, no_heads, agreed, differs};
 
 use crate::alike::same_profile;
+use spl_lists::profile;
 use spl_sorts::{Profile, Sort, Table};
-use spl_tree::Name;
+use spl_tree::{Decl, Heading, Name};
 use std::alloc::{AllocError, Global};
 
 /// The procedures of a unit that have bodies: the first of each name, and the names of which another differs from it.
@@ -89,4 +93,44 @@ fn declare_procedure(table: &mut Table, name: &Name, profile: Profile) -> Result
 {
     table.declare(name, Sort::Procedure(profile))?;
     Ok(())
+}
+
+/// A procedure more, by its heading.
+fn add_heading(alloc: Global, bodies: &mut Bodies, heading: &Heading) -> Result<(), AllocError>
+    ensures { OnOk result (heads_of bodies.new ≡ heads_with (heads_of bodies.old) (letters heading.now.name) (n.profile_of (heading_tree heading.now))) }
+{
+    let profile = profile(alloc, heading)?;
+    bodies.add(&heading.name, profile)?;
+    Ok(())
+}
+
+/// A declaration more.
+fn take_in(alloc: Global, bodies: &mut Bodies, item: &Decl) -> Result<(), AllocError>
+    ensures { OnOk result (heads_of bodies.new ≡ heads_behind (heads_of bodies.old) (declaration item.now)) }
+{
+    match item {
+        Decl::Procedure(heading, _) => {
+            add_heading(alloc, bodies, heading)?;
+        }
+        Decl::Data { .. }
+        | Decl::Equate(_)
+        | Decl::Intrinsic(_)
+        | Decl::Label(_)
+        | Decl::Forward(_)
+        | Decl::External(_)
+        | Decl::Subroutine(..) => {}
+    }
+    Ok(())
+}
+
+/// The procedures of a unit that have bodies.
+#[tactic(auto, using(crate::proofs::HeadWalks::head_steps))]
+pub fn bodies_among(alloc: Global, items: &[Decl]) -> Result<Bodies, AllocError>
+    ensures { IfOk result (λ b. heads_of b ≡ heads_list no_heads (declarations (map declaration items.now))) }
+{
+    let mut bodies = Bodies::new(alloc);
+    for item in items {
+        take_in(alloc, &mut bodies, item)?;
+    }
+    Ok(bodies)
 }

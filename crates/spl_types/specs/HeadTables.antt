@@ -7,7 +7,7 @@ use Rattle.spl_meaning.specs.Names.{Names, Sort, Profile, find, nothing_declared
 use Rattle.spl_meaning.specs.DeclarationRules.{same_profile}
 use Rattle.spl_sorts.specs.Tables.{table_of}
 use Rattle.spl_found.specs.OwnNames.{with_name}
-use Rattle.spl_types.specs.declared.bodies.Bodies.{Bodies}
+use Rattle.spl_types.specs.declared.heads.Bodies.{Bodies}
 
 -- the first procedure of each name, and the names of which another differs from it
 pub record Heads : Type 0 where
