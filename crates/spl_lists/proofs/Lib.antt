@@ -4,3 +4,5 @@ pub mod HeadingWalks
 pub mod HeadingLaws
 pub mod OwnLemmas
 pub mod DataWalks
+pub mod ListWalks
+pub mod EquateWalks
