@@ -1,6 +1,5 @@
 -- Declarations as trees.
 use Rattle.std.proofs.Common.{◌≡◌, ap, sym, ◌∙◌}
-use Rattle.spl_tree.specs.declared.declarations.Decl.{Decl}
 use Rattle.spl_tree.specs.declared.declarations.Decl.TheVariants.{Procedure, rolls-Procedure}
 use Rattle.spl_tree.specs.declared.declarations.Decl.TheFolds.{fold-roll-Decl}
 use Rattle.spl_tree.specs.declared.declarations.Heading.{Heading}

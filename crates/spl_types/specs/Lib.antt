@@ -4,3 +4,4 @@ pub mod HeadTables
 pub mod Forwards
 pub mod OtherUnits
 pub mod Insides
+pub mod Procedures

@@ -1,4 +1,4 @@
-use Rattle.std.proofs.Common.{◌≡◌, ap, ◌∙◌}
+use Rattle.std.proofs.Common.{ap, ◌∙◌}
 use Rattle.spl_tree.specs.Views.{letters}
 use Rattle.spl_types.specs.HeadTables.{heads_of, heads_with}
 use Rattle.spl_types.proofs.heads.add_heading.Goals as goal

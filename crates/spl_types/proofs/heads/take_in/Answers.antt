@@ -1,4 +1,4 @@
-use Rattle.std.proofs.Common.{rules, ◌≡◌, ap, sym, ◌∙◌}
+use Rattle.std.proofs.Common.{ap, sym, ◌∙◌}
 use Rattle.spl_tree.specs.declared.declarations.Decl.{Decl}
 use Rattle.spl_tree.specs.Spells.{declaration}
 use Rattle.spl_types.specs.HeadTables.{heads_of, heads_behind}
