@@ -13,7 +13,7 @@ use Rattle.spl_meaning.specs.Tables.{Source, Routine, declared, shaped, intrinsi
 use Rattle.spl_meaning.specs.Bodies.{all_routines}
 use Rattle.spl_meaning.specs.Faults.{Fault, unless, first_fault}
 use Rattle.spl_meaning.specs.ExpressionRules.{Scope, in_range}
-use Rattle.spl_meaning.specs.StatementRules.{repeated, all_labels, statement_faults, body_faults}
+use Rattle.spl_meaning.specs.StatementRules.{has_name, repeated, all_labels, statement_faults, body_faults}
 use Rattle.spl_meaning.specs.DeclarationRules as dr
 use Rattle.spl_meaning.specs.DeclarationRules.{Around, Waiting}
 use Rattle.spl_meaning.specs.Sound.{faults_behind}
@@ -87,7 +87,7 @@ heading_is split h f = simp first_then refl
 
 subroutine_is : (sc : Scope) (h : Heading) (s : Statement) (f : Option Fault) → found_subroutine sc h s f ≡ first_fault f (dr.subroutine_faults sc h s)
 subroutine_is sc h s f = noted _ f (dr.heading_faults sc.split h ++ statement_faults (dr.subroutine_scope sc h) [] false s) (repeated 20 [] (all_labels s))
-    (behind _ f (dr.heading_faults sc.split h) (found_statement (dr.subroutine_scope sc h) [] false s) (statement_faults (dr.subroutine_scope sc h) [] false s)
+    (behind _ f (dr.heading_faults sc.split h) (found_statement (dr.subroutine_scope sc h) (has_name []) false s) (statement_faults (dr.subroutine_scope sc h) [] false s)
     (statement_is (dr.subroutine_scope sc h) [] false s) (heading_is sc.split h f)) ∙ simp first_then refl
 
 -- the faults of a subroutine's own rules
@@ -251,12 +251,12 @@ whole_global a sc others waiting t (decl.Declaration.procedure h items ss) ds = 
 whole_global a sc others waiting t (decl.Declaration.subroutine h s) ds = refl
 
 -- the rest of a list, behind a declaration
-rest_of_globals : (a : Around) (others : List Routine) (waiting : Waiting) (t : Table Sort) (d : Declaration) (ds : Declarations) (g : Option Fault)
+pub rest_of_globals : (a : Around) (others : List Routine) (waiting : Waiting) (t : Table Sort) (d : Declaration) (ds : Declarations) (g : Option Fault)
     → found_globals a others waiting (behind_declaration nothing_declared (find t) d) ds g
     ≡ found_globals a others waiting (find (with_declaration nothing_declared t d)) ds g
 rest_of_globals a others waiting t d ds g = ap (λ (here : Names). found_globals a others waiting here ds g) (sym (find_declaration nothing_declared t d))
 
-globals_last : (a : Around) (others : List Routine) (waiting : Waiting) (t : Table Sort) (ds : Declarations) (f : Option Fault) (fs : List Fault)
+pub globals_last : (a : Around) (others : List Routine) (waiting : Waiting) (t : Table Sort) (ds : Declarations) (f : Option Fault) (fs : List Fault)
     → found_globals a others waiting (find t) ds (first_fault f fs) ≡ first_fault (found_globals a others waiting (find t) ds f) fs
 globals_last a others waiting t decl.none f fs = refl
 globals_last a others waiting t (decl.and d ds) f fs =

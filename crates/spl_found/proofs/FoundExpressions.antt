@@ -1,5 +1,5 @@
 -- What is found along an expression is the first of its faults.
-use Rattle.std.proofs.Common.{ℕ, ◌≡◌, ◌==◌, ◌&&◌, Bool, true, false, List, [], ◌++◌, Option, refl, sym, ap, ◌∙◌}
+use Rattle.std.proofs.Common.{◌≡◌, ◌==◌, ◌&&◌, Bool, true, false, List, [], ◌++◌, Option, refl, ap, ◌∙◌}
 use Rattle.std.specs.Prelude.{if◌then◌else◌}
 use Rattle.spl_tree.specs.declared.names_and_places.At.{At}
 use Rattle.spl_tree.specs.Trees as tree
@@ -8,7 +8,7 @@ use Rattle.spl_meaning.specs.Names.{Formal}
 use Rattle.spl_meaning.specs.Kinds.{compares_text, callable, complement, reference_kind}
 use Rattle.spl_meaning.specs.Pending.{first_formal, other_formals, profile_formals}
 use Rattle.spl_meaning.specs.Faults.{Fault, unless, first_fault}
-use Rattle.spl_meaning.specs.ExpressionRules.{Scope, is_callable, is_reference_formal, is_label_name, own_faults, argument_faults, bits_faults, single_faults, may_be_byte, far_faults, binary_faults, name_by, count, faults, located_faults, indices_faults, arguments_faults}
+use Rattle.spl_meaning.specs.ExpressionRules.{Scope, is_callable, is_reference_formal, is_label_name, argument_faults, bits_faults, single_faults, may_be_byte, far_faults, binary_faults, name_by, count, faults, located_faults, indices_faults, arguments_faults}
 use Rattle.spl_found.specs.FoundExpressions.{found, found_located, found_far, found_indices, found_arguments}
 use Rattle.spl_found.proofs.Order.{first_then}
 

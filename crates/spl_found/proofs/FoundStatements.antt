@@ -1,19 +1,19 @@
 -- What is found along statements is the first of their faults.
-use Rattle.std.proofs.Common.{ℕ, ◌≡◌, ◌&&◌, not, Bool, true, false, List, [], ◌∷◌, ◌++◌, Option, Some, refl, sym, ap, ◌∙◌}
+use Rattle.std.proofs.Common.{ℕ, ◌≡◌, ◌||◌, Bool, true, false, List, [], ◌∷◌, ◌++◌, Option, refl, sym, ap, ◌∙◌}
 use Rattle.std.specs.Prelude.{if◌then◌else◌}
 use Rattle.spl_tree.specs.declared.names_and_places.At.{At}
-use Rattle.spl_tree.specs.declared.expressions.Kind.TheVariants as kind
 use Rattle.spl_tree.specs.Trees as tree
 use Rattle.spl_tree.specs.Trees.{Tree, Trees}
 use Rattle.spl_tree.specs.StatementTrees as stat
 use Rattle.spl_tree.specs.StatementTrees.{Statement, Statements, Target, Effect, Test}
-use Rattle.spl_meaning.specs.Kinds.{kind_of, reference_kind, callable}
+use Rattle.spl_meaning.specs.Names.{same_name}
+use Rattle.spl_meaning.specs.Kinds.{reference_kind, callable}
 use Rattle.spl_meaning.specs.Pending.{profile_formals}
 use Rattle.spl_meaning.specs.Faults.{Fault, fault, unless, first_fault}
-use Rattle.spl_meaning.specs.ExpressionRules.{Scope, count, has_elements, field_faults, bits_faults, single_faults, may_be_byte, far_faults, faults, located_faults, indices_faults}
+use Rattle.spl_meaning.specs.ExpressionRules.{Scope, count, has_elements, field_faults, bits_faults, single_faults, may_be_byte, faults, indices_faults}
 use Rattle.spl_meaning.specs.StatementRules as sr
 use Rattle.spl_found.specs.FoundExpressions.{found, found_far}
-use Rattle.spl_found.specs.FoundStatements.{found_reference, found_single, found_condition, found_assign, found_effect, found_answer, found_assign_effect, found_call, found_step, found_test, found_statement, found_statements, found_arms, found_body}
+use Rattle.spl_found.specs.FoundStatements.{found_reference, found_single, found_condition, found_assign, found_effect, found_answer, found_assign_effect, found_call, found_step, found_test, with_list, found_statement, found_statements, found_arms, found_body}
 use Rattle.spl_found.proofs.Order.{first_then}
 use Rattle.spl_found.proofs.FoundExpressions.{chosen, found_is, far_is, indices_is, arguments_is}
 
@@ -113,30 +113,46 @@ pub test_is : (sc : Scope) (after : Bool) (q : Test) (at : At) (f : Option Fault
 test_is sc after (stat.Test.condition e) at f = condition_is sc at e f
 test_is sc after (stat.Test.code op) at f = refl
 
+-- a name is among the labels of two lists where it is among those of one
+pub either_name : (xs ys : List (List ℕ)) (x : List ℕ) → sr.has_name (xs ++ ys) x ≡ (sr.has_name xs x || sr.has_name ys x)
+either_name [] ys x = refl
+either_name (y ∷ xs) ys x = by (same_name x y) (either_name xs ys x)
+  where
+    by : (b : Bool) → sr.has_name (xs ++ ys) x ≡ (sr.has_name xs x || sr.has_name ys x)
+        → (if b then true else sr.has_name (xs ++ ys) x) ≡ ((if b then true else sr.has_name xs x) || sr.has_name ys x)
+    by true h = refl
+    by false h = h
+
+-- so the labels of a list beside others are those of both
+pub within_list : (labels : List (List ℕ)) (ss : Statements) → with_list (sr.has_name labels) ss ≡ sr.has_name (labels ++ sr.list_labels ss)
+within_list labels ss = λ i x. sym (either_name labels (sr.list_labels ss) x) i
+
 mutual
   unfolding found_statement
 
   pub statement_is : (sc : Scope) (labels : List (List ℕ)) (after : Bool) (s : Statement) (f : Option Fault)
-      → found_statement sc labels after s f ≡ first_fault f (sr.statement_faults sc labels after s)
+      → found_statement sc (sr.has_name labels) after s f ≡ first_fault f (sr.statement_faults sc labels after s)
   statement_is sc labels after stat.Statement.empty f = refl
   statement_is sc labels after (stat.Statement.labelled x at s) f = statement_is sc labels false s f
-  statement_is sc labels after (stat.Statement.block ss) f = statements_is sc (labels ++ sr.list_labels ss) false ss f
+  statement_is sc labels after (stat.Statement.block ss) f =
+      ap (λ (l : List ℕ → Bool). found_statements sc l false ss f) (within_list labels ss) ∙ statements_is sc (labels ++ sr.list_labels ss) false ss f
   statement_is sc labels after (stat.Statement.if_test q then_part else_part at) f =
-      behind _ f (sr.test_faults sc after q at ++ sr.statement_faults sc labels false then_part) (found_arms sc labels else_part) (sr.arms_faults sc labels else_part)
+      behind _ f (sr.test_faults sc after q at ++ sr.statement_faults sc labels false then_part) (found_arms sc (sr.has_name labels) else_part) (sr.arms_faults sc labels else_part)
       (arms_is sc labels else_part)
-      (behind _ f (sr.test_faults sc after q at) (found_statement sc labels false then_part) (sr.statement_faults sc labels false then_part)
+      (behind _ f (sr.test_faults sc after q at) (found_statement sc (sr.has_name labels) false then_part) (sr.statement_faults sc labels false then_part)
       (statement_is sc labels false then_part) (test_is sc after q at f)) ∙ simp first_then refl
   statement_is sc labels after (stat.Statement.while_true e s at) f =
-      behind _ f (sr.condition_faults sc at e) (found_statement sc labels false s) (sr.statement_faults sc labels false s) (statement_is sc labels false s) (condition_is sc at e f)
+      behind _ f (sr.condition_faults sc at e) (found_statement sc (sr.has_name labels) false s) (sr.statement_faults sc labels false s) (statement_is sc labels false s) (condition_is sc at e f)
   statement_is sc labels after (stat.Statement.until_true s e at) f =
       behind _ f (sr.statement_faults sc labels false s) (found_condition sc at e) (sr.condition_faults sc at e) (condition_is sc at e) (statement_is sc labels false s f)
   statement_is sc labels after (stat.Statement.for_values x first step last s at) f =
       behind _ f (sr.counter_by sc x (sc.names x) at ++ sr.single_value_faults sc at first ++ sr.step_faults sc at step ++ sr.single_value_faults sc at last)
-      (found_statement sc labels false s) (sr.statement_faults sc labels false s) (statement_is sc labels false s)
+      (found_statement sc (sr.has_name labels) false s) (sr.statement_faults sc labels false s) (statement_is sc labels false s)
       (single_is sc at last _ ∙ ap (λ (g : Option Fault). first_fault g (sr.single_value_faults sc at last)) (step_is sc at step _
       ∙ ap (λ (g : Option Fault). first_fault g (sr.step_faults sc at step)) (single_is sc at first _)) ∙ simp first_then refl) ∙ simp first_then refl
   statement_is sc labels after (stat.Statement.case_of e ss at) f =
-      behind _ f (sr.single_value_faults sc at e) (found_arms sc (labels ++ sr.list_labels ss) ss) (sr.arms_faults sc (labels ++ sr.list_labels ss) ss)
+      ap (λ (l : List ℕ → Bool). found_arms sc l ss (found_single sc at e f)) (within_list labels ss)
+      ∙ behind _ f (sr.single_value_faults sc at e) (found_arms sc (sr.has_name (labels ++ sr.list_labels ss)) ss) (sr.arms_faults sc (labels ++ sr.list_labels ss) ss)
       (arms_is sc (labels ++ sr.list_labels ss) ss) (single_is sc at e f)
   statement_is sc labels after (stat.Statement.go_to x at) f = refl
   statement_is sc labels after (stat.Statement.return at) f = refl
@@ -146,19 +162,19 @@ mutual
   statement_is sc labels after (stat.Statement.call x es at) f = call_is sc x es at f
 
   pub statements_is : (sc : Scope) (labels : List (List ℕ)) (after : Bool) (ss : Statements) (f : Option Fault)
-      → found_statements sc labels after ss f ≡ first_fault f (sr.statements_faults sc labels after ss)
+      → found_statements sc (sr.has_name labels) after ss f ≡ first_fault f (sr.statements_faults sc labels after ss)
   statements_is sc labels after stat.Statements.none f = refl
   statements_is sc labels after (stat.Statements.and s ss) f =
-      behind _ f (sr.statement_faults sc labels after s) (found_statements sc labels (sr.sets_code sc.names s) ss)
+      behind _ f (sr.statement_faults sc labels after s) (found_statements sc (sr.has_name labels) (sr.sets_code sc.names s) ss)
       (sr.statements_faults sc labels (sr.sets_code sc.names s) ss) (statements_is sc labels (sr.sets_code sc.names s) ss) (statement_is sc labels after s f)
 
   pub arms_is : (sc : Scope) (labels : List (List ℕ)) (ss : Statements) (f : Option Fault)
-      → found_arms sc labels ss f ≡ first_fault f (sr.arms_faults sc labels ss)
+      → found_arms sc (sr.has_name labels) ss f ≡ first_fault f (sr.arms_faults sc labels ss)
   arms_is sc labels stat.Statements.none f = refl
   arms_is sc labels (stat.Statements.and s ss) f =
-      behind _ f (sr.statement_faults sc labels false s) (found_arms sc labels ss) (sr.arms_faults sc labels ss) (arms_is sc labels ss) (statement_is sc labels false s f)
+      behind _ f (sr.statement_faults sc labels false s) (found_arms sc (sr.has_name labels) ss) (sr.arms_faults sc labels ss) (arms_is sc labels ss) (statement_is sc labels false s f)
 
 -- a body that is a list
 pub body_is : (sc : Scope) (ss : Statements) (f : Option Fault) → found_body sc ss f ≡ first_fault f (sr.body_faults sc ss)
-body_is sc ss f = noted (found_statements sc (sr.list_labels ss) false ss f) f (sr.statements_faults sc (sr.list_labels ss) false ss) (sr.label_faults ss)
+body_is sc ss f = noted (found_statements sc (sr.has_name (sr.list_labels ss)) false ss f) f (sr.statements_faults sc (sr.list_labels ss) false ss) (sr.label_faults ss)
     (statements_is sc (sr.list_labels ss) false ss f)

@@ -3,3 +3,4 @@ pub mod OwnNames
 pub mod FoundExpressions
 pub mod FoundStatements
 pub mod FoundDeclarations
+pub mod FoundUnits

@@ -13,7 +13,7 @@ use Rattle.spl_meaning.specs.Tables.{Source, Routine, shaped, intrinsic_sort}
 use Rattle.spl_meaning.specs.Bodies.{all_routines}
 use Rattle.spl_meaning.specs.Faults.{Fault, unless, first_fault}
 use Rattle.spl_meaning.specs.ExpressionRules.{Scope, in_range, constant_faults}
-use Rattle.spl_meaning.specs.StatementRules.{repeated, all_labels}
+use Rattle.spl_meaning.specs.StatementRules.{has_name, repeated, all_labels}
 use Rattle.spl_meaning.specs.DeclarationRules.{Around, Waiting, bounds_fit, is_base, is_double_kind, initial_faults, values_fit, may_begin, not_parameters, all_listed, array_values, without_kind, split_parameters, same_profile, gets_body, external_faults, subroutine_scope, waiting_behind, is_empty_statement, statement_place}
 use Rattle.spl_meaning.specs.Sound.{first_broken}
 use Rattle.spl_found.specs.FoundStatements.{found_statement, found_body}
@@ -107,7 +107,7 @@ found_declared a here h f = first_fault (first_fault f (again here h.name h.at))
 
 -- a subroutine's own rules, in the scope of its list
 abbrev pub found_subroutine : Scope → Heading → Statement → Option Fault → Option Fault
-found_subroutine sc h s f = first_fault (found_statement (subroutine_scope sc h) [] false s (found_heading sc.split h f)) (repeated 20 [] (all_labels s))
+found_subroutine sc h s f = first_fault (found_statement (subroutine_scope sc h) (has_name []) false s (found_heading sc.split h f)) (repeated 20 [] (all_labels s))
 
 -- those of a declaration, where it is a subroutine
 abbrev pub found_inner : Scope → Declaration → Option Fault → Option Fault

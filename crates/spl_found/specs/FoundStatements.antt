@@ -1,5 +1,5 @@
 -- The first broken rule of statements, as it is found along the tree.
-use Rattle.std.specs.Prelude.{ℕ, ◌&&◌, not, Bool, false, if◌then◌else◌, List, [], ◌∷◌, ◌++◌, Option, Some}
+use Rattle.std.specs.Prelude.{ℕ, ◌&&◌, ◌||◌, not, Bool, false, if◌then◌else◌, List, [], ◌∷◌, Option, Some}
 use Rattle.spl_tree.specs.declared.names_and_places.At.{At}
 use Rattle.spl_tree.specs.declared.expressions.Kind.TheVariants as kind
 use Rattle.spl_tree.specs.Trees as tree
@@ -77,20 +77,24 @@ abbrev pub found_test : Scope → Bool → Test → At → Option Fault → Opti
 found_test sc after (stat.Test.condition e) at f = found_condition sc at e f
 found_test sc after (stat.Test.code op) at f = first_fault f (unless after 22 at)
 
+-- the labels of a list, beside those around it
+abbrev pub with_list : (List ℕ → Bool) → Statements → List ℕ → Bool
+with_list labels ss x = labels x || has_name (list_labels ss) x
+
 unfoldable mutual
-  -- a statement, with the labels of the lists around it, and whether the condition code may be tested
-  pub found_statement : Scope → List (List ℕ) → Bool → Statement → Option Fault → Option Fault
+  -- a statement, with which labels the lists around it bear, and whether the condition code may be tested
+  pub found_statement : Scope → (List ℕ → Bool) → Bool → Statement → Option Fault → Option Fault
   found_statement sc labels after stat.Statement.empty f = f
   found_statement sc labels after (stat.Statement.labelled x at s) f = found_statement sc labels false s f
-  found_statement sc labels after (stat.Statement.block ss) f = found_statements sc (labels ++ list_labels ss) false ss f
+  found_statement sc labels after (stat.Statement.block ss) f = found_statements sc (with_list labels ss) false ss f
   found_statement sc labels after (stat.Statement.if_test q then_part else_part at) f =
       found_arms sc labels else_part (found_statement sc labels false then_part (found_test sc after q at f))
   found_statement sc labels after (stat.Statement.while_true e s at) f = found_statement sc labels false s (found_condition sc at e f)
   found_statement sc labels after (stat.Statement.until_true s e at) f = found_condition sc at e (found_statement sc labels false s f)
   found_statement sc labels after (stat.Statement.for_values x first step last s at) f =
       found_statement sc labels false s (found_single sc at last (found_step sc at step (found_single sc at first (first_fault f (counter_by sc x (sc.names x) at)))))
-  found_statement sc labels after (stat.Statement.case_of e ss at) f = found_arms sc (labels ++ list_labels ss) ss (found_single sc at e f)
-  found_statement sc labels after (stat.Statement.go_to x at) f = first_fault f (unless (has_name labels x) 21 at)
+  found_statement sc labels after (stat.Statement.case_of e ss at) f = found_arms sc (with_list labels ss) ss (found_single sc at e f)
+  found_statement sc labels after (stat.Statement.go_to x at) f = first_fault f (unless (labels x) 21 at)
   found_statement sc labels after (stat.Statement.return at) f = first_fault f (unless (not sc.is_main) 25 at)
   found_statement sc labels after (stat.Statement.assign to e at) f = found_assign sc to e at f
   found_statement sc labels after (stat.Statement.assign_effect to e at) f = found_assign_effect sc to e at f
@@ -98,16 +102,16 @@ unfoldable mutual
   found_statement sc labels after (stat.Statement.call x es at) f = found_call sc x es at f
 
   -- the statements of a list, one behind the other
-  pub found_statements : Scope → List (List ℕ) → Bool → Statements → Option Fault → Option Fault
+  pub found_statements : Scope → (List ℕ → Bool) → Bool → Statements → Option Fault → Option Fault
   found_statements sc labels after stat.Statements.none f = f
   found_statements sc labels after (stat.Statements.and s ss) f =
       found_statements sc labels (sets_code sc.names s) ss (found_statement sc labels after s f)
 
   -- statements none of which is directly behind another
-  pub found_arms : Scope → List (List ℕ) → Statements → Option Fault → Option Fault
+  pub found_arms : Scope → (List ℕ → Bool) → Statements → Option Fault → Option Fault
   found_arms sc labels stat.Statements.none f = f
   found_arms sc labels (stat.Statements.and s ss) f = found_arms sc labels ss (found_statement sc labels false s f)
 
 -- a body that is a list
 abbrev pub found_body : Scope → Statements → Option Fault → Option Fault
-found_body sc ss f = first_fault (found_statements sc (list_labels ss) false ss f) (label_faults ss)
+found_body sc ss f = first_fault (found_statements sc (has_name (list_labels ss)) false ss f) (label_faults ss)

@@ -3,4 +3,4 @@
 
 mod laws;
 
-pub use laws::first_rules_are_found;
+pub use laws::{first_rules_are_found, first_rules_are_walked};

@@ -233,7 +233,7 @@ module _ (most d room below : ℕ) (sum : d + room ≡ most + 0) (one : Parser s
 
   -- what an IF tests, one construct deeper
   test_explained : (ts : List Lexeme) → nat_lt 0 room ≡ true
-      → Explains most (λ x rest. st.Test x ts rest) part.test (suc d) 0 ts (test below ts)
+      → Explains most (λ x rest. st.Test x ts rest) part.test (suc d) 0 ts (if_test below ts)
   unfolding if_test followed take and_then
   test_explained ts ok = explain_symbol _ ts (at_here _ _ _ _) (deeper ok)
       (λ t rest q. rw q (explain_if (is_relation (operator_of t.symbol)) _ _ (t ∷ rest)

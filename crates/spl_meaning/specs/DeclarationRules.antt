@@ -211,7 +211,7 @@ Waiting = Table Profile
 -- a name taken off those that wait
 abbrev pub without : Waiting → List ℕ → Waiting
 without [] x = []
-without (w ∷ ws) x = if same_name x w.0 then ws else w ∷ without ws x
+without (w ∷ ws) x = if same_name x w.0 then without ws x else w ∷ without ws x
 
 -- whether a procedure of this name has its body among these declarations
 abbrev pub gets_body : Declarations → List ℕ → Bool

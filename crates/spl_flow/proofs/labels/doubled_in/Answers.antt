@@ -1,0 +1,9 @@
+-- From a table without labels on.
+use Rattle.spl_tree.specs.Views as view
+use Rattle.spl_meaning.specs.StatementRules as rules
+use Rattle.spl_flow.proofs.LabelLemmas.{seen_from_none}
+use Rattle.spl_flow.proofs.labels.doubled_in.Goals as goal
+
+pub returns : goal.returns
+returns c = seen_from_none c.labels_in.new.table _ c.new-table.result c.args.report.now (rules.all_labels (view.statement c.args.statement.now))
+    c.new-table.ensures c.in_ok-labels_in.ensures

@@ -1,0 +1,3 @@
+pub mod Labels
+pub mod Heads
+pub mod Targets

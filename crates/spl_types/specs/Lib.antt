@@ -1,0 +1,6 @@
+pub mod WaitingNames
+pub mod SameFormal
+pub mod HeadTables
+pub mod Forwards
+pub mod OtherUnits
+pub mod Insides

@@ -1,0 +1,18 @@
+//! The rules of units, and the first rule that units break.
+#![tactic(auto)]
+
+mod alike;
+mod heads;
+mod insides;
+mod others;
+mod silence;
+mod waiting;
+mod wanted;
+
+pub use alike::same_profile;
+pub use heads::{Bodies, bodies_among};
+pub use insides::{Inside, subroutines};
+pub use others::Others;
+pub use silence::silent;
+pub use waiting::Waiting;
+pub use wanted::forwards;
