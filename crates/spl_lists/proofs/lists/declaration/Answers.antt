@@ -1,5 +1,5 @@
 -- An EQUATE shows its items.
-use Rattle.std.proofs.Common.{◌≡◌, ap, sym, ◌∙◌, map}
+use Rattle.std.proofs.Common.{ap, sym, ◌∙◌, map}
 use Rattle.std.proofs.lemmas.Result.{on_ok_weaker}
 use Rattle.spl_tree.specs.DeclarationTrees.{Declaration}
 use Rattle.spl_tree.specs.Spells as view

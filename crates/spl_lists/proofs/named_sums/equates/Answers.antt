@@ -1,10 +1,8 @@
 -- One item more.
-use Rattle.std.proofs.Common.{◌≡◌, ◌+◌, ap, sym, ◌∙◌, map, drop, Option}
+use Rattle.std.proofs.Common.{◌+◌, ap, sym, ◌∙◌, map, drop, Option}
 use Rattle.std.specs.Prelude.{ℤ}
 use Rattle.spl_tree.specs.Views.{letters}
 use Rattle.spl_tree.specs.Spells.{term}
-use Rattle.spl_tree.specs.DeclarationTrees.{Term}
-use Rattle.spl_tree.specs.declared.expressions.Const.{Const}
 use Rattle.spl_meaning.specs.Faults.{Fault}
 use Rattle.spl_meaning.specs.Names as n
 use Rattle.spl_meaning.specs.Names.{Names, find, kept_value, sum_value}
