@@ -9,3 +9,4 @@ pub mod OtherLaws
 pub mod InsideLaws
 pub mod HeadWalks
 pub mod DeclViews
+pub mod GlobalWalks

@@ -7,6 +7,7 @@ mod insides;
 mod others;
 mod procedures;
 mod silence;
+mod unit_lists;
 mod waiting;
 mod wanted;
 
@@ -16,5 +17,6 @@ pub use insides::{Inside, subroutines};
 pub use others::Others;
 pub use procedures::{inner_rules, procedure};
 pub use silence::silent;
+pub use unit_lists::globals;
 pub use waiting::Waiting;
 pub use wanted::forwards;
