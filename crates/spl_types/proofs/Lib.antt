@@ -10,3 +10,4 @@ pub mod InsideLaws
 pub mod HeadWalks
 pub mod DeclViews
 pub mod GlobalWalks
+pub mod UnitLaws

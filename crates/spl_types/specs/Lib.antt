@@ -5,3 +5,4 @@ pub mod Forwards
 pub mod OtherUnits
 pub mod Insides
 pub mod Procedures
+pub mod UnitParts

@@ -4,6 +4,7 @@
 mod alike;
 mod heads;
 mod insides;
+mod main_bodies;
 mod others;
 mod procedures;
 mod silence;
@@ -14,6 +15,7 @@ mod wanted;
 pub use alike::same_profile;
 pub use heads::{Bodies, bodies_among};
 pub use insides::{Inside, subroutines};
+pub use main_bodies::unit_rules;
 pub use others::Others;
 pub use procedures::{inner_rules, procedure};
 pub use silence::silent;
