@@ -11,3 +11,4 @@ pub mod HeadWalks
 pub mod DeclViews
 pub mod GlobalWalks
 pub mod UnitLaws
+pub mod CheckLaws

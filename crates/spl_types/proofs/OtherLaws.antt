@@ -10,6 +10,7 @@ use Rattle.spl_found.specs.FoundUnits.{agree}
 use Rattle.spl_types.specs.declared.heads.Bodies.{Bodies}
 use Rattle.spl_types.specs.HeadTables.{Heads, no_heads, heads_list, agreed, heads_of}
 use Rattle.spl_types.specs.OtherUnits.{all_agreed}
+use Rattle.spl_types.specs.Checking.{unit_heads}
 use Rattle.spl_types.proofs.SilentLaws.{front}
 use Rattle.spl_types.proofs.HeadLaws.{unit_agrees, agree_both}
 
@@ -32,13 +33,8 @@ left_end us i x p le = ap (λ (rest : List Bodies). all_agreed (map heads_of res
 
 pub ruleset agreed_steps = (left_first, left_step, left_end)
 
--- a unit's procedures
-pub unit_heads : Source → Heads
-unit_heads u = heads_list no_heads (declarations u.tree.items)
-
 -- those of units
 pub all_agree : (us : List Source) (h : Heading) → all_agreed (map unit_heads us) h.name (profile_of h) ≡ agree h (all_routines us)
-unfolding unit_heads
 all_agree [] h = refl
 all_agree (u ∷ us) h = by (agreed (unit_heads u) h.name (profile_of h)) refl (all_agree us h) ∙ sym (agree_both h (routines_of u) (all_routines us))
   where

@@ -6,3 +6,4 @@ pub mod OtherUnits
 pub mod Insides
 pub mod Procedures
 pub mod UnitParts
+pub mod Checking

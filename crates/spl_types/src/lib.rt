@@ -2,6 +2,8 @@
 #![tactic(auto)]
 
 mod alike;
+mod check_faults;
+mod checking;
 mod heads;
 mod insides;
 mod main_bodies;
@@ -13,6 +15,7 @@ mod waiting;
 mod wanted;
 
 pub use alike::same_profile;
+pub use check_faults::CheckFault;
 pub use heads::{Bodies, bodies_among};
 pub use insides::{Inside, subroutines};
 pub use main_bodies::unit_rules;

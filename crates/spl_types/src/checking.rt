@@ -1,0 +1,70 @@
+//! The first rule that units break.
+ghost use Rattle.std.specs.Prelude.{◌≡◌, ◌+◌, ◌<◌, ◌≤◌, None, [], drop, length, map, take, option_map, OnOk, IfOk, IfErr};
+ghost use Rattle.spl_tree.specs.DeclarationTrees.{declarations};
+ghost use Rattle.spl_tree.specs.Spells.{declaration};
+ghost use Rattle.spl_meaning.specs.Sound.{IsSound, first_broken};
+ghost use Rattle.spl_sorts.specs.Reports.{fault_of};
+ghost use Rattle.spl_sound.specs.Spelled.{AreSpelled, most_units, source_of};
+ghost use Rattle.spl_found.specs.FoundUnits.{walked_units};
+ghost use Rattle.spl_types.specs.HeadTables.{heads_of};
+ghost use Rattle.spl_types.specs.Checking.{unit_heads, Refuses};
+
+use crate::check_faults::CheckFault;
+use crate::heads::{Bodies, bodies_among};
+use crate::main_bodies::unit_rules;
+use crate::others::Others;
+use spl_sorts::{Fault, Report};
+use spl_sound::Sound;
+use spl_tree::SplUnit;
+use std::alloc::{AllocError, Global};
+
+/// The procedures of a unit that have bodies.
+fn unit_bodies(alloc: Global, unit: &SplUnit) -> Result<Bodies, AllocError>
+    ensures { IfOk result (λ b. heads_of b ≡ unit_heads (source_of unit.now)) }
+{
+    bodies_among(alloc, &unit.items)
+}
+
+/// The procedures of each unit.
+#[tactic(auto, using(crate::proofs::CheckLaws::bodies_steps))]
+fn all_bodies(alloc: Global, units: &[SplUnit]) -> Result<Vec<Bodies>, AllocError>
+    ensures { IfOk result (λ all. map heads_of all.items ≡ map unit_heads (map source_of units.now)) }
+{
+    let mut all = Vec::new(alloc);
+    for unit in units {
+        let bodies = unit_bodies(alloc, unit)?;
+        all.push(bodies)?;
+    }
+    Ok(all)
+}
+
+/// The procedures of all units but one.
+fn others(all: &[Bodies], i: usize) -> Others<'_>
+    requires { i < length all.now }
+    ensures before { result.before.now ≡ take i all.now }
+    ensures behind { result.behind.now ≡ drop (i + 1) all.now }
+{
+    Others {
+        before: &all[..i],
+        behind: &all[i + 1..],
+    }
+}
+
+/// All units in order, of which these are the procedures.
+#[tactic(auto, using(crate::proofs::CheckLaws::units_steps))]
+fn all_rules(
+    alloc: Global,
+    all: &[Bodies],
+    units: &[SplUnit],
+    report: &mut Report,
+) -> Result<(), AllocError>
+    requires bodies { map heads_of all.now ≡ map unit_heads (map source_of units.now) }
+    requires lengths { length all.now ≡ length units.now }
+    ensures { OnOk result (report.new ≡ walked_units [] (map source_of units.now) report.old) }
+{
+    for i in 0..units.len() {
+        let others = others(all, i);
+        unit_rules(alloc, &others, &units[i], report)?;
+    }
+    Ok(())
+}
