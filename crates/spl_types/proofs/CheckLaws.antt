@@ -1,14 +1,17 @@
 -- All units, one after the other.
-use Rattle.std.proofs.Common.{ℕ, ◌≡◌, ◌<◌, ◌≤◌, ◌+◌, suc, Bool, List, [], ◌∷◌, ◌++◌, map, length, get_or, drop, take, add-one, Option, refl, sym, ap, ◌∙◌, rules}
+use Rattle.std.proofs.Common.{ℕ, ◌≡◌, ◌<◌, ◌≤◌, ◌+◌, Bool, List, [], ◌∷◌, ◌++◌, map, length, get_or, drop, take, add-one, Option, None, refl, sym, ap, ◌∙◌}
 use Rattle.std.specs.Prelude.{◌&&◌}
 use Rattle.std.proofs.Math.Seq.{take-suc}
-use Rattle.std.proofs.lemmas.List.{drop_all, take_all, map_push, take-map, drop-map}
+use Rattle.std.proofs.lemmas.List.{drop_all, take_all, map_push, take-map, drop-map, length-map}
 use Rattle.spl_tree.specs.declared.units.SplUnit.{SplUnit}
 use Rattle.spl_tree.specs.DeclarationTrees.{Heading}
 use Rattle.spl_meaning.specs.Names.{profile_of}
 use Rattle.spl_meaning.specs.Tables.{Source}
 use Rattle.spl_meaning.specs.Bodies.{all_routines}
 use Rattle.spl_meaning.specs.Faults.{Fault}
+use Rattle.spl_meaning.specs.Sound.{IsSound, first_broken}
+use Rattle.spl_meaning.proofs.FirstFaults.{sound_is}
+use Rattle.spl_found.proofs.FoundUnits.{first_walked}
 use Rattle.spl_found.specs.FoundUnits.{agree, walked_unit, walked_units}
 use Rattle.spl_sound.specs.Spelled.{source_of}
 use Rattle.spl_types.specs.declared.heads.Bodies.{Bodies}
@@ -100,3 +103,22 @@ units_step all us i u o f g same lt is before behind found =
     ∙ ap (λ (vs : List Source). walked_units vs ys g) (sym (ap (map source_of) (one_more us i u lt is) ∙ map_push source_of (take i us) u))
 
 pub ruleset units_steps = (units_first, units_end)
+
+-- ---- all units
+
+-- as many units as lists of their procedures
+pub same_lengths : (all : List Bodies) (us : List SplUnit) → map heads_of all ≡ map unit_heads (map source_of us) → length all ≡ length us
+same_lengths all us same =
+    sym (length-map all heads_of) ∙ ap length same ∙ length-map (map source_of us) unit_heads ∙ length-map us source_of
+
+-- what is found in all is the first rule that they break
+pub found_first : (us : List Source) (f : Option Fault) → f ≡ walked_units [] us None → f ≡ first_broken us
+found_first us f e = e ∙ first_walked us
+
+pub ruleset first_walk = (same_lengths, found_first)
+
+-- units that break no first rule are sound
+pub none_broken : (us : List Source) → first_broken us ≡ None → IsSound us
+none_broken us e = (sound_is us).0 e
+
+pub ruleset sound_units = none_broken

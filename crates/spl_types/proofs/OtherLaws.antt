@@ -2,13 +2,13 @@
 use Rattle.std.proofs.Common.{ℕ, ◌≡◌, ◌<◌, ◌≤◌, ◌+◌, Bool, true, false, List, [], ◌∷◌, map, length, get_or, drop, refl, sym, ap, ◌∙◌}
 use Rattle.std.specs.Prelude.{◌&&◌, if◌then◌else◌}
 use Rattle.std.proofs.lemmas.List.{drop_all}
-use Rattle.spl_tree.specs.DeclarationTrees.{Heading, declarations}
+use Rattle.spl_tree.specs.DeclarationTrees.{Heading}
 use Rattle.spl_meaning.specs.Names.{Profile, profile_of}
 use Rattle.spl_meaning.specs.Tables.{Source, routines_of}
 use Rattle.spl_meaning.specs.Bodies.{all_routines}
 use Rattle.spl_found.specs.FoundUnits.{agree}
 use Rattle.spl_types.specs.declared.heads.Bodies.{Bodies}
-use Rattle.spl_types.specs.HeadTables.{Heads, no_heads, heads_list, agreed, heads_of}
+use Rattle.spl_types.specs.HeadTables.{agreed, heads_of}
 use Rattle.spl_types.specs.OtherUnits.{all_agreed}
 use Rattle.spl_types.specs.Checking.{unit_heads}
 use Rattle.spl_types.proofs.SilentLaws.{front}

@@ -1,5 +1,5 @@
 -- What the checker answers.
-use Rattle.std.specs.Prelude.{ℕ, ◌≡◌, ◌+◌, List, map, drop, take, Option, Some, Result, Ok, Err}
+use Rattle.std.specs.Prelude.{◌≡◌, List, Some}
 use Rattle.spl_tree.specs.DeclarationTrees.{declarations}
 use Rattle.spl_meaning.specs.Tables.{Source}
 use Rattle.spl_meaning.specs.Sound.{first_broken}

@@ -68,3 +68,33 @@ fn all_rules(
     }
     Ok(())
 }
+
+/// The first rule that units break, where they break one.
+#[tactic(auto, using(crate::proofs::CheckLaws::first_walk))]
+fn first_rule(alloc: Global, units: &[SplUnit]) -> Result<Option<Fault>, AllocError>
+    ensures { IfOk result (λ f. option_map fault_of f ≡ first_broken (map source_of units.now)) }
+{
+    let all = all_bodies(alloc, units)?;
+    let mut report = Report::new();
+    all_rules(alloc, &all, units, &mut report)?;
+    Ok(report.first())
+}
+
+/// Units, at most 32 and numbered from 1 in their order, each spelled by tokens within its limits, that break no rule.
+///
+/// Err: the first rule that they break: of the earliest unit, line and column, there the lowest; `NoMemory`.
+#[tactic(auto, using(crate::proofs::CheckLaws::sound_units))]
+pub fn check(alloc: Global, units: Vec<SplUnit>) -> Result<Sound, CheckFault>
+    requires few { length units.items ≤ most_units }
+    requires spelled { AreSpelled (map source_of units.items) }
+    ensures sound { IfOk result (λ s. s.units ≡ units) }
+    ensures broken { IfErr result (λ f. Refuses (map source_of units.items) f) }
+{
+    match first_rule(alloc, &units)? {
+        Some(fault) => Err(CheckFault::Rule {
+            rule: fault.rule,
+            at: fault.at,
+        }),
+        None => Ok(Sound::new(units)),
+    }
+}

@@ -16,6 +16,7 @@ mod wanted;
 
 pub use alike::same_profile;
 pub use check_faults::CheckFault;
+pub use checking::check;
 pub use heads::{Bodies, bodies_among};
 pub use insides::{Inside, subroutines};
 pub use main_bodies::unit_rules;
