@@ -1,5 +1,5 @@
 -- Units that some tokens spell, as they are handed to the checker of rules.
-use Rattle.std.specs.Prelude.{ℕ, ◌≡◌, ◌+◌, List, [], ◌∷◌, ◌++◌, map, length}
+use Rattle.std.specs.Prelude.{ℕ, ◌≡◌, ◌+◌, List, [], map, slice_get, Some}
 use Rattle.spl_tree.specs.declared.units.SplUnit.{SplUnit}
 use Rattle.spl_tree.specs.Spells.{unit_tree}
 use Rattle.spl_tree.specs.Views.{letters}
@@ -32,4 +32,4 @@ pub record Spelled (number : ℕ) (u : Source) : Type 0 where
 
 -- some tokens spell each of these units, the first of which has number 1
 abbrev pub AreSpelled : List Source → Type 0
-AreSpelled us = (front back : List Source) (u : Source) → us ≡ front ++ u ∷ back → ∥ Spelled (length front + 1) u ∥₁
+AreSpelled us = (i : ℕ) (u : Source) → slice_get us i ≡ Some u → ∥ Spelled (i + 1) u ∥₁
