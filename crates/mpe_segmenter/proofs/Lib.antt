@@ -1,5 +1,8 @@
 -- In reading order.
 pub mod NameLemmas
+pub mod PlaceLemmas
+pub mod PartLemmas
+pub mod EntryLemmas
 pub mod DefinedLemmas
 pub mod LaidLemmas
 pub mod SegmentLaws

@@ -37,7 +37,7 @@ place_is (j ∷ ks) k = by (same k j) (place_is ks k) where
   by true e = refl
   by false e = omega (arith, e)
 
-same_self : (n : List ℕ) → pointwise nat_eq n n ≡ true
+pub same_self : (n : List ℕ) → pointwise nat_eq n n ≡ true
 same_self [] = refl
 same_self (b ∷ n) = rw (eq-eqb b b refl) (same_self n)
 
@@ -49,7 +49,7 @@ number_append (m ∷ ns) ms n l = by (pointwise nat_eq n m) l (λ k. number_appe
   by true l k = refl
   by false l k = ap (λ (i : ℕ). i + 1) (k (omega (arith, l)))
 
-new_number : (ns : List (List ℕ)) (n : List ℕ) → is_among n ns ≡ false → number_of (ns ++ n ∷ []) n ≡ number_of ns n
+pub new_number : (ns : List (List ℕ)) (n : List ℕ) → is_among n ns ≡ false → number_of (ns ++ n ∷ []) n ≡ number_of ns n
 new_number [] n h = rw (same_self n) refl
 new_number (m ∷ ns) n h = by (pointwise nat_eq n m) h (λ k. new_number ns n k) where
   by : (b : Bool) → (b || is_among n ns) ≡ false → (is_among n ns ≡ false → number_of (ns ++ n ∷ []) n ≡ number_of ns n) → (if b then 0 else number_of (ns ++ n ∷ []) n + 1) ≡ (if b then 0 else number_of ns n + 1)
@@ -94,7 +94,7 @@ all_push : (ms : List Module) (ns : List (List ℕ)) (m : Module) → AllNumbere
 all_push [] ns m a l = (l, tt)
 all_push (k ∷ ms) ns m a l = (a.0, all_push ms ns m a.1 l)
 
-names_push : (ms : List Module) (ns : List (List ℕ)) (m : Module) → names_from ns (ms ++ m ∷ []) ≡ with_name (names_from ns ms) (segment_of m)
+pub names_push : (ms : List Module) (ns : List (List ℕ)) (m : Module) → names_from ns (ms ++ m ∷ []) ≡ with_name (names_from ns ms) (segment_of m)
 names_push [] ns m = refl
 names_push (k ∷ ms) ns m = names_push ms (with_name ns (segment_of k)) m
 

@@ -5,8 +5,8 @@ use Rattle.hp_program.specs.Valid.{entries_of, label_of}
 use Rattle.spl_branch.specs.declared.modules.Fix.{Fix}
 use Rattle.spl_branch.specs.declared.modules.Module.{Module}
 use Rattle.spl_branch.specs.Modules.{fix_at, put_in, LiesAt}
-use Rattle.mpe_segmenter.specs.Entries.{Table}
-use Rattle.mpe_segmenter.specs.Segments.{table_words, laid_from, entries_for, own_count, body_from}
+use Rattle.mpe_segmenter.specs.Entries.{Table, own_count, owned}
+use Rattle.mpe_segmenter.specs.Segments.{table_words, laid_from, entries_for, body_from}
 use Rattle.mpe_segmenter.proofs.LaidLemmas.{length-laid_from}
 
 get_behind : {A : Type 0} (xs ys : List A) (j : ℕ) → slice_get (xs ++ ys) (length xs + j) ≡ slice_get ys j
@@ -33,14 +33,10 @@ lies_between pre ws post base entries fs e = record {
       ∙ ap (λ i. Some (put_in base entries (fix_at fs i) w)) (omega arith);
 }
 
--- the words and own entries of modules
+-- the words of modules
 abbrev pub sizes : List Module → ℕ
 sizes [] = 0
 sizes (m ∷ ms) = m.size + sizes ms
-
-abbrev pub owned : List Module → ℕ
-owned [] = 0
-owned (m ∷ ms) = own_count m + owned ms
 
 -- each module's size is the number of its words
 abbrev pub AllSized : List Module → Type 0

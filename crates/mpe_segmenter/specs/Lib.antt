@@ -1,5 +1,11 @@
 -- In reading order.
 pub mod Names
+pub mod Places
 pub mod Entries
 pub mod Segments
 pub mod Faults
+pub mod PlaceViews
+pub mod PartViews
+pub mod Entered
+pub mod SegmentViews
+pub mod Walks

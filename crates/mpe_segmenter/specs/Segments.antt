@@ -8,7 +8,7 @@ use Rattle.spl_branch.specs.declared.modules.FixKind.TheVariants as kind
 use Rattle.spl_branch.specs.declared.modules.Want.{Want}
 use Rattle.spl_branch.specs.declared.modules.Module.{Module}
 use Rattle.spl_branch.specs.Modules.{fix_at, put_in}
-use Rattle.mpe_segmenter.specs.Entries.{Own, Wanted, wanted_of, Table, entry_of, home_from, gate_of}
+use Rattle.mpe_segmenter.specs.Entries.{Own, Wanted, wanted_of, Table, entry_of, home_from, gate_of, own_count}
 
 -- the label of an own entry: its offset
 abbrev pub own_label : Own → Label
@@ -39,10 +39,6 @@ laid_from base entries fixes k (w ∷ ws) = put_in base entries (fix_at fixes k)
 -- the entries that a module's fixes ask for: of its defines from number `first` on, and of its wants
 abbrev pub entries_for : Table → ℕ → List Want → Bool → ℕ → ℕ
 entries_for t first ws wanted index = if wanted then slice_index (map (λ w. entry_of t (wanted_of w)) ws) index else first + index
-
--- how many entries a module has of its own
-abbrev pub own_count : Module → ℕ
-own_count m = length m.defines.items + (if is_some m.main then 1 else 0)
 
 -- the words of modules one behind the other, the first one's beginning at `base` and its defines having the entries from `first` on
 abbrev pub body_from : Table → ℕ → ℕ → List Module → List ℕ

@@ -2,17 +2,29 @@
 #![tactic(auto)]
 
 mod defined;
+mod entering;
+mod entries;
 mod faults;
 mod fixes;
 mod gates;
 mod names;
+mod parts;
+mod places;
+mod segments;
 mod tables;
+mod wants;
 #[cfg(test)]
 mod tests;
 
 pub use defined::{Collected, collect_names, first_unresolved};
+pub use entering::entered;
+pub use entries::{Entries, entries_of};
 pub use faults::{PrepFault, main_fault};
 pub use fixes::{complete, lay};
 pub use gates::gate_number;
 pub use names::{Names, numbered};
+pub use parts::{Part, parted};
+pub use places::Places;
+pub use segments::Segment;
 pub use tables::put_table;
+pub use wants::Wants;
