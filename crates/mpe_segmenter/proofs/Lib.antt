@@ -3,6 +3,7 @@ pub mod NameLemmas
 pub mod PlaceLemmas
 pub mod PartLemmas
 pub mod EntryLemmas
+pub mod CountLemmas
 pub mod DefinedLemmas
 pub mod LaidLemmas
 pub mod SegmentLaws

@@ -13,7 +13,7 @@ use Rattle.indexmap.specs.IndexSet.{insert_key}
 use Rattle.mpe_segmenter.specs.declared.wants.Key.{Key}
 use Rattle.mpe_segmenter.specs.Entries.{Wanted, is_same, is_wanted, with_want, want_at}
 use Rattle.mpe_segmenter.specs.Places.{place_of, with_place}
-use Rattle.mpe_segmenter.specs.PlaceViews.{placed}
+use Rattle.mpe_segmenter.specs.PlaceViews.{placed, seen}
 
 pub lookup_place : (es : List (ArrayVec ℕ × ℕ)) (x : ArrayVec ℕ) → lookup (λ k. pointwise nat_eq x.items k.items) es ≡ place_of x.items (placed es)
 lookup_place [] x = refl
@@ -31,10 +31,6 @@ with_new es name k h = rw h refl
 -- keys are equal by their letters and their kind
 abbrev pub same : Key → Key → Bool
 same j k = pointwise nat_eq j.name.items k.name.items && beq j.gate k.gate
-
--- what contracts see of a key
-abbrev pub seen : Key → Wanted
-seen k = record { name = k.name.items; gate = k.gate }
 
 any_wanted : (ks : List Key) (k : Key) → list_any (same k) ks ≡ is_wanted (seen k) (map seen ks)
 any_wanted [] k = refl

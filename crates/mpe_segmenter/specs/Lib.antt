@@ -3,6 +3,7 @@ pub mod Names
 pub mod Places
 pub mod Entries
 pub mod Segments
+pub mod Counts
 pub mod Faults
 pub mod PlaceViews
 pub mod PartViews

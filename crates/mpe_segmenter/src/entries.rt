@@ -62,7 +62,7 @@ fn note_modules(called: &mut Places, modules: &[Module]) -> Result<usize, AllocE
 fn want_one(wanted: &mut Wants, called: &Places, want: &Want) -> Result<(), AllocError>
     ensures { OnOk result (wanted.new ≡ with_unmet called.now wanted.old (wanted_of want.now)) }
 {
-    if want.gate || called.find(&want.name).is_none() {
+    if want.gate || called.find(&want.name.text).is_none() {
         wanted.put(want)?;
     }
     Ok(())

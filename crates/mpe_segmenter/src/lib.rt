@@ -1,6 +1,7 @@
 //! Programs out of modules: segments, their entries, and what is put into the words.
 #![tactic(auto)]
 
+mod counts;
 mod defined;
 mod entering;
 mod entries;
@@ -16,6 +17,7 @@ mod wants;
 #[cfg(test)]
 mod tests;
 
+pub use counts::{is_well_formed, size_fault};
 pub use defined::{Collected, collect_names, first_unresolved};
 pub use entering::entered;
 pub use entries::{Entries, entries_of};

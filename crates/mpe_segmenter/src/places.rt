@@ -37,17 +37,17 @@ impl Places {
     }
 
     /// The number of a name, if it is there.
-    pub fn find(&self, name: &Name) -> Option<usize>
-        ensures { result ≡ place_of name.now.text.items self.now }
+    pub fn find(&self, name: &ArrayVec<u8, 15>) -> Option<usize>
+        ensures { result ≡ place_of name.now.items self.now }
     {
-        self.places.get(&name.text).copied()
+        self.places.get(name).copied()
     }
 
     /// Gives a name a number, unless it has one.
     pub fn note(&mut self, name: &Name, number: usize) -> Result<(), AllocError>
         ensures { OnOk result (self.new ≡ with_place self.old name.now.text.items number) }
     {
-        if self.find(name).is_none() {
+        if self.find(&name.text).is_none() {
             self.places.insert(letters_of(name), number)?;
         }
         Ok(())

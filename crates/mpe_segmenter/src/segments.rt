@@ -1,5 +1,6 @@
 //! Segments with their entries.
-ghost use Rattle.mpe_segmenter.specs.Entered.{IsEntered};
+ghost use Rattle.std.specs.Prelude.{◌<◌, ◌^◌};
+ghost use Rattle.mpe_segmenter.specs.Entered.{IsEntered, total};
 
 use crate::entries::Entries;
 use spl_branch::Module;
@@ -12,4 +13,5 @@ pub struct Segment {
     pub modules: Vec<Module>,
     pub entries: Entries,
     pub ghost entered: { IsEntered modules.items entries.own entries.called entries.wanted },
+    pub ghost few: { total modules.items < 2 ^ 32 },
 }

@@ -24,10 +24,11 @@ pub struct Wants {
 impl Model for Wants {
     ghost use Rattle.std.specs.Prelude.{List, map};
     ghost use Rattle.mpe_segmenter.specs.Entries.{Wanted};
+    ghost use Rattle.mpe_segmenter.specs.PlaceViews.{seen};
 
     ghost Value = { List Wanted };
 
-    ghost view = { λ s. map (λ w. record { name = w.name.items; gate = w.gate }) s.wants.keys };
+    ghost view = { λ s. map seen s.wants.keys };
 }
 
 /// The key of a want.
@@ -42,8 +43,9 @@ fn key_of(want: &Want) -> Key
 }
 
 impl Wants {
-    ghost use Rattle.std.specs.Prelude.{◌≡◌, [], length, OnOk};
+    ghost use Rattle.std.specs.Prelude.{◌≡◌, [], length, map, OnOk};
     ghost use Rattle.mpe_segmenter.specs.Entries.{wanted_of, with_want, want_at};
+    ghost use Rattle.mpe_segmenter.specs.PlaceViews.{seen};
 
     /// No name.
     pub fn new(alloc: Global) -> Self
@@ -67,6 +69,13 @@ impl Wants {
     {
         self.wants.insert(key_of(want))?;
         Ok(())
+    }
+
+    /// The names, in order.
+    pub fn keys(&self) -> &[Key]
+        ensures { map seen result.now ≡ self.now }
+    {
+        self.wants.as_slice()
     }
 
     /// The place of a want; behind all where it is not there.

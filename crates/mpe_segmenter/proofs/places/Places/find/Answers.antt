@@ -6,5 +6,5 @@ use Rattle.mpe_segmenter.proofs.places.Places.find.Goals as goal
 
 pub returns : goal.returns
 returns c =
-    c.copied.ensures ∙ c.get.ensures.value ∙ lookup_place c.self.inside.places.entries c.args.name.now.text
-    ∙ ap (place_of c.args.name.now.text.items) c.self.view_is
+    c.copied.ensures ∙ c.get.ensures.value ∙ lookup_place c.self.inside.places.entries c.args.name.now
+    ∙ ap (place_of c.args.name.now.items) c.self.view_is

@@ -2,7 +2,8 @@
 use Rattle.std.proofs.Common.{◌≡◌, ◌∙◌, ap, refl, map, length, unwrap_or}
 use Rattle.std.specs.List.{position}
 use Rattle.mpe_segmenter.specs.Entries.{wanted_of, want_at}
-use Rattle.mpe_segmenter.proofs.PlaceLemmas.{seen, same, want_position}
+use Rattle.mpe_segmenter.specs.PlaceViews.{seen}
+use Rattle.mpe_segmenter.proofs.PlaceLemmas.{same, want_position}
 use Rattle.mpe_segmenter.proofs.wants.Wants.place.Goals as goal
 
 pub returns : goal.returns

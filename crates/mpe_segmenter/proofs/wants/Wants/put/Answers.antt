@@ -1,7 +1,8 @@
 -- The set of keys is the list of wants.
 use Rattle.std.proofs.Common.{◌≡◌, ◌∙◌, ap, refl, map}
 use Rattle.mpe_segmenter.specs.Entries.{wanted_of, with_want}
-use Rattle.mpe_segmenter.proofs.PlaceLemmas.{seen, insert_want}
+use Rattle.mpe_segmenter.specs.PlaceViews.{seen}
+use Rattle.mpe_segmenter.proofs.PlaceLemmas.{insert_want}
 use Rattle.mpe_segmenter.proofs.wants.Wants.put.Goals as goal
 
 pub returns : goal.returns
