@@ -35,7 +35,7 @@ place_with es n q k = by (place_of n es) refl where
   by None h = pushed es
 
 -- look-ups in two lists of entries
-called_append : (os ps : List Own) (q : List ℕ) → called_at q (os ++ ps) ≡ either (called_at q os) (option_map (λ k. length os + k) (called_at q ps))
+pub called_append : (os ps : List Own) (q : List ℕ) → called_at q (os ++ ps) ≡ either (called_at q os) (option_map (λ k. length os + k) (called_at q ps))
 called_append [] ps q = same (called_at q ps) where
   same : (o : Option ℕ) → o ≡ option_map (λ k. 0 + k) o
   same None = refl

@@ -4,6 +4,8 @@ pub mod PlaceLemmas
 pub mod PartLemmas
 pub mod EntryLemmas
 pub mod CountLemmas
+pub mod HomeLemmas
+pub mod FitLemmas
 pub mod DefinedLemmas
 pub mod LaidLemmas
 pub mod SegmentLaws

@@ -5,6 +5,8 @@ pub mod Entries
 pub mod Segments
 pub mod Counts
 pub mod Faults
+pub mod Programs
+pub mod Homes
 pub mod PlaceViews
 pub mod PartViews
 pub mod Entered
