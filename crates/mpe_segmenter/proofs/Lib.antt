@@ -6,6 +6,7 @@ pub mod EntryLemmas
 pub mod CountLemmas
 pub mod HomeLemmas
 pub mod FitLemmas
+pub mod LabelLemmas
 pub mod DefinedLemmas
 pub mod LaidLemmas
 pub mod SegmentLaws

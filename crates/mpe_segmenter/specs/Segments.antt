@@ -13,6 +13,10 @@ use Rattle.mpe_segmenter.specs.Entries.{Own, Wanted, wanted_of, Table, entry_of,
 abbrev pub own_label : Own → Label
 own_label o = Local o.offset
 
+-- the word of that label
+abbrev pub own_bits : Own → ℕ
+own_bits o = label_bits (own_label o)
+
 -- the label of a procedure of another segment
 abbrev pub home_label : Option (ℕ × ℕ) → Label
 home_label (Some (s, k)) = External s k
