@@ -7,6 +7,7 @@ pub mod CountLemmas
 pub mod HomeLemmas
 pub mod FitLemmas
 pub mod LabelLemmas
+pub mod LayLemmas
 pub mod DefinedLemmas
 pub mod LaidLemmas
 pub mod SegmentLaws

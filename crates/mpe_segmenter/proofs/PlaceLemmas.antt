@@ -52,7 +52,7 @@ at_or_len (j ∷ ks) k = by (same k j) (at_or_len ks k) where
   by true e = refl
   by false e = omega (arith, e)
 
-want_within : (w : Wanted) (ws : List Wanted) → want_at w ws ≤ length ws
+pub want_within : (w : Wanted) (ws : List Wanted) → want_at w ws ≤ length ws
 want_within w [] = omega arith
 want_within w (v ∷ ws) = by (is_same w v) (want_within w ws) where
   by : (b : Bool) → want_at w ws ≤ length ws → (if b then 0 else want_at w ws + 1) ≤ suc (length ws)
