@@ -1,5 +1,5 @@
 -- What a segment that fits has, and that each of those that fit does.
-use Rattle.std.proofs.Common.{◌≡◌, ℕ, zero, suc, ◌+◌, ◌<◌, ◌≤◌, Bool, true, false, List, [], ◌∷◌, map, length, get_or, Option, Some, None, slice_get, refl, sym, ap, ◌∙◌, arith}
+use Rattle.std.proofs.Common.{◌≡◌, ℕ, zero, suc, ◌+◌, ◌<◌, ◌≤◌, Bool, true, false, List, [], ◌∷◌, map, length, get_or, drop, Option, Some, None, slice_get, refl, sym, ap, ◌∙◌, arith}
 use Rattle.std.specs.List.{list_all}
 use Rattle.std.specs.Prelude.{nat_le, nat_lt, ◌&&◌, option_map}
 use Rattle.std.proofs.lemmas.Bool.{and_parts, and_from, leb-true, lt-ltb}
@@ -13,6 +13,7 @@ use Rattle.mpe_segmenter.specs.Counts.{entries_in, table_size, sizes, is_well_fo
 use Rattle.mpe_segmenter.specs.Homes.{home_at}
 use Rattle.mpe_segmenter.specs.Programs.{tables_of}
 use Rattle.mpe_segmenter.specs.SegmentViews.{segment_in, segments_in}
+use Rattle.mpe_segmenter.proofs.CountLemmas.{segments_step}
 use Rattle.mpe_segmenter.proofs.HomeLemmas.{Home, home_found, called_within}
 
 -- the counts of a segment that fits
@@ -69,3 +70,8 @@ home_is ss q n s h lt is =
     let home = home_found (segments_in ss) 0 n q h in
     let place : home.place ≡ n = omega (arith, home.number) in
     home.label (segment_in s) (ap (slice_get (segments_in ss)) place ∙ segment_at ss n s lt is)
+
+-- the next of the segments left fits
+pub next_fits : (ss : List Segment) (i : ℕ) (s : Segment) → i < length ss → s ≡ get_or ss i s → list_all is_fitting (segments_in (drop i ss)) ≡ true → Fits (segment_in s)
+next_fits ss i s lt is h =
+    fits (segment_in s) (and_parts (is_fitting (segment_in s)) (list_all is_fitting (segments_in (drop (i + 1) ss))) (sym (ap (list_all is_fitting) (segments_step ss i s lt is)) ∙ h)).0

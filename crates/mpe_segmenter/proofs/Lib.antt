@@ -8,6 +8,9 @@ pub mod HomeLemmas
 pub mod FitLemmas
 pub mod LabelLemmas
 pub mod LayLemmas
+pub mod GatherLemmas
 pub mod DefinedLemmas
 pub mod LaidLemmas
 pub mod SegmentLaws
+pub mod WholeLemmas
+pub mod ValidLemmas

@@ -39,7 +39,7 @@ abbrev pub AllSized : List Module → Type 0
 AllSized [] = Unit {0}
 AllSized (m ∷ ms) = (m.size ≡ length m.words.items) × AllSized ms
 
-length-body : (ms : List Module) (t : Wanted → ℕ) (base first : ℕ) → AllSized ms → length (body_from t base first ms) ≡ sizes ms
+pub length-body : (ms : List Module) (t : Wanted → ℕ) (base first : ℕ) → AllSized ms → length (body_from t base first ms) ≡ sizes ms
 length-body [] t base first a = refl
 length-body (m ∷ ms) t base first a = omega (arith, length-append (laid_from base (entries_for t first m) m.fixes.items 0 m.words.items) (body_from t (base + m.size) (first + own_count m) ms), length-laid_from m.words.items base (entries_for t first m) m.fixes.items 0, length-body ms t (base + m.size) (first + own_count m) a.1, a.0)
 

@@ -7,6 +7,7 @@ pub mod Counts
 pub mod Faults
 pub mod Programs
 pub mod Homes
+pub mod Whole
 pub mod PlaceViews
 pub mod PartViews
 pub mod Entered
