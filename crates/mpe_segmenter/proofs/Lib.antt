@@ -14,3 +14,4 @@ pub mod LaidLemmas
 pub mod SegmentLaws
 pub mod WholeLemmas
 pub mod ValidLemmas
+pub mod PrepareLemmas

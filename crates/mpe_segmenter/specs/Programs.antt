@@ -34,8 +34,12 @@ abbrev pub main_from : ℕ → List Part → Option (ℕ × ℕ)
 main_from s [] = None
 main_from s (p ∷ ps) = either (option_map (λ k. (s, k)) (main_at 1 p.modules)) (main_from (s + 1) ps)
 
--- a program is what modules make: the words of their segments, the place of the main body, and the initial data words
-pub record Makes (ms : List Module) (globals : List ℕ) (p : Program) : Type 0 where
-  pub segments : segments_of p ≡ program_words (parts ms)
-  pub main : main_from 0 (parts ms) ≡ Some (p.main, p.entry)
+-- a program is what segments make: their words, the place of the main body, and the initial data words
+pub record MakesOf (ps : List Part) (globals : List ℕ) (p : Program) : Type 0 where
+  pub segments : segments_of p ≡ program_words ps
+  pub main : main_from 0 ps ≡ Some (p.main, p.entry)
   pub data_words : p.globals.items ≡ globals
+
+-- a program is what modules make
+abbrev pub Makes : List Module → List ℕ → Program → Type 0
+Makes ms globals p = MakesOf (parts ms) globals p
