@@ -167,3 +167,14 @@ few_of (p ∷ ps) h = and_from _ _ (lt-ltb (total p.modules) 4294967296 (omega (
 
 pub few_in_parts : (ms : List Module) → total ms < 4294967296 → list_all is_few (parts ms) ≡ true
 few_in_parts ms h = few_of (parts ms) (omega (arith, ap totals (parts_gathered ms []), totals_gathered ms [], h))
+
+count_most : (ps : List Part) → list_all has_module ps ≡ true → length ps ≤ totals ps
+count_most [] h = omega arith
+count_most (p ∷ ps) h = let both = and_parts (has_module p) (list_all has_module ps) h in omega (arith, some_total p.modules both.0, count_most ps both.1) where
+  some_total : (ms : List Module) → nat_lt 0 (length ms) ≡ true → 1 ≤ total ms
+  some_total [] h = cc
+  some_total (m ∷ ms) h = omega arith
+
+-- there are at most as many segments as modules, defines and wants
+pub parts_few : (ms : List Module) → length (parts ms) ≤ total ms
+parts_few ms = omega (arith, count_most (parts ms) (all_have_modules ms), ap totals (parts_gathered ms []), totals_gathered ms [])

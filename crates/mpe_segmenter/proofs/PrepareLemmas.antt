@@ -239,3 +239,12 @@ sizes_none ps h = by (entries_full ps) (segment_full ps) h where
 -- there are as many segments as names, and fewer than 2 to the power 32
 pub part_count : (ms : List Module) → length (parts ms) ≡ length (segment_names ms)
 part_count ms = length-map (segment_names ms) (part_from ms)
+
+-- there is none where it is none that there is
+pub none_unless : {A : Type 0} (o : Option A) → ((x : A) → o ≡ Some x → ⊥) → o ≡ None
+none_unless None h = refl
+none_unless (Some x) h = absurd (h x refl)
+
+-- where nothing is told there is no fault
+pub quiet : (o : Option PrepFault) (r : Option Fault) → o ≡ None → option_map fault_of o ≡ option_map Some r → r ≡ None
+quiet o r e h = none_told r (ap (option_map fault_of) (sym e) ∙ h)
