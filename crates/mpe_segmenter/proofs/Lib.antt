@@ -15,3 +15,4 @@ pub mod SegmentLaws
 pub mod WholeLemmas
 pub mod ValidLemmas
 pub mod PrepareLemmas
+pub mod SiteLaws

@@ -10,7 +10,7 @@ use Rattle.mpe_segmenter.specs.Segments.{table_words, laid_from, entries_for, bo
 use Rattle.mpe_segmenter.specs.Counts.{sizes}
 use Rattle.mpe_segmenter.proofs.LaidLemmas.{length-laid_from}
 
-get_behind : {A : Type 0} (xs ys : List A) (j : ℕ) → slice_get (xs ++ ys) (length xs + j) ≡ slice_get ys j
+pub get_behind : {A : Type 0} (xs ys : List A) (j : ℕ) → slice_get (xs ++ ys) (length xs + j) ≡ slice_get ys j
 get_behind [] ys j = ap (slice_get ys) (zero-add j)
 get_behind (x ∷ xs) ys j = ap (slice_get (x ∷ (xs ++ ys))) (along (length xs) j) ∙ get_behind xs ys j where
   along : (n j : ℕ) → suc n + j ≡ suc (n + j)

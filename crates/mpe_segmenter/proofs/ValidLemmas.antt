@@ -84,7 +84,7 @@ reached ps q h =
 
 module _ (ps : List Part) (w : IsWhole ps) where
   -- a label is one, and leads somewhere
-  good : Part → Label → Bool
+  unfoldable pub good : Part → Label → Bool
   good p l = is_label l && leads (program_words ps) (part_words (tables_of ps) p) l
 
   own_good : (p : Part) → Fits p → (o : Own) → below (sizes p.modules) o ≡ true → good p (own_label o) ≡ true
@@ -117,10 +117,10 @@ module _ (ps : List Part) (w : IsWhole ps) where
     by true g = gate_good p v.name g
     by false g = home_good p v.name g
 
-  linked_at : (p : Part) (s : ℕ) → slice_get ps s ≡ Some p → (nat_lt 0 (length p.modules) ≡ true) × (list_all (is_resolved ps) (table_of p.modules).wanted ≡ true)
+  pub linked_at : (p : Part) (s : ℕ) → slice_get ps s ≡ Some p → (nat_lt 0 (length p.modules) ≡ true) × (list_all (is_resolved ps) (table_of p.modules).wanted ≡ true)
   linked_at p s h = and_parts (nat_lt 0 (length p.modules)) (list_all (is_resolved ps) (table_of p.modules).wanted) (got_passes (is_linked ps) ps s p w.linked h)
 
-  labels_good : (p : Part) (s : ℕ) → slice_get ps s ≡ Some p → list_all (good p) (labels_of (tables_of ps) (table_of p.modules)) ≡ true
+  pub labels_good : (p : Part) (s : ℕ) → slice_get ps s ≡ Some p → list_all (good p) (labels_of (tables_of ps) (table_of p.modules)) ≡ true
   labels_good p s h =
       let f = fits_at ps s p w.fitting h in
       all_append (good p) (map own_label (owns 0 p.modules)) (map (wanted_label (tables_of ps)) (table_of p.modules).wanted)

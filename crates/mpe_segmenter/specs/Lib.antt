@@ -8,6 +8,7 @@ pub mod Faults
 pub mod Programs
 pub mod Homes
 pub mod Whole
+pub mod Sites
 pub mod PlaceViews
 pub mod PartViews
 pub mod Entered
