@@ -5,7 +5,10 @@ ghost use Rattle.mpe_segmenter.specs.Entries.{either};
 ghost use Rattle.mpe_segmenter.specs.Entered.{total};
 ghost use Rattle.mpe_segmenter.specs.Counts.{is_well_formed};
 ghost use Rattle.mpe_segmenter.specs.Faults.{mains, fault_of, main_faults, name_faults, first_fault, Faults};
+ghost use Rattle.hp_program.specs.Programs.{segments_of};
+ghost use Rattle.mpe_segmenter.specs.Names.{parts};
 ghost use Rattle.mpe_segmenter.specs.Programs.{Makes};
+ghost use Rattle.mpe_segmenter.specs.Sites.{Links};
 
 use crate::counts::size_fault;
 use crate::defined::{Collected, collect_names, first_unresolved};
@@ -50,6 +53,7 @@ pub fn prepare(
     requires few { total modules.items < 2 ^ 32 }
     requires globals { length globals.items ≤ 32000 }
     ensures ok { IfOk result (λ p. Makes modules.items globals.items p) }
+    ensures links { IfOk result (λ p. Links (parts modules.items) (segments_of p)) }
     ensures sound { OnOk result (first_fault modules.items ≡ None) }
     ensures fault { IfErr result (λ f. Faults modules.items f) }
 {

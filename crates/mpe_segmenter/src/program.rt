@@ -1,6 +1,8 @@
 //! A program of whole segments.
 ghost use Rattle.std.specs.Prelude.{◌≡◌, ◌≤◌, length, IfOk};
+ghost use Rattle.hp_program.specs.Programs.{segments_of};
 ghost use Rattle.mpe_segmenter.specs.Programs.{MakesOf};
+ghost use Rattle.mpe_segmenter.specs.Sites.{Links};
 ghost use Rattle.mpe_segmenter.specs.Whole.{IsWhole};
 ghost use Rattle.mpe_segmenter.specs.SegmentViews.{segments_in};
 
@@ -20,7 +22,8 @@ pub fn make(
 ) -> Result<Program, AllocError>
     requires whole { IsWhole (segments_in segments.items) }
     requires globals { length globals.items ≤ 32000 }
-    ensures { IfOk result (λ p. MakesOf (segments_in segments.items) globals.items p) }
+    ensures made { IfOk result (λ p. MakesOf (segments_in segments.items) globals.items p) }
+    ensures links { IfOk result (λ p. Links (segments_in segments.items) (segments_of p)) }
 {
     let homes = homes_of(alloc, segments.as_slice())?;
     let labels = all_labels(alloc, segments.as_slice(), &homes)?;
