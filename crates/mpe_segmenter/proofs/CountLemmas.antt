@@ -1,15 +1,14 @@
 -- The counts of entries and words, segment by segment.
-use Rattle.std.proofs.Common.{◌≡◌, ℕ, suc, ◌+◌, ◌<◌, ◌≤◌, Bool, true, false, nat_lt, nat_le, List, [], ◌∷◌, ◌++◌, map, length, get_or, drop, Option, Some, None, is_some, refl, sym, ap, ◌∙◌, arith}
-use Rattle.std.specs.Prelude.{◌&&◌, ◌||◌, ◌==◌, not, if◌then◌else◌, option_map}
+use Rattle.std.proofs.Common.{◌≡◌, ℕ, ◌+◌, ◌<◌, ◌≤◌, Bool, true, false, nat_lt, nat_le, List, [], ◌∷◌, ◌++◌, map, length, get_or, drop, Option, Some, None, is_some, refl, sym, ap, ◌∙◌, arith}
+use Rattle.std.specs.Prelude.{◌&&◌, ◌==◌, if◌then◌else◌}
 use Rattle.std.proofs.lemmas.List.{drop_more, length-append, length-map, length_push}
-use Rattle.std.proofs.lemmas.Bool.{leb-true, leb-false, ltb-true, ltb-false, le-ltb, lt-ltb, le-leb, and_parts, eqb-true}
+use Rattle.std.proofs.lemmas.Bool.{leb-true, ltb-false, le-ltb, lt-ltb, le-leb, and_parts, eqb-true}
 use Rattle.spl_branch.specs.Kept.{is_sized}
 use Rattle.spl_branch.specs.declared.modules.Module.{Module}
 use Rattle.mpe_segmenter.specs.declared.segments.Segment.{Segment}
-use Rattle.mpe_segmenter.specs.Names.{Part}
-use Rattle.mpe_segmenter.specs.Entries.{Own, owns, Wanted, wanted_of, is_met, is_wanted, with_want, wants_from, all_wants, own_count, owned, table_of, entry_count, either}
+use Rattle.mpe_segmenter.specs.Entries.{Own, owns, Wanted, wanted_of, is_met, is_wanted, with_want, wants_from, all_wants, owned, table_of, entry_count}
 use Rattle.mpe_segmenter.specs.Entered.{total}
-use Rattle.mpe_segmenter.specs.Counts.{entries_in, entries_full, passed_by, table_size, segment_full, sizes}
+use Rattle.mpe_segmenter.specs.Counts.{entries_in, entries_full, passed_by, table_size, segment_full}
 use Rattle.mpe_segmenter.specs.SegmentViews.{segment_in, segments_in}
 use Rattle.mpe_segmenter.proofs.EntryLemmas.{length-owns}
 

@@ -1,15 +1,14 @@
 -- The entries of a segment, as they are found module by module.
-use Rattle.std.proofs.Common.{◌≡◌, ℕ, suc, ◌+◌, ◌<◌, ◌≤◌, Bool, true, false, nat_eq, List, [], ◌∷◌, ◌++◌, map, length, get_or, drop, Option, Some, None, is_some, refl, sym, ap, ◌∙◌, arith, add-zero, zero-add, append-nil, append_assoc}
-use Rattle.std.specs.Prelude.{◌&&◌, ◌||◌, not, if◌then◌else◌, option_map}
+use Rattle.std.proofs.Common.{◌≡◌, ℕ, suc, ◌+◌, ◌<◌, ◌≤◌, Bool, true, false, List, [], ◌∷◌, ◌++◌, map, length, get_or, drop, Option, Some, None, is_some, refl, sym, ap, ◌∙◌, arith, zero-add, append-nil, append_assoc}
+use Rattle.std.specs.Prelude.{◌&&◌, not, if◌then◌else◌, option_map}
 use Rattle.std.proofs.lemmas.List.{drop_more, length-append, length-map}
 use Rattle.spl_branch.specs.declared.modules.Define.{Define}
 use Rattle.spl_branch.specs.declared.modules.Want.{Want}
 use Rattle.spl_branch.specs.declared.modules.Module.{Module}
 use Rattle.mpe_segmenter.specs.Places.{place_of, with_place}
-use Rattle.mpe_segmenter.specs.Entries.{Own, own_of, main_of, owns, is_called, called_at, either, Wanted, wanted_of, with_want, is_met, wants_from, all_wants, own_count, owned, table_of}
+use Rattle.mpe_segmenter.specs.Entries.{Own, own_of, main_of, owns, is_called, called_at, either, Wanted, with_want, is_met, wants_from, all_wants, own_count, owned}
 use Rattle.mpe_segmenter.specs.Entered.{IsIndex, IsEntered, total}
 use Rattle.mpe_segmenter.specs.Walks.{with_defines, with_modules, with_unmet, with_wants}
-use Rattle.mpe_segmenter.proofs.NameLemmas.{same_self}
 use Rattle.mpe_segmenter.proofs.PartLemmas.{equal, equal_is}
 
 -- a name that is noted has its number, unless it has one

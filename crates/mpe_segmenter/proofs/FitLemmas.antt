@@ -1,7 +1,7 @@
 -- What a segment that fits has, and that each of those that fit does.
-use Rattle.std.proofs.Common.{◌≡◌, ℕ, zero, suc, ◌+◌, ◌<◌, ◌≤◌, Bool, true, false, List, [], ◌∷◌, map, length, get_or, drop, Option, Some, None, slice_get, refl, sym, ap, ◌∙◌, arith}
+use Rattle.std.proofs.Common.{◌≡◌, ℕ, zero, suc, ◌+◌, ◌<◌, ◌≤◌, true, List, [], ◌∷◌, length, get_or, drop, Some, slice_get, refl, sym, ap, ◌∙◌, arith}
 use Rattle.std.specs.List.{list_all}
-use Rattle.std.specs.Prelude.{nat_le, nat_lt, ◌&&◌, option_map}
+use Rattle.std.specs.Prelude.{nat_le, ◌&&◌, option_map}
 use Rattle.std.proofs.lemmas.Bool.{and_parts, and_from, leb-true, lt-ltb}
 use Rattle.hp_instr.specs.declared.labels.Label.TheVariants.{Local, External}
 use Rattle.hp_instr.specs.Labels.{is_label}
@@ -14,7 +14,7 @@ use Rattle.mpe_segmenter.specs.Homes.{home_at}
 use Rattle.mpe_segmenter.specs.Programs.{tables_of}
 use Rattle.mpe_segmenter.specs.SegmentViews.{segment_in, segments_in}
 use Rattle.mpe_segmenter.proofs.CountLemmas.{segments_step}
-use Rattle.mpe_segmenter.proofs.HomeLemmas.{Home, home_found, called_within}
+use Rattle.mpe_segmenter.proofs.HomeLemmas.{home_found, called_within}
 
 -- the counts of a segment that fits
 pub record Fits (p : Part) : Type 0 where

@@ -1,13 +1,11 @@
 -- Where names may be called from anywhere: the segment that is noted for a name is the one that its look-up through tables finds.
-use Rattle.std.proofs.Common.{◌≡◌, ℕ, zero, suc, ◌+◌, ◌<◌, ◌≤◌, Bool, true, false, nat_eq, List, [], ◌∷◌, ◌++◌, map, length, get_or, drop, Option, Some, None, is_some, slice_get, refl, sym, ap, subst, ◌∙◌, arith, append_assoc}
-use Rattle.std.specs.Prelude.{◌&&◌, ◌||◌, not, if◌then◌else◌, option_map}
-use Rattle.std.proofs.lemmas.List.{drop_more}
-use Rattle.std.proofs.lemmas.Bool.{or_parts}
+use Rattle.std.proofs.Common.{◌≡◌, ℕ, suc, ◌+◌, ◌<◌, Bool, true, false, List, [], ◌∷◌, ◌++◌, map, length, Option, Some, None, is_some, slice_get, refl, sym, ap, ◌∙◌, arith}
+use Rattle.std.specs.Prelude.{◌&&◌, ◌||◌, if◌then◌else◌, option_map}
 use Rattle.spl_branch.specs.declared.modules.Define.{Define}
 use Rattle.spl_branch.specs.declared.modules.Module.{Module}
 use Rattle.mpe_segmenter.specs.Names.{Part, is_among}
 use Rattle.mpe_segmenter.specs.Places.{place_of, with_place}
-use Rattle.mpe_segmenter.specs.Entries.{Own, own_of, main_of, owns, is_called, called_at, either, Table, table_of, home_from}
+use Rattle.mpe_segmenter.specs.Entries.{Own, own_of, main_of, owns, is_called, called_at, either, home_from}
 use Rattle.mpe_segmenter.specs.Faults.{define_names, callables}
 use Rattle.mpe_segmenter.specs.Homes.{home_at, IsHomes, with_names, with_parts}
 use Rattle.mpe_segmenter.specs.Programs.{tables_of}

@@ -1,6 +1,6 @@
 -- The words of a segment, module by module.
-use Rattle.std.proofs.Common.{◌≡◌, ℕ, zero, suc, ◌+◌, ◌<◌, ◌≤◌, Bool, true, false, nat_lt, nat_le, List, [], ◌∷◌, ◌++◌, map, length, get_or, take, Option, Some, None, slice_index, refl, sym, ap, subst, ◌∙◌, arith, append_assoc, append-nil}
-use Rattle.std.specs.Prelude.{◌==◌, ◌&&◌, if◌then◌else◌, unwrap_or, slice_index_or}
+use Rattle.std.proofs.Common.{◌≡◌, ℕ, zero, suc, ◌+◌, ◌<◌, ◌≤◌, Bool, true, false, nat_lt, nat_le, List, [], ◌∷◌, ◌++◌, map, length, get_or, take, Option, Some, None, slice_index, refl, sym, ap, ◌∙◌, arith, append_assoc}
+use Rattle.std.specs.Prelude.{◌==◌, ◌&&◌, if◌then◌else◌, unwrap_or}
 use Rattle.std.specs.List.{list_all}
 use Rattle.std.specs.Global.{Vec}
 use Rattle.std.proofs.Math.ListN.{get_or-map}
@@ -11,17 +11,16 @@ use Rattle.spl_branch.specs.declared.modules.Fix.{Fix}
 use Rattle.spl_branch.specs.declared.modules.FixKind.{FixKind}
 use Rattle.spl_branch.specs.declared.modules.FixKind.TheVariants as kind
 use Rattle.spl_branch.specs.declared.modules.Module.{Module}
-use Rattle.spl_branch.specs.Kept.{rises, has_aim, is_sized}
+use Rattle.spl_branch.specs.Kept.{rises, has_aim}
 use Rattle.spl_branch.specs.Modules.{fix_at, with_entry, put_in}
-use Rattle.mpe_segmenter.specs.Entries.{Own, owns, called_at, Wanted, wanted_of, want_at, Table, table_of, entry_count, entry_of, own_count, owned}
+use Rattle.mpe_segmenter.specs.Entries.{owns, called_at, Wanted, wanted_of, want_at, Table, table_of, entry_count, entry_of, own_count}
 use Rattle.mpe_segmenter.specs.declared.segments.Segment.{Segment}
 use Rattle.mpe_segmenter.specs.Names.{Part}
-use Rattle.mpe_segmenter.specs.Places.{place_of}
-use Rattle.mpe_segmenter.specs.Entered.{IsIndex, IsEntered, HasRoom, entry_by}
+use Rattle.mpe_segmenter.specs.Entered.{IsEntered, HasRoom, entry_by}
 use Rattle.mpe_segmenter.specs.Segments.{own_label, wanted_label, labels_of, table_words, laid_from, entries_for, entries_by, body_from, is_layable, IsApart}
 use Rattle.mpe_segmenter.specs.Programs.{label_words, part_words}
 use Rattle.mpe_segmenter.specs.SegmentViews.{segment_in, segments_in}
-use Rattle.mpe_segmenter.specs.Counts.{sizes, entries_in}
+use Rattle.mpe_segmenter.specs.Counts.{entries_in}
 use Rattle.mpe_segmenter.proofs.CountLemmas.{size_is}
 use Rattle.mpe_segmenter.proofs.HomeLemmas.{called_within}
 use Rattle.mpe_segmenter.proofs.LaidLemmas.{length-laid_from}
@@ -120,8 +119,7 @@ pub lay_step : (e : Wanted → ℕ) (words new : List ℕ) (first first' : ℕ) 
     → (length new ≡ length words + m.size) × (new ++ body_from e (length new) first' rest ≡ words ++ body_from e (length words) first (m ∷ rest))
 lay_step e words new first first' m rest low is next =
     let laid : List ℕ = laid_from (length words) (entries_for e first m) m.fixes.items 0 m.words.items in
-    let size : length new ≡ length words + m.size = omega (arith, ap length is, length-append words laid, length-laid_from m.words.items (length words) (entries_for e first m) m.fixes.items 0, size_is m.size (length m.words.items) m.sized low) in
-    (
+    let size : length new ≡ length words + m.size = omega (arith, ap length is, length-append words laid, length-laid_from m.words.items (length words) (entries_for e first m) m.fixes.items 0, size_is m.size (length m.words.items) m.sized low) in (
       size,
       ap (λ (ws : List ℕ). ws ++ body_from e (length new) first' rest) is
           ∙ ap (λ n. (words ++ laid) ++ body_from e n first' rest) size

@@ -1,24 +1,22 @@
 -- Modules without faults make whole segments, and the first fault is that of the first test that fails.
-use Rattle.std.proofs.Common.{◌≡◌, ℕ, zero, suc, ◌+◌, ◌<◌, ◌≤◌, Bool, true, false, nat_lt, nat_le, List, [], ◌∷◌, ◌++◌, map, length, Option, Some, None, is_some, refl, sym, ap, subst, ◌∙◌, arith}
-use Rattle.std.specs.Prelude.{◌==◌, ◌&&◌, ◌||◌, not, if◌then◌else◌, option_map}
+use Rattle.std.proofs.Common.{◌≡◌, ℕ, zero, suc, ◌+◌, ◌<◌, ◌≤◌, Bool, true, false, nat_lt, List, [], ◌∷◌, ◌++◌, map, length, Option, Some, None, is_some, refl, sym, ap, ◌∙◌, arith}
+use Rattle.std.specs.Prelude.{◌&&◌, ◌||◌, if◌then◌else◌, option_map}
 use Rattle.std.specs.List.{list_all, list_any}
 use Rattle.std.proofs.lemmas.List.{length-map}
-use Rattle.std.proofs.lemmas.Bool.{and_parts, and_from, ltb-true, ltb-false, lt-ltb, le-leb, le-ltb, eq-eqb, ne_eqb}
-use Rattle.spl_branch.specs.declared.modules.Define.{Define}
+use Rattle.std.proofs.lemmas.Bool.{and_parts, and_from, ltb-false, lt-ltb, le-leb, ne_eqb}
 use Rattle.spl_branch.specs.declared.modules.Want.{Want}
 use Rattle.spl_branch.specs.declared.modules.Module.{Module}
 use Rattle.mpe_segmenter.specs.declared.faults.PrepFault.{PrepFault}
 use Rattle.mpe_segmenter.specs.declared.faults.PrepFault.TheVariants as f
 use Rattle.mpe_segmenter.specs.Names.{is_among, segment_names, Part, part_from, parts}
-use Rattle.mpe_segmenter.specs.Entries.{Own, owns, Wanted, wanted_of, is_met, is_wanted, with_want, wants_from, all_wants, own_count, table_of, gate_of, either}
-use Rattle.mpe_segmenter.specs.Entered.{total}
+use Rattle.mpe_segmenter.specs.Entries.{Own, owns, Wanted, wanted_of, is_met, is_wanted, with_want, wants_from, all_wants, own_count, gate_of, either}
 use Rattle.mpe_segmenter.specs.Counts.{entries_in, entries_full, passed_by, table_size, segment_full, sizes, is_gate_or_name, is_well_formed, is_fitting}
-use Rattle.mpe_segmenter.specs.Faults.{mains, MainBodies, define_names, callables, doubled, first_unmet, or_name, unmet_from, unresolved, Fault, NoMain, TwoMains, Doubled, Unresolved, SegmentsFull, EntriesFull, SegmentFull, fault_of, main_faults, name_faults, segment_faults, size_faults, first_fault, Faults}
+use Rattle.mpe_segmenter.specs.Faults.{mains, MainBodies, define_names, callables, doubled, first_unmet, or_name, unmet_from, unresolved, Fault, TwoMains, Doubled, Unresolved, EntriesFull, SegmentFull, fault_of, main_faults, name_faults, segment_faults, size_faults, first_fault, Faults}
 use Rattle.mpe_segmenter.specs.Homes.{home_at}
 use Rattle.mpe_segmenter.specs.Programs.{main_at, main_from}
 use Rattle.mpe_segmenter.specs.Whole.{is_resolved, is_linked, IsWhole}
 use Rattle.mpe_segmenter.proofs.GatherLemmas.{has_one, has_all, any_in_parts, all_in_parts, has_module, all_have_modules}
-use Rattle.mpe_segmenter.proofs.WholeLemmas.{Formed, formed, all_append}
+use Rattle.mpe_segmenter.proofs.WholeLemmas.{formed, all_append}
 use Rattle.mpe_segmenter.proofs.PartLemmas.{equal}
 
 -- the fault of the number of main bodies

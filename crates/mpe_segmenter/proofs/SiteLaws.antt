@@ -1,15 +1,14 @@
 -- The words of whole segments: each module lies where its base is, and its entries lead to what they name.
-use Rattle.std.proofs.Common.{◌≡◌, ℕ, zero, suc, ◌+◌, ◌-◌, ◌<◌, ◌≤◌, Bool, true, false, nat_lt, List, [], ◌∷◌, ◌++◌, map, length, get_or, slice_index, Option, Some, None, is_some, slice_get, refl, sym, ap, subst, ◌∙◌, arith, append_assoc, zero-add, add-zero}
-use Rattle.std.specs.Prelude.{◌==◌, ◌&&◌, ◌||◌, not, if◌then◌else◌, option_map, unwrap_or}
+use Rattle.std.proofs.Common.{◌≡◌, ℕ, zero, suc, ◌+◌, ◌<◌, ◌≤◌, Bool, true, false, nat_lt, List, [], ◌∷◌, ◌++◌, map, length, get_or, slice_index, Option, Some, None, is_some, slice_get, refl, sym, ap, subst, ◌∙◌, arith, zero-add, add-zero}
+use Rattle.std.specs.Prelude.{◌&&◌, ◌||◌, not, if◌then◌else◌, unwrap_or}
 use Rattle.std.specs.Bool.{beq}
 use Rattle.std.specs.Str.{bytes_eq}
-use Rattle.std.specs.List.{list_all}
 use Rattle.std.proofs.lemmas.List.{length-append, length-map, get_or-map, get_or_append_left, get_or-append-add}
-use Rattle.std.proofs.lemmas.Bool.{and_parts, ltb-true, lt-ltb, ne_eqb, false≢true, or_cases}
+use Rattle.std.proofs.lemmas.Bool.{and_parts, ltb-true, lt-ltb, ne_eqb}
 use Rattle.hp_program.specs.Programs.{words_of}
-use Rattle.hp_program.specs.Valid.{entries_of, label_of}
+use Rattle.hp_program.specs.Valid.{label_of}
 use Rattle.hp_instr.specs.declared.labels.Label.{Label}
-use Rattle.hp_instr.specs.declared.labels.Label.TheVariants.{Local, External, Bad}
+use Rattle.hp_instr.specs.declared.labels.Label.TheVariants.{Local, External}
 use Rattle.hp_instr.specs.Labels.{label, is_label}
 use Rattle.spl_branch.specs.declared.modules.Define.{Define}
 use Rattle.spl_branch.specs.declared.modules.Want.{Want}
@@ -17,23 +16,22 @@ use Rattle.spl_branch.specs.declared.modules.Module.{Module}
 use Rattle.spl_branch.specs.Modules.{LiesAt}
 use Rattle.mpe_segmenter.specs.Names.{Part}
 use Rattle.mpe_segmenter.specs.Entries.{Own, own_of, main_of, owns, called_at, Wanted, wanted_of, is_same, is_wanted, is_met, with_want, wants_from, all_wants, want_at, Table, table_of, entry_of, entry_count, own_count, owned, home_from, gate_of}
-use Rattle.mpe_segmenter.specs.Segments.{own_label, wanted_label, home_label, labels_of, table_words, entries_for, body_from}
-use Rattle.mpe_segmenter.specs.Counts.{entries_in, table_size, sizes, is_fitting}
+use Rattle.mpe_segmenter.specs.Segments.{own_label, wanted_label, home_label, labels_of, table_words, body_from}
+use Rattle.mpe_segmenter.specs.Counts.{entries_in, table_size, sizes}
 use Rattle.mpe_segmenter.specs.Programs.{tables_of, label_words, part_words, program_words}
 use Rattle.mpe_segmenter.specs.Homes.{home_at}
 use Rattle.mpe_segmenter.proofs.CountLemmas.{size_is}
 use Rattle.mpe_segmenter.specs.Whole.{is_resolved, IsWhole}
 use Rattle.mpe_segmenter.specs.Sites.{Site, At, Gate, label_at, local_site, label_site, site_of, no_entry, IsDefinition, IsModule, module_entries, Links}
-use Rattle.mpe_segmenter.proofs.PartLemmas.{equal, equal_is}
+use Rattle.mpe_segmenter.proofs.PartLemmas.{equal_is}
 use Rattle.mpe_segmenter.proofs.NameLemmas.{same_self}
 use Rattle.mpe_segmenter.proofs.PlaceLemmas.{want_within}
 use Rattle.mpe_segmenter.proofs.EntryLemmas.{length-owns}
 use Rattle.mpe_segmenter.proofs.HomeLemmas.{called_within}
-use Rattle.mpe_segmenter.proofs.FitLemmas.{Fits, fits_at}
-use Rattle.mpe_segmenter.proofs.LayLemmas.{label_count}
+use Rattle.mpe_segmenter.proofs.FitLemmas.{fits_at}
 use Rattle.mpe_segmenter.proofs.SegmentLaws.{AllSized, get_behind, module_lies}
-use Rattle.mpe_segmenter.proofs.WholeLemmas.{all_sized, all_at, words_length, label_here, own_local}
-use Rattle.mpe_segmenter.proofs.ValidLemmas.{got_map, got_passes, Reached, reached, good, labels_good, linked_at}
+use Rattle.mpe_segmenter.proofs.WholeLemmas.{all_at, words_length, label_here, own_local}
+use Rattle.mpe_segmenter.proofs.ValidLemmas.{got_map, reached, good, labels_good, linked_at}
 
 -- a want that is the same is equal
 same_is : (v w : Wanted) → is_same v w ≡ true → v ≡ w
@@ -220,8 +218,7 @@ module _ (ps : List Part) (w : IsWhole ps) where
         let home : is_some (home_at 0 ps v.name) ≡ true = ap (λ b. if b then nat_lt 0 (gate_of v.name) else is_some (home_at 0 ps v.name)) (sym g) ∙ resolved in
         let r = reached ps v.name home in
         let label : label_at (program_words ps) s (entry_of (table_of p.modules) v) ≡ External r.number (1 + r.place) =
-        ap (label_at (program_words ps) s) (entry None e) ∙ wanted_at s p v h wanted ∙ ap (λ b. if b then External 255 (gate_of v.name) else home_label (home_from 0 (tables_of ps) v.name)) g ∙ ap home_label r.home in
-        (
+        ap (label_at (program_words ps) s) (entry None e) ∙ wanted_at s p v h wanted ∙ ap (λ b. if b then External 255 (gate_of v.name) else home_label (home_from 0 (tables_of ps) v.name)) g ∙ ap home_label r.home in (
           At r.number (get_or (owns 0 r.part.modules) r.place no_entry).offset,
           ap (label_site (program_words ps) s) label
               ∙ ap (λ b. if b then Some (Gate (1 + r.place)) else local_site r.number (label_at (program_words ps) r.number (1 + r.place))) (ne_eqb r.number 255 (λ x. absurd (omega (arith, x, r.below, w.count))))

@@ -1,29 +1,27 @@
 -- The program of whole segments is valid: each label leads somewhere, and no count is passed.
-use Rattle.std.proofs.Common.{◌≡◌, ℕ, zero, suc, ◌+◌, ◌-◌, ◌<◌, ◌≤◌, Bool, true, false, nat_lt, nat_le, List, [], ◌∷◌, ◌++◌, map, length, get_or, Option, Some, None, is_some, slice_get, refl, sym, ap, subst, ◌∙◌, arith}
-use Rattle.std.specs.Prelude.{◌==◌, ◌&&◌, not, if◌then◌else◌, option_map}
+use Rattle.std.proofs.Common.{◌≡◌, ℕ, zero, suc, ◌+◌, ◌-◌, ◌<◌, ◌≤◌, Bool, true, false, nat_lt, nat_le, List, [], ◌∷◌, map, length, get_or, Option, Some, None, is_some, slice_get, refl, sym, ap, ◌∙◌, arith}
+use Rattle.std.specs.Prelude.{◌&&◌, if◌then◌else◌, option_map}
 use Rattle.std.specs.List.{list_all}
 use Rattle.std.specs.Str.{bytes_eq}
-use Rattle.std.proofs.lemmas.List.{length-append, length-map}
-use Rattle.std.proofs.lemmas.Bool.{and_parts, and_from, ltb-true, leb-true, lt-ltb, le-leb, ne_eqb}
-use Rattle.hp_program.specs.declared.program.Defect.{Defect}
-use Rattle.hp_program.specs.declared.program.Defect.TheVariants as defect
-use Rattle.hp_program.specs.Valid.{entries_of, label_of, is_well_sized, is_local, is_local_entry, is_external, leads, is_head, bad_segment, bad_label, bad_table, or_else, first_defect}
+use Rattle.std.proofs.lemmas.List.{length-map}
+use Rattle.std.proofs.lemmas.Bool.{and_parts, and_from, ltb-true, lt-ltb, le-leb, ne_eqb}
+use Rattle.hp_program.specs.Valid.{entries_of, label_of, is_well_sized, is_local_entry, is_external, leads, is_head, bad_segment, bad_label, bad_table, first_defect}
 use Rattle.hp_instr.specs.declared.labels.Label.{Label}
-use Rattle.hp_instr.specs.declared.labels.Label.TheVariants.{Local, External, Bad}
+use Rattle.hp_instr.specs.declared.labels.Label.TheVariants.{Local, External}
 use Rattle.hp_instr.specs.Labels.{label, label_bits, is_label}
 use Rattle.spl_branch.specs.declared.modules.Module.{Module}
 use Rattle.mpe_segmenter.specs.Names.{Part}
 use Rattle.mpe_segmenter.specs.Entries.{Own, owns, called_at, Wanted, Table, table_of, own_count, owned, home_from, gate_from, gates, gate_of, either}
 use Rattle.mpe_segmenter.specs.Segments.{own_label, wanted_label, home_label, labels_of}
-use Rattle.mpe_segmenter.specs.Counts.{entries_in, sizes, is_well_formed, is_fitting}
+use Rattle.mpe_segmenter.specs.Counts.{entries_in, sizes, is_well_formed}
 use Rattle.mpe_segmenter.specs.Homes.{home_at}
-use Rattle.mpe_segmenter.specs.Programs.{tables_of, label_words, part_words, program_words, main_at, main_from}
+use Rattle.mpe_segmenter.specs.Programs.{tables_of, part_words, program_words, main_at, main_from}
 use Rattle.mpe_segmenter.specs.Whole.{is_resolved, is_linked, IsWhole}
 use Rattle.mpe_segmenter.proofs.EntryLemmas.{length-owns}
-use Rattle.mpe_segmenter.proofs.HomeLemmas.{Home, home_found, called_within}
-use Rattle.mpe_segmenter.proofs.FitLemmas.{Fits, fits, fits_at, local_formed, external_formed}
+use Rattle.mpe_segmenter.proofs.HomeLemmas.{home_found, called_within}
+use Rattle.mpe_segmenter.proofs.FitLemmas.{Fits, fits_at, local_formed, external_formed}
 use Rattle.mpe_segmenter.proofs.LayLemmas.{label_count}
-use Rattle.mpe_segmenter.proofs.WholeLemmas.{all_append, all_map, all_at, Formed, formed, below, owns_below, words_count, label_here, local_in, local_entry, well_sized}
+use Rattle.mpe_segmenter.proofs.WholeLemmas.{all_append, all_map, all_at, formed, below, owns_below, words_count, label_here, local_in, local_entry, well_sized}
 
 -- an intrinsic's entry is one of eight
 gate_most : (gs : List (List ℕ)) (k : ℕ) (name : List ℕ) → 0 < k → gate_from k gs name + 1 ≤ k + length gs
@@ -216,12 +214,12 @@ valid ps main entry globals w data_words at =
     let head : (nat_lt 0 (length segments) && nat_le (length segments) 62 && nat_lt main (length segments) && nat_le (length globals) 32000) ≡ true =
     and_from _ _ (and_from _ _ (and_from _ _ (lt-ltb 0 (length segments) (omega (arith, less))) (le-leb (length segments) 62 (omega (arith, many, w.count)))) (lt-ltb main (length segments) less)) (le-leb (length globals) 32000 data_words) in
     let sized : bad_segment 0 segments ≡ None = no_bad_segment 0 segments (λ i words g.
-      let from = from_map (part_words ts) ps i words g in
-      ap is_well_sized (sym from.2) ∙ well_sized ts from.0 (fits_at ps i from.0 w.fitting from.1) (some_sizes from.0.modules (linked_at ps w from.0 i from.1).0 (fits_at ps i from.0 w.fitting from.1).formed)) in
+    let from = from_map (part_words ts) ps i words g in
+    ap is_well_sized (sym from.2) ∙ well_sized ts from.0 (fits_at ps i from.0 w.fitting from.1) (some_sizes from.0.modules (linked_at ps w from.0 i from.1).0 (fits_at ps i from.0 w.fitting from.1).formed)) in
     let enters : is_local_entry (slice_get segments main) entry ≡ true =
     ap (λ o. is_local_entry o entry) there ∙ ap (is_local_entry (Some (part_words ts p))) (sym back) ∙ local_entry ts p f (entry - 1) (omega (arith, length-owns p.modules 0, own.1, own.0)) in
     let tables : bad_table segments 0 segments ≡ None = no_bad_table segments 0 segments (λ i words g j lt.
-      let from = from_map (part_words ts) ps i words g in
-      let few : j < entries_in from.0 = omega (arith, ap entries_of from.2, words_count ts from.0 (fits_at ps i from.0 w.fitting from.1), lt) in
-      ap (λ v. leads segments v (label (label_of v (1 + j)))) (sym from.2) ∙ labels_lead ps w from.0 i from.1 j few) in
+    let from = from_map (part_words ts) ps i words g in
+    let few : j < entries_in from.0 = omega (arith, ap entries_of from.2, words_count ts from.0 (fits_at ps i from.0 w.fitting from.1), lt) in
+    ap (λ v. leads segments v (label (label_of v (1 + j)))) (sym from.2) ∙ labels_lead ps w from.0 i from.1 j few) in
     rw (head, sized, enters) tables

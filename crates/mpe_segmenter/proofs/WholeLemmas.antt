@@ -2,31 +2,25 @@
 -- 1. the own entries of a segment lead to its words        (owns_below, local_entry)
 -- 2. each label leads somewhere                            (own_leads, wanted_leads, labels_lead)
 -- 3. so no segment, no label and no main entry is bad      (valid)
-use Rattle.std.proofs.Common.{◌≡◌, ℕ, zero, suc, ◌+◌, ◌-◌, ◌<◌, ◌≤◌, Bool, true, false, nat_lt, nat_le, List, [], ◌∷◌, ◌++◌, map, length, get_or, reverse, Option, Some, None, is_some, slice_get, refl, sym, ap, subst, ◌∙◌, arith}
-use Rattle.std.specs.Prelude.{◌==◌, ◌&&◌, not, if◌then◌else◌, option_map}
+use Rattle.std.proofs.Common.{◌≡◌, ℕ, zero, suc, ◌+◌, ◌-◌, ◌<◌, ◌≤◌, Bool, true, false, nat_lt, List, [], ◌∷◌, ◌++◌, map, length, get_or, reverse, Option, Some, None, refl, sym, ap, ◌∙◌, arith}
+use Rattle.std.specs.Prelude.{◌&&◌, not}
 use Rattle.std.specs.List.{list_all}
 use Rattle.std.proofs.lemmas.List.{length-append, length-map, length-reverse, get_or-map, get_or_append_left}
-use Rattle.std.proofs.lemmas.Bool.{and_parts, and_from, ltb-true, leb-true, lt-ltb, le-leb, ne_eqb}
-use Rattle.hp_program.specs.declared.program.Defect.{Defect}
-use Rattle.hp_program.specs.Valid.{entries_of, label_of, is_well_sized, is_local, is_local_entry, is_external, leads, is_head, bad_segment, bad_label, bad_table, or_else, first_defect}
+use Rattle.std.proofs.lemmas.Bool.{and_parts, and_from, ltb-true, lt-ltb, le-leb, ne_eqb}
+use Rattle.hp_program.specs.Valid.{entries_of, label_of, is_well_sized, is_local, is_local_entry}
 use Rattle.hp_instr.specs.declared.labels.Label.{Label}
-use Rattle.hp_instr.specs.declared.labels.Label.TheVariants.{Local, External, Bad}
+use Rattle.hp_instr.specs.declared.labels.Label.TheVariants.{Local}
 use Rattle.hp_instr.specs.Labels.{label, label_bits, is_label}
 use Rattle.hp_instr.proofs.LabelLaws.{label-label_bits}
 use Rattle.spl_branch.specs.declared.modules.Define.{Define}
-use Rattle.spl_branch.specs.declared.modules.Want.{Want}
 use Rattle.spl_branch.specs.declared.modules.Module.{Module}
 use Rattle.mpe_segmenter.specs.Names.{Part}
-use Rattle.mpe_segmenter.specs.Entries.{Own, own_of, main_of, owns, called_at, Wanted, Table, table_of, entry_of, entry_count, own_count, owned, home_from, gate_of, either}
-use Rattle.mpe_segmenter.specs.Segments.{own_label, wanted_label, home_label, labels_of, table_words, body_from}
-use Rattle.mpe_segmenter.specs.Counts.{entries_in, table_size, sizes, is_below, is_gate_or_name, is_well_formed, is_fitting}
-use Rattle.mpe_segmenter.specs.Homes.{home_at}
-use Rattle.mpe_segmenter.specs.Programs.{tables_of, label_words, part_words, program_words, main_at, main_from}
-use Rattle.mpe_segmenter.specs.Whole.{is_resolved, is_linked, IsWhole}
-use Rattle.mpe_segmenter.proofs.EntryLemmas.{length-owns}
+use Rattle.mpe_segmenter.specs.Entries.{Own, own_of, main_of, owns, Table, table_of, entry_of}
+use Rattle.mpe_segmenter.specs.Segments.{own_label, wanted_label, labels_of, table_words, body_from}
+use Rattle.mpe_segmenter.specs.Counts.{entries_in, sizes, is_below, is_gate_or_name, is_well_formed}
+use Rattle.mpe_segmenter.specs.Programs.{label_words, part_words}
 use Rattle.mpe_segmenter.proofs.CountLemmas.{size_is}
-use Rattle.mpe_segmenter.proofs.HomeLemmas.{Home, home_found, called_within}
-use Rattle.mpe_segmenter.proofs.FitLemmas.{Fits, fits, fits_at, local_formed, external_formed}
+use Rattle.mpe_segmenter.proofs.FitLemmas.{Fits, local_formed}
 use Rattle.mpe_segmenter.proofs.LayLemmas.{label_count}
 use Rattle.mpe_segmenter.proofs.SegmentLaws.{AllSized, length-body, count_in, label_in}
 
@@ -74,8 +68,8 @@ owns_below (m ∷ ms) base n h le =
     let here = formed m both.0 in
     all_append (below n) (map (own_of base) m.defines.items ++ main_of base m.main) (owns (base + m.size) ms)
     (all_append (below n) (map (own_of base) m.defines.items) (main_of base m.main)
-      (all_map (below n) (λ (d : Define). nat_lt d.offset m.size) (own_of base) m.defines.items (λ d g. lt-ltb (base + d.offset) n (omega (arith, ltb-true d.offset m.size g, le))) here.defines)
-      (main_below m.main base m.size n here.main (omega (arith, le))))
+    (all_map (below n) (λ (d : Define). nat_lt d.offset m.size) (own_of base) m.defines.items (λ d g. lt-ltb (base + d.offset) n (omega (arith, ltb-true d.offset m.size g, le))) here.defines)
+    (main_below m.main base m.size n here.main (omega (arith, le))))
     (owns_below ms (base + m.size) n both.1 (omega (arith, le)))
 
 pub all_sized : (ms : List Module) → sizes ms ≤ 16383 → AllSized ms
@@ -103,9 +97,9 @@ module _ (ts : List Table) (p : Part) (f : Fits p) where
       let many : length (labels_of ts (table_of p.modules)) ≡ entries_in p = sym (length-map (labels_of ts (table_of p.modules)) label_bits) ∙ count in
       let place : (1 + i) - 1 ≡ i = omega arith in
       ap label (label_in (body_of p) (label_words ts p) (1 + i) (omega arith) (omega (arith, count, lt))
-        ∙ ap (λ k. get_or (label_words ts p) k 0) place
-        ∙ get_or-map label_bits (labels_of ts (table_of p.modules)) i (Local 0) 0 (omega (arith, many, lt))
-        ∙ ap label_bits is)
+      ∙ ap (λ k. get_or (label_words ts p) k 0) place
+      ∙ get_or-map label_bits (labels_of ts (table_of p.modules)) i (Local 0) 0 (omega (arith, many, lt))
+      ∙ ap label_bits is)
       ∙ label-label_bits l good
 
   -- a local label leads to a word of the modules
@@ -120,7 +114,7 @@ module _ (ts : List Table) (p : Part) (f : Fits p) where
       let offset : o.offset < sizes p.modules = ltb-true o.offset (sizes p.modules) (all_at (below (sizes p.modules)) (owns 0 p.modules) i (record { name = []; callable = false; offset = 0 }) (owns_below p.modules 0 (sizes p.modules) f.formed (omega arith)) lt) in
       label_here i (Local o.offset) (omega (arith, lt))
       (get_or_append_left (map own_label (owns 0 p.modules)) (map (wanted_label ts) (table_of p.modules).wanted) (Local 0) i (omega (arith, length-map (owns 0 p.modules) own_label, lt))
-        ∙ get_or-map own_label (owns 0 p.modules) i (record { name = []; callable = false; offset = 0 }) (Local 0) lt)
+      ∙ get_or-map own_label (owns 0 p.modules) i (record { name = []; callable = false; offset = 0 }) (Local 0) lt)
       (local_formed o.offset (omega (arith, offset, f.words)))
 
   -- so it is a local entry
@@ -137,5 +131,5 @@ module _ (ts : List Table) (p : Part) (f : Fits p) where
   unfolding is_well_sized
   well_sized some =
       and_from _ _ (and_from _ _ (and_from _ _ (le-leb 2 (length (part_words ts p)) (omega (arith, words_length, some))) (le-leb (length (part_words ts p)) 16383 (omega (arith, words_length, f.words))))
-        (le-leb (entries_of (part_words ts p)) 127 (omega (arith, words_count, f.entries))))
+      (le-leb (entries_of (part_words ts p)) 127 (omega (arith, words_count, f.entries))))
       (le-leb (entries_of (part_words ts p)) (length (part_words ts p) - 1) (omega (arith, words_length, words_count)))

@@ -1,9 +1,9 @@
 -- The entries of a segment as they are found: how many it has of its own, the places of its procedures, and what it wants.
-use Rattle.std.specs.Prelude.{ℕ, ◌≡◌, ◌+◌, ◌≤◌, ◌<◌, nat_lt, Bool, if◌then◌else◌, List, [], ◌∷◌, length, Option, Some, None, unwrap_or}
+use Rattle.std.specs.Prelude.{ℕ, ◌≡◌, ◌+◌, ◌≤◌, ◌<◌, nat_lt, Bool, if◌then◌else◌, List, [], ◌∷◌, length, Some, None, unwrap_or}
 use Rattle.spl_branch.specs.declared.modules.Module.{Module}
 use Rattle.mpe_segmenter.specs.Names.{Part}
 use Rattle.mpe_segmenter.specs.Places.{place_of}
-use Rattle.mpe_segmenter.specs.Entries.{Own, owns, called_at, Wanted, want_at, Table, table_of}
+use Rattle.mpe_segmenter.specs.Entries.{Own, owns, called_at, Wanted, want_at, table_of}
 
 -- names have the places of the procedures that may be called by them
 pub record IsIndex (called : List (List ℕ × ℕ)) (os : List Own) : Type 0 where

@@ -1,5 +1,5 @@
 -- The words of a segment: those of its modules one behind the other, with entries and offsets put in, and then its table.
-use Rattle.std.specs.Prelude.{ℕ, ◌+◌, Bool, true, if◌then◌else◌, List, [], ◌∷◌, ◌++◌, length, map, reverse, slice_index, slice_index_or, take, nat_lt, ◌<◌, ◌≡◌, Option, Some, None, is_some}
+use Rattle.std.specs.Prelude.{ℕ, ◌+◌, Bool, true, if◌then◌else◌, List, [], ◌∷◌, ◌++◌, length, map, reverse, slice_index, slice_index_or, take, nat_lt, ◌<◌, ◌≡◌, Option, Some, None}
 use Rattle.hp_instr.specs.declared.labels.Label.{Label}
 use Rattle.hp_instr.specs.declared.labels.Label.TheVariants.{Local, External}
 use Rattle.hp_instr.specs.Labels.{label_bits}

@@ -1,6 +1,6 @@
 -- Where entries lead, and what the words of a program hold: each module where its base is, and each of its calls leading to what
 -- it names.
-use Rattle.std.specs.Prelude.{ℕ, ◌≡◌, ◌+◌, ◌<◌, ◌==◌, Bool, true, false, if◌then◌else◌, List, [], ◌∷◌, ◌++◌, length, slice_get, slice_index_or, Option, None, Some, option_and_then}
+use Rattle.std.specs.Prelude.{ℕ, ◌≡◌, ◌+◌, ◌<◌, ◌==◌, Bool, true, false, if◌then◌else◌, List, [], ◌∷◌, ◌++◌, length, slice_get, slice_index_or, Option, None, Some}
 use Rattle.hp_instr.specs.declared.labels.Label.{Label}
 use Rattle.hp_instr.specs.declared.labels.Label.TheVariants.{Local, External, Bad}
 use Rattle.hp_instr.specs.Labels.{label}
@@ -11,7 +11,7 @@ use Rattle.spl_branch.specs.declared.modules.Want.{Want}
 use Rattle.spl_branch.specs.declared.modules.Module.{Module}
 use Rattle.spl_branch.specs.Modules.{LiesAt}
 use Rattle.mpe_segmenter.specs.Names.{Part}
-use Rattle.mpe_segmenter.specs.Entries.{Own, owns, called_at, Wanted, wanted_of, Table, table_of, entry_of, owned, gate_of}
+use Rattle.mpe_segmenter.specs.Entries.{Own, owns, called_at, table_of, entry_of, owned, gate_of}
 use Rattle.mpe_segmenter.specs.Segments.{entries_for}
 use Rattle.mpe_segmenter.specs.Counts.{table_size, sizes}
 

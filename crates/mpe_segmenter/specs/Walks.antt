@@ -1,11 +1,11 @@
 -- How lists are made one element after the other. These serve the proofs alone.
-use Rattle.std.specs.Prelude.{ℕ, ◌+◌, ◌&&◌, not, nat_eq, if◌then◌else◌, List, [], ◌∷◌, ◌++◌, map, is_some}
+use Rattle.std.specs.Prelude.{ℕ, ◌+◌, ◌&&◌, not, nat_eq, if◌then◌else◌, List, [], ◌∷◌, ◌++◌, is_some}
 use Rattle.std.specs.Cmp.Lexicographic.{pointwise}
 use Rattle.spl_branch.specs.declared.modules.Define.{Define}
 use Rattle.spl_branch.specs.declared.modules.Module.{Module}
 use Rattle.mpe_segmenter.specs.Names.{Part, segment_of}
 use Rattle.mpe_segmenter.specs.Places.{place_of, with_place}
-use Rattle.mpe_segmenter.specs.Entries.{Wanted, wanted_of, with_want, own_count}
+use Rattle.mpe_segmenter.specs.Entries.{Wanted, with_want, own_count}
 
 -- segments with one module more, in the segment of its name or in a new one behind all
 abbrev pub with_module : List Part → Module → List Part

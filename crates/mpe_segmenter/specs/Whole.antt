@@ -1,5 +1,5 @@
 -- What segments must have so that a program can be made of them.
-use Rattle.std.specs.Prelude.{ℕ, ◌≡◌, ◌≤◌, nat_lt, ◌&&◌, Bool, true, if◌then◌else◌, List, length, is_some}
+use Rattle.std.specs.Prelude.{◌≡◌, ◌≤◌, nat_lt, ◌&&◌, Bool, true, if◌then◌else◌, List, length, is_some}
 use Rattle.std.specs.List.{list_all}
 use Rattle.mpe_segmenter.specs.Names.{Part}
 use Rattle.mpe_segmenter.specs.Entries.{Wanted, table_of, gate_of}

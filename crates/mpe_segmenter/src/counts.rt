@@ -31,9 +31,7 @@ fn below(size: u32, offset: Option<u16>) -> bool
 fn defines_below(size: u32, defines: &[Define]) -> bool
     ensures { result ≡ list_all (λ d. nat_lt d.offset size) defines.now }
 {
-    defines
-        .iter()
-        .all(|define| u32::from(define.offset) < size)
+    defines.iter().all(|define| u32::from(define.offset) < size)
 }
 
 /// Whether each want for an intrinsic names one.

@@ -20,24 +20,8 @@ mod program;
 mod segments;
 mod tables;
 mod wants;
-#[cfg(test)]
-mod tests;
 
-pub use counts::{is_well_formed, size_fault};
-pub use defined::{Collected, collect_names, first_unresolved};
-pub use entering::entered;
-pub use entries::{Entries, entries_of};
-pub use faults::{PrepFault, main_fault};
-pub use fixes::{complete, lay};
+pub use counts::is_well_formed;
+pub use faults::PrepFault;
 pub use gates::gate_number;
-pub use homes::{home_label, homes_of};
-pub use labels::all_labels;
-pub use laying::lay_all;
-pub use mains::main_place;
-pub use names::{Names, numbered};
-pub use parts::{Part, parted};
-pub use places::Places;
 pub use preparing::prepare;
-pub use segments::Segment;
-pub use tables::put_table;
-pub use wants::Wants;

@@ -44,11 +44,7 @@ fn early_fault(alloc: Global, modules: &[Module]) -> Result<Option<PrepFault>, A
 }
 
 /// The program that modules make, with these initial data words, or the first of its faults.
-pub fn prepare(
-    alloc: Global,
-    modules: Vec<Module>,
-    globals: Vec<u16>,
-) -> Result<Program, PrepFault>
+pub fn prepare(alloc: Global, modules: Vec<Module>, globals: Vec<u16>) -> Result<Program, PrepFault>
     requires formed { list_all is_well_formed modules.items ≡ true }
     requires few { total modules.items < 2 ^ 32 }
     requires globals { length globals.items ≤ 32000 }

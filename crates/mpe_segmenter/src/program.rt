@@ -15,11 +15,7 @@ use hp_program::Program;
 use std::alloc::{AllocError, Global};
 
 /// The program of whole segments, with these initial data words.
-pub fn make(
-    alloc: Global,
-    segments: Vec<Segment>,
-    globals: Vec<u16>,
-) -> Result<Program, AllocError>
+pub fn make(alloc: Global, segments: Vec<Segment>, globals: Vec<u16>) -> Result<Program, AllocError>
     requires whole { IsWhole (segments_in segments.items) }
     requires globals { length globals.items ≤ 32000 }
     ensures made { IfOk result (λ p. MakesOf (segments_in segments.items) globals.items p) }

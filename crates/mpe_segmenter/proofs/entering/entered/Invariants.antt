@@ -1,4 +1,4 @@
-use Rattle.std.proofs.Common.{◌≡◌, ◌++◌, true}
+use Rattle.std.proofs.Common.{◌≡◌, true}
 use Rattle.std.specs.List.{list_all}
 use Rattle.mpe_segmenter.specs.Entered.{is_few}
 use Rattle.mpe_segmenter.specs.PartViews.{parts_in}

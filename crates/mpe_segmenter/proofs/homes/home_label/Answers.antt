@@ -1,12 +1,12 @@
 -- The segment that is noted for a name is the one that the look-up through tables finds.
-use Rattle.std.proofs.Common.{◌≡◌, ◌∙◌, ◌<◌, ℕ, List, Some, None, length, sym, ap, arith, refl}
+use Rattle.std.proofs.Common.{◌≡◌, ◌∙◌, ◌<◌, ℕ, List, Some, length, sym, ap, arith}
 use Rattle.mpe_segmenter.specs.Segments.{home_label}
 use Rattle.mpe_segmenter.specs.declared.segments.Segment.{Segment}
 use Rattle.mpe_segmenter.specs.Places.{place_of}
 use Rattle.mpe_segmenter.specs.Homes.{home_at, IsHomes}
 use Rattle.mpe_segmenter.specs.SegmentViews.{segment_in, segments_in}
 use Rattle.mpe_segmenter.proofs.HomeLemmas.{home_lost}
-use Rattle.mpe_segmenter.proofs.FitLemmas.{Fits, fits_at, segment_at, nowhere_formed, home_within, home_is}
+use Rattle.mpe_segmenter.proofs.FitLemmas.{fits_at, segment_at, nowhere_formed, home_within, home_is}
 use Rattle.mpe_segmenter.proofs.homes.home_label.Goals as goal
 
 -- the number that is noted for a name

@@ -1,5 +1,5 @@
 -- At the end no segment is left.
-use Rattle.std.proofs.Common.{◌∙◌, ◌≡◌, sym, ap, drop, [], length, arith}
+use Rattle.std.proofs.Common.{◌∙◌, ◌≡◌, sym, ap, drop, [], arith}
 use Rattle.std.proofs.lemmas.List.{drop_all}
 use Rattle.mpe_segmenter.specs.Homes.{with_parts}
 use Rattle.mpe_segmenter.specs.SegmentViews.{segments_in}

@@ -1,5 +1,5 @@
 -- The labels of the modules' own entries, and behind them those of the names that are wanted.
-use Rattle.std.proofs.Common.{◌≡◌, ◌∙◌, ◌++◌, List, ℕ, map, sym, ap}
+use Rattle.std.proofs.Common.{◌∙◌, ◌++◌, List, ℕ, map, ap}
 use Rattle.mpe_segmenter.specs.Entries.{owns, table_of}
 use Rattle.mpe_segmenter.specs.Segments.{own_bits}
 use Rattle.mpe_segmenter.specs.Programs.{tables_of}

@@ -1,6 +1,6 @@
 -- A want's place is one of those behind the own entries, or just behind them all.
-use Rattle.std.proofs.Common.{◌≡◌, ◌≤◌, ℕ, length, arith}
-use Rattle.mpe_segmenter.specs.Entries.{Wanted, wanted_of, want_at}
+use Rattle.std.proofs.Common.{arith}
+use Rattle.mpe_segmenter.specs.Entries.{wanted_of}
 use Rattle.mpe_segmenter.proofs.PlaceLemmas.{want_within}
 use Rattle.mpe_segmenter.proofs.laying.entry_of.Goals as goal
 

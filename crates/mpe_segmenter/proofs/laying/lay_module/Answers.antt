@@ -1,5 +1,5 @@
 -- The fixes of a module, by its type, stand apart and ask for what fits.
-use Rattle.std.proofs.Common.{◌≡◌, ◌∙◌, ◌++◌, ℕ, List, length, map, sym, ap, subst, arith}
+use Rattle.std.proofs.Common.{◌∙◌, ◌++◌, ℕ, List, length, map, sym, ap, subst, arith}
 use Rattle.std.specs.List.{list_all}
 use Rattle.spl_branch.specs.declared.modules.Fix.{Fix}
 use Rattle.mpe_segmenter.specs.Entries.{Wanted, wanted_of}

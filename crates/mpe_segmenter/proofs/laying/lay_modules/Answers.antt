@@ -1,5 +1,5 @@
 -- Each turn lays the next module behind the words so far.
-use Rattle.std.proofs.Common.{◌≡◌, ◌∙◌, ◌++◌, ◌+◌, ◌≤◌, ◌∷◌, ℕ, List, length, sym, ap, arith}
+use Rattle.std.proofs.Common.{◌∙◌, ◌++◌, ◌+◌, ◌≤◌, ℕ, length, sym, ap, arith}
 use Rattle.mpe_segmenter.specs.Entries.{Wanted, owned}
 use Rattle.mpe_segmenter.specs.Entered.{entry_by}
 use Rattle.mpe_segmenter.specs.Segments.{body_from}

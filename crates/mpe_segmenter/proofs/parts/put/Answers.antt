@@ -1,10 +1,9 @@
 -- A module goes into the segment with the number of its name, or into a new one.
-use Rattle.std.proofs.Common.{◌≡◌, ◌∙◌, ◌++◌, ◌∷◌, [], ℕ, List, length, refl, sym, ap, set, arith}
+use Rattle.std.proofs.Common.{◌≡◌, ◌∙◌, ◌++◌, ◌∷◌, [], List, sym, ap, arith}
 use Rattle.std.proofs.lemmas.List.{map_push, length-map}
 use Rattle.spl_branch.specs.declared.modules.Module.{Module}
 use Rattle.mpe_segmenter.specs.Names.{segment_of, with_name, number_of, Part}
 use Rattle.mpe_segmenter.specs.PartViews.{part_of, parts_in, names_in, names_of}
-use Rattle.mpe_segmenter.specs.Walks.{with_module}
 use Rattle.mpe_segmenter.proofs.PartLemmas.{number_with, names_with, put_at, with_beyond}
 use Rattle.mpe_segmenter.proofs.parts.put.Goals as goal
 

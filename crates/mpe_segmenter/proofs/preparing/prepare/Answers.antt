@@ -1,5 +1,5 @@
 -- Each test that fails tells the first fault; where none does, the segments are whole.
-use Rattle.std.proofs.Common.{◌≡◌, ◌∙◌, ◌≤◌, Option, Some, None, option_map, List, true, length, sym, ap, subst, arith}
+use Rattle.std.proofs.Common.{◌≡◌, ◌∙◌, ◌≤◌, Option, Some, None, option_map, List, length, sym, ap, subst, arith}
 use Rattle.std.specs.List.{list_all}
 use Rattle.std.proofs.lemmas.List.{length-map}
 use Rattle.spl_branch.specs.declared.modules.Module.{Module}
@@ -7,7 +7,7 @@ use Rattle.mpe_segmenter.specs.Names.{Part, parts}
 use Rattle.mpe_segmenter.specs.Entries.{either}
 use Rattle.mpe_segmenter.specs.Entered.{is_few}
 use Rattle.mpe_segmenter.specs.Faults.{Fault, mains, main_faults, name_faults, size_faults}
-use Rattle.mpe_segmenter.specs.PartViews.{part_of, parts_in}
+use Rattle.mpe_segmenter.specs.PartViews.{part_of}
 use Rattle.mpe_segmenter.specs.SegmentViews.{segments_in}
 use Rattle.mpe_segmenter.specs.Whole.{IsWhole}
 use Rattle.mpe_segmenter.proofs.GatherLemmas.{few_in_parts, parts_few}

@@ -1,10 +1,10 @@
 -- A name that is not in the list goes last.
-use Rattle.std.proofs.Common.{◌≡◌, ◌∙◌, ◌++◌, ◌∷◌, [], ℕ, List, None, nat_eq, ap, sym, map}
+use Rattle.std.proofs.Common.{◌≡◌, ◌∙◌, ◌++◌, ◌∷◌, [], ℕ, List, None, nat_eq, ap, sym}
 use Rattle.std.proofs.lemmas.List.{map_push}
 use Rattle.std.specs.Cmp.Lexicographic.{pointwise}
 use Rattle.arrayvec.specs.ArrayVec.{ArrayVec}
 use Rattle.indexmap.proofs.CallerLemmas.{insert_entry-new}
-use Rattle.mpe_segmenter.specs.Places.{place_of, with_place}
+use Rattle.mpe_segmenter.specs.Places.{place_of}
 use Rattle.mpe_segmenter.specs.PlaceViews.{placed, pair_of}
 use Rattle.mpe_segmenter.proofs.PlaceLemmas.{lookup_place, none_since, with_new}
 use Rattle.mpe_segmenter.proofs.places.Places.note.Goals as goal

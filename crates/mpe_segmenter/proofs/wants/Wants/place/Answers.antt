@@ -1,5 +1,5 @@
 -- The place in the set of keys is that in the list of wants.
-use Rattle.std.proofs.Common.{◌≡◌, ◌∙◌, ap, refl, map, length, unwrap_or}
+use Rattle.std.proofs.Common.{◌≡◌, ◌∙◌, ap, refl, unwrap_or}
 use Rattle.std.specs.List.{position}
 use Rattle.mpe_segmenter.specs.Entries.{wanted_of, want_at}
 use Rattle.mpe_segmenter.specs.PlaceViews.{seen}
