@@ -1,5 +1,6 @@
 //! The entries and words of segments, counted.
-ghost use Rattle.std.specs.Prelude.{◌≡◌, ◌≤◌, None, option_map, nat_lt};
+ghost use Rattle.std.specs.Prelude.{◌≡◌, ◌≤◌, ◌<◌, ◌^◌, ◌&&◌, true, None, option_map, nat_lt, IsTrue};
+ghost use Rattle.mpe_segmenter.specs.Entered.{total};
 ghost use Rattle.std.specs.List.{list_all};
 ghost use Rattle.mpe_segmenter.specs.Counts.{is_well_formed, entries_in, entries_full, passed_by, segment_full, is_gate_or_name, is_below};
 ghost use Rattle.mpe_segmenter.specs.Faults.{fault_of, size_faults, EntriesFull, SegmentFull};
@@ -49,6 +50,38 @@ pub fn is_well_formed(one: &Module) -> bool
         && defines_below(one.size, one.defines.as_slice())
         && below(one.size, one.main)
         && name_gates(one.wants.as_slice())
+}
+
+/// Whether each module is well formed.
+fn are_well_formed(modules: &[Module]) -> bool
+    ensures { result ≡ list_all is_well_formed modules.now }
+{
+    modules.iter().all(|one| is_well_formed(one))
+}
+
+/// Whether there are fewer than 2 to the power 32 modules, defines and wants in all.
+fn are_few(modules: &[Module]) -> bool
+    ensures { result ≡ nat_lt (total modules.now) (2 ^ 32) }
+{
+    let mut left = 4294967295usize;
+    for one in modules {
+        let some = 1 + one.defines.len() + one.wants.len();
+        if left < some {
+            return false;
+        }
+        left -= some;
+    }
+    true
+}
+
+/// Whether a program may be made of modules, or the first of their faults told: each is well formed, and there are fewer than
+/// 2 to the power 32 modules, defines and wants in all.
+pub fn are_ready(modules: &[Module]) -> bool
+    ensures value { result ≡ (list_all is_well_formed modules.now && nat_lt (total modules.now) (2 ^ 32)) }
+    ensures formed { IsTrue result → list_all is_well_formed modules.now ≡ true }
+    ensures few { IsTrue result → total modules.now < 2 ^ 32 }
+{
+    are_well_formed(modules) && are_few(modules)
 }
 
 /// How many entries a segment has.

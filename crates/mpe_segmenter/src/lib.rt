@@ -21,7 +21,7 @@ mod segments;
 mod tables;
 mod wants;
 
-pub use counts::is_well_formed;
+pub use counts::{are_ready, is_well_formed};
 pub use faults::PrepFault;
 pub use gates::gate_number;
 pub use preparing::prepare;

@@ -43,7 +43,8 @@ fn early_fault(alloc: Global, modules: &[Module]) -> Result<Option<PrepFault>, A
     }
 }
 
-/// The program that modules make, with these initial data words, or the first of its faults.
+/// The program that modules make, with these initial data words, or the first of their faults, in the order of `PrepFault`.
+/// The modules are ready (`are_ready`), and there are at most 32,000 data words.
 pub fn prepare(alloc: Global, modules: Vec<Module>, globals: Vec<u16>) -> Result<Program, PrepFault>
     requires formed { list_all is_well_formed modules.items ≡ true }
     requires few { total modules.items < 2 ^ 32 }
