@@ -45,16 +45,18 @@ fn prepared(
 /// The first fault of units.
 fn fault_of(alloc: Global, units: &[Unit]) -> Result<Option<PrepFault>, Fail> {
     match prepared(alloc, modules_of(alloc, units)?)? {
+        None => Ok(None),
+        Some(Ok(_program)) => Ok(None),
         Some(Err(fault)) => Ok(Some(fault)),
-        _ => Ok(None),
     }
 }
 
 /// The program of units.
 fn program_of(alloc: Global, units: &[Unit]) -> Result<Program, Fail> {
     match prepared(alloc, modules_of(alloc, units)?)? {
+        None => Err("the modules are not ready")?,
         Some(Ok(program)) => Ok(program),
-        _ => Err("no program")?,
+        Some(Err(_fault)) => Err("there is a fault")?,
     }
 }
 

@@ -93,36 +93,50 @@ fn want(code: &mut Code, letter: u8) -> Result<(), Fail> {
     call(code, true, index)
 }
 
-/// A code without pieces.
-fn empty(alloc: Global, segment: u8) -> Code {
-    Code {
-        segment: name(segment),
+/// Appends the defines of a unit.
+fn put_defines(code: &mut Code, unit: &Unit) -> Result<(), Fail> {
+    for letter in unit.defines {
+        define(code, *letter)?;
+    }
+    for _ in 0..unit.more {
+        define(code, b'z')?;
+    }
+    Ok(())
+}
+
+/// Appends calls of what a unit wants.
+fn put_wants(code: &mut Code, wants: &[u8]) -> Result<(), Fail> {
+    for letter in wants {
+        want(code, *letter)?;
+    }
+    Ok(())
+}
+
+/// Appends literals, the main body at the first of them, if it is here.
+fn put_rest(code: &mut Code, main: bool, fill: u16) -> Result<(), Fail> {
+    let here = mark(code)?;
+    if main {
+        code.main = Some(here);
+    }
+    for _ in 0..fill {
+        code.put(Piece::Literal(9))?;
+    }
+    Ok(())
+}
+
+/// The module of a unit.
+fn module_of(alloc: Global, unit: &Unit) -> Result<Module, Fail> {
+    let mut code = Code {
+        segment: name(unit.segment),
         pieces: Vec::new(alloc),
         marks: Vec::new(alloc),
         entries: Vec::new(alloc),
         wants: Vec::new(alloc),
         main: None,
-    }
-}
-
-/// The module of a unit.
-fn module_of(alloc: Global, unit: &Unit) -> Result<Module, Fail> {
-    let mut code = empty(alloc, unit.segment);
-    for letter in unit.defines {
-        define(&mut code, *letter)?;
-    }
-    for _ in 0..unit.more {
-        define(&mut code, b'z')?;
-    }
-    for letter in unit.wants {
-        want(&mut code, *letter)?;
-    }
-    if unit.main {
-        code.main = Some(mark(&mut code)?);
-    }
-    for _ in 0..unit.fill {
-        code.put(Piece::Literal(9))?;
-    }
+    };
+    put_defines(&mut code, unit)?;
+    put_wants(&mut code, unit.wants)?;
+    put_rest(&mut code, unit.main, unit.fill)?;
     if code.is_complete() {
         Ok(code.finish(alloc)?)
     } else {
