@@ -6,9 +6,9 @@ pub mod Segments
 pub mod Counts
 pub mod Faults
 pub mod Programs
+pub mod Sites
 pub mod Homes
 pub mod Whole
-pub mod Sites
 pub mod PlaceViews
 pub mod PartViews
 pub mod Entered

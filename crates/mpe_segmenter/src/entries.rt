@@ -21,13 +21,13 @@ pub struct Entries {
 }
 
 /// How many entries a module has of its own.
-pub fn own_count(module: &Module) -> usize
-    ensures { result ≡ own_count module.now }
+pub fn own_count(one: &Module) -> usize
+    ensures { result ≡ own_count one.now }
 {
-    if module.main.is_some() {
-        module.defines.len() + 1
+    if one.main.is_some() {
+        one.defines.len() + 1
     } else {
-        module.defines.len()
+        one.defines.len()
     }
 }
 
