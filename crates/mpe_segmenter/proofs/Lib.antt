@@ -16,3 +16,4 @@ pub mod WholeLemmas
 pub mod ValidLemmas
 pub mod PrepareLemmas
 pub mod SiteLaws
+pub mod KnownFaults
