@@ -5,11 +5,12 @@ use Rattle.hp_program.specs.Valid.{entries_of, label_of}
 use Rattle.spl_branch.specs.declared.modules.Fix.{Fix}
 use Rattle.spl_branch.specs.declared.modules.Module.{Module}
 use Rattle.spl_branch.specs.Modules.{fix_at, put_in, LiesAt}
-use Rattle.mpe_segmenter.specs.Entries.{Table}
-use Rattle.mpe_segmenter.specs.Segments.{table_words, laid_from, entries_for, own_count, body_from}
+use Rattle.mpe_segmenter.specs.Entries.{Wanted, own_count, owned}
+use Rattle.mpe_segmenter.specs.Segments.{table_words, laid_from, entries_for, body_from}
+use Rattle.mpe_segmenter.specs.Counts.{sizes}
 use Rattle.mpe_segmenter.proofs.LaidLemmas.{length-laid_from}
 
-get_behind : {A : Type 0} (xs ys : List A) (j : ℕ) → slice_get (xs ++ ys) (length xs + j) ≡ slice_get ys j
+pub get_behind : {A : Type 0} (xs ys : List A) (j : ℕ) → slice_get (xs ++ ys) (length xs + j) ≡ slice_get ys j
 get_behind [] ys j = ap (slice_get ys) (zero-add j)
 get_behind (x ∷ xs) ys j = ap (slice_get (x ∷ (xs ++ ys))) (along (length xs) j) ∙ get_behind xs ys j where
   along : (n j : ℕ) → suc n + j ≡ suc (n + j)
@@ -33,39 +34,30 @@ lies_between pre ws post base entries fs e = record {
       ∙ ap (λ i. Some (put_in base entries (fix_at fs i) w)) (omega arith);
 }
 
--- the words and own entries of modules
-abbrev pub sizes : List Module → ℕ
-sizes [] = 0
-sizes (m ∷ ms) = m.size + sizes ms
-
-abbrev pub owned : List Module → ℕ
-owned [] = 0
-owned (m ∷ ms) = own_count m + owned ms
-
 -- each module's size is the number of its words
 abbrev pub AllSized : List Module → Type 0
 AllSized [] = Unit {0}
 AllSized (m ∷ ms) = (m.size ≡ length m.words.items) × AllSized ms
 
-length-body : (ms : List Module) (t : Table) (base first : ℕ) → AllSized ms → length (body_from t base first ms) ≡ sizes ms
+pub length-body : (ms : List Module) (t : Wanted → ℕ) (base first : ℕ) → AllSized ms → length (body_from t base first ms) ≡ sizes ms
 length-body [] t base first a = refl
-length-body (m ∷ ms) t base first a = omega (arith, length-append (laid_from base (entries_for t first m.wants.items) m.fixes.items 0 m.words.items) (body_from t (base + m.size) (first + own_count m) ms), length-laid_from m.words.items base (entries_for t first m.wants.items) m.fixes.items 0, length-body ms t (base + m.size) (first + own_count m) a.1, a.0)
+length-body (m ∷ ms) t base first a = omega (arith, length-append (laid_from base (entries_for t first m) m.fixes.items 0 m.words.items) (body_from t (base + m.size) (first + own_count m) ms), length-laid_from m.words.items base (entries_for t first m) m.fixes.items 0, length-body ms t (base + m.size) (first + own_count m) a.1, a.0)
 
 -- each module of a segment lies behind those before it, its defines' entries behind theirs
-pub module_lies : (front : List Module) (m : Module) (back : List Module) (t : Table) (base first : ℕ) (pre post : List ℕ) → AllSized front → base ≡ length pre
-    → LiesAt (pre ++ (body_from t base first (front ++ m ∷ back) ++ post)) (base + sizes front) (entries_for t (first + owned front) m.wants.items) m.words.items m.fixes.items
+pub module_lies : (front : List Module) (m : Module) (back : List Module) (t : Wanted → ℕ) (base first : ℕ) (pre post : List ℕ) → AllSized front → base ≡ length pre
+    → LiesAt (pre ++ (body_from t base first (front ++ m ∷ back) ++ post)) (base + sizes front) (entries_for t (first + owned front) m) m.words.items m.fixes.items
 module_lies [] m back t base first pre post a e =
-    let P : List ℕ → ℕ → ℕ → Type 0 = λ segment b f. LiesAt segment b (entries_for t f m.wants.items) m.words.items m.fixes.items in
-    let laid : List ℕ = laid_from base (entries_for t first m.wants.items) m.fixes.items 0 m.words.items in
+    let P : List ℕ → ℕ → ℕ → Type 0 = λ segment b f. LiesAt segment b (entries_for t f m) m.words.items m.fixes.items in
+    let laid : List ℕ = laid_from base (entries_for t first m) m.fixes.items 0 m.words.items in
     let rest : List ℕ = body_from t (base + m.size) (first + own_count m) back in
     subst (λ f. P (pre ++ ((laid ++ rest) ++ post)) (base + 0) f) (sym (add-zero first))
     (subst (λ b. P (pre ++ ((laid ++ rest) ++ post)) b first) (sym (add-zero base))
-    (subst (λ s. P (pre ++ s) base first) (sym (append_assoc laid rest post)) (lies_between pre m.words.items (rest ++ post) base (entries_for t first m.wants.items) m.fixes.items e)))
+    (subst (λ s. P (pre ++ s) base first) (sym (append_assoc laid rest post)) (lies_between pre m.words.items (rest ++ post) base (entries_for t first m) m.fixes.items e)))
 module_lies (n ∷ front) m back t base first pre post a e =
-    let P : List ℕ → ℕ → ℕ → Type 0 = λ segment b f. LiesAt segment b (entries_for t f m.wants.items) m.words.items m.fixes.items in
-    let laid : List ℕ = laid_from base (entries_for t first n.wants.items) n.fixes.items 0 n.words.items in
+    let P : List ℕ → ℕ → ℕ → Type 0 = λ segment b f. LiesAt segment b (entries_for t f m) m.words.items m.fixes.items in
+    let laid : List ℕ = laid_from base (entries_for t first n) n.fixes.items 0 n.words.items in
     let rest : List ℕ = body_from t (base + n.size) (first + own_count n) (front ++ m ∷ back) in
-    let behind : base + n.size ≡ length (pre ++ laid) = omega (arith, e, a.0, length-append pre laid, length-laid_from n.words.items base (entries_for t first n.wants.items) n.fixes.items 0) in
+    let behind : base + n.size ≡ length (pre ++ laid) = omega (arith, e, a.0, length-append pre laid, length-laid_from n.words.items base (entries_for t first n) n.fixes.items 0) in
     subst (λ f. P (pre ++ ((laid ++ rest) ++ post)) (base + (n.size + sizes front)) f) (sums first (own_count n) (owned front))
     (subst (λ b. P (pre ++ ((laid ++ rest) ++ post)) b ((first + own_count n) + owned front)) (sums base n.size (sizes front))
     (subst (λ s. P s ((base + n.size) + sizes front) ((first + own_count n) + owned front)) (regroup pre laid rest post)

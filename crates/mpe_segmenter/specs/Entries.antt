@@ -29,7 +29,7 @@ owns base (m ∷ ms) = map (own_of base) m.defines.items ++ main_of base m.main 
 
 -- a procedure that may be called by this name
 abbrev pub is_called : List ℕ → Own → Bool
-is_called name o = o.callable && bytes_eq o.name name
+is_called name o = o.callable && bytes_eq name o.name
 
 -- the place of the procedure that may be called by this name, counted from 0
 abbrev pub called_at : List ℕ → List Own → Option ℕ
@@ -50,16 +50,20 @@ is_same v w = bytes_eq v.name w.name && beq v.gate w.gate
 
 abbrev pub is_wanted : Wanted → List Wanted → Bool
 is_wanted w [] = false
-is_wanted w (v ∷ vs) = is_same v w || is_wanted w vs
+is_wanted w (v ∷ vs) = is_same w v || is_wanted w vs
 
 -- a procedure of the same segment meets a want that is no intrinsic's
 abbrev pub is_met : List Own → Wanted → Bool
 is_met os w = not w.gate && is_some (called_at w.name os)
 
+-- the names wanted with one more, unless it is there
+abbrev pub with_want : List Wanted → Wanted → List Wanted
+with_want vs w = if is_wanted w vs then vs else vs ++ w ∷ []
+
 -- the names that a segment wants, each once, those left out that its procedures meet
 abbrev pub wants_from : List Own → List Wanted → List Wanted → List Wanted
 wants_from os vs [] = vs
-wants_from os vs (w ∷ ws) = wants_from os (if is_met os w || is_wanted w vs then vs else vs ++ w ∷ []) ws
+wants_from os vs (w ∷ ws) = wants_from os (if is_met os w then vs else with_want vs w) ws
 
 -- the wants of modules, in order
 abbrev pub all_wants : List Module → List Wanted
@@ -69,7 +73,16 @@ all_wants (m ∷ ms) = map wanted_of m.wants.items ++ all_wants ms
 -- the place of a want among others
 abbrev pub want_at : Wanted → List Wanted → ℕ
 want_at w [] = 0
-want_at w (v ∷ vs) = if is_same v w then 0 else 1 + want_at w vs
+want_at w (v ∷ vs) = if is_same w v then 0 else want_at w vs + 1
+
+-- how many entries a module has of its own
+abbrev pub own_count : Module → ℕ
+own_count m = length m.defines.items + (if is_some m.main then 1 else 0)
+
+-- how many modules have
+abbrev pub owned : List Module → ℕ
+owned [] = 0
+owned (m ∷ ms) = own_count m + owned ms
 
 -- the entries of a segment
 pub record Table : Type 0 where
@@ -88,15 +101,15 @@ entry_count t = length t.own + length t.wanted
 abbrev pub entry_of : Table → Wanted → ℕ
 entry_of t w = 1 + unwrap_or (if w.gate then None else called_at w.name t.own) (length t.own + want_at w t.wanted)
 
--- the first of two places
-abbrev pub either_home : Option (ℕ × ℕ) → Option (ℕ × ℕ) → Option (ℕ × ℕ)
-either_home (Some home) other = Some home
-either_home None other = other
+-- the first of two
+abbrev pub either : {A : Type 0} → Option A → Option A → Option A
+either (Some a) other = Some a
+either None other = other
 
 -- where a name may be called from anywhere: the segment and the entry of its procedure
 abbrev pub home_from : ℕ → List Table → List ℕ → Option (ℕ × ℕ)
 home_from s [] name = None
-home_from s (t ∷ ts) name = either_home (option_map (λ k. (s, 1 + k)) (called_at name t.own)) (home_from (s + 1) ts name)
+home_from s (t ∷ ts) name = either (option_map (λ k. (s, 1 + k)) (called_at name t.own)) (home_from (s + 1) ts name)
 
 -- the intrinsics by their entries in the gate
 abbrev pub gates : List (List ℕ)

@@ -1,5 +1,5 @@
 -- What is wrong with modules first, in order: the main body, names defined twice, names that nothing defines, counts.
-use Rattle.std.specs.Prelude.{ℕ, ◌≡◌, ◌+◌, ◌≤◌, if◌then◌else◌, List, [], ◌∷◌, ◌||◌, ◌++◌, option_map, Option, Some, None, is_some}
+use Rattle.std.specs.Prelude.{ℕ, ◌≡◌, ◌+◌, ◌≤◌, ◌==◌, nat_lt, length, if◌then◌else◌, List, [], ◌∷◌, ◌||◌, ◌++◌, option_map, Option, Some, None, is_some}
 use Rattle.mpe_segmenter.specs.declared.defined.Collected.{Collected}
 use Rattle.mpe_segmenter.specs.declared.defined.Collected.TheVariants as c
 use Rattle.mpe_segmenter.specs.declared.faults.PrepFault.{PrepFault}
@@ -8,7 +8,9 @@ use Rattle.spl_branch.specs.declared.modules.Define.{Define}
 use Rattle.spl_branch.specs.declared.modules.Want.{Want}
 use Rattle.spl_branch.specs.declared.modules.Module.{Module}
 use Rattle.spl_tree.specs.declared.names_and_places.Name.{Name}
-use Rattle.mpe_segmenter.specs.Names.{is_among}
+use Rattle.mpe_segmenter.specs.Names.{is_among, segment_names, Part, parts}
+use Rattle.mpe_segmenter.specs.Entries.{either}
+use Rattle.mpe_segmenter.specs.Counts.{entries_full, segment_full}
 
 -- how many main bodies modules have
 abbrev pub mains : List Module → ℕ
@@ -71,3 +73,49 @@ Repeats old names new None = ((rest : List (List ℕ)) → first_repeat old (nam
 abbrev pub Collects : List Module → Collected → Type 0
 Collects ms (c.Names ns) = (doubled ms ≡ None) × (ns ≡ callables ms)
 Collects ms (c.Twice n) = doubled ms ≡ Some n.text.items
+
+-- why no program can be made, with the letters of names
+pub data Fault : Type 0 where
+  NoMain : Fault
+  TwoMains : Fault
+  Doubled : List ℕ → Fault
+  Unresolved : List ℕ → Fault
+  SegmentsFull : ℕ → Fault
+  EntriesFull : List ℕ → ℕ → Fault
+  SegmentFull : List ℕ → ℕ → Fault
+
+-- the fault that is answered, if it is not want of memory
+abbrev pub fault_of : PrepFault → Option Fault
+fault_of f.NoMain = Some NoMain
+fault_of f.TwoMains = Some TwoMains
+fault_of (f.Doubled n) = Some (Doubled n.text.items)
+fault_of (f.Unresolved n) = Some (Unresolved n.text.items)
+fault_of (f.SegmentsFull count) = Some (SegmentsFull count)
+fault_of (f.EntriesFull n count) = Some (EntriesFull n.text.items count)
+fault_of (f.SegmentFull n words) = Some (SegmentFull n.text.items words)
+fault_of f.NoMemory = None
+
+-- the fault of so many main bodies
+abbrev pub main_faults : ℕ → Option Fault
+main_faults n = if n == 0 then Some NoMain else if nat_lt 1 n then Some TwoMains else None
+
+-- the fault of names: one that is defined twice, or one that is wanted and not defined
+abbrev pub name_faults : List Module → Option Fault
+name_faults ms = either (option_map Doubled (doubled ms)) (option_map Unresolved (unresolved ms))
+
+-- the fault of so many segments
+abbrev pub segment_faults : ℕ → Option Fault
+segment_faults n = if nat_lt 62 n then Some (SegmentsFull n) else None
+
+-- the fault of the entries and words of segments: of entries first
+abbrev pub size_faults : List Part → Option Fault
+size_faults ps = either (option_map (λ p. EntriesFull p.0 p.1) (entries_full ps)) (option_map (λ p. SegmentFull p.0 p.1) (segment_full ps))
+
+-- the first fault of modules
+abbrev pub first_fault : List Module → Option Fault
+first_fault ms = either (main_faults (mains ms)) (either (name_faults ms) (either (segment_faults (length (segment_names ms))) (size_faults (parts ms))))
+
+-- what is answered is the first fault, or memory is wanting
+abbrev pub Faults : List Module → PrepFault → Type 0
+Faults ms f.NoMemory = Unit {0}
+Faults ms other = first_fault ms ≡ fault_of other

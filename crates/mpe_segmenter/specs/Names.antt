@@ -1,5 +1,5 @@
 -- Names of segments in order of first use, and the modules of each.
-use Rattle.std.specs.Prelude.{ℕ, ◌+◌, ◌||◌, nat_eq, Bool, false, if◌then◌else◌, List, [], ◌∷◌, ◌++◌}
+use Rattle.std.specs.Prelude.{ℕ, ◌+◌, ◌||◌, nat_eq, Bool, false, if◌then◌else◌, List, [], ◌∷◌, ◌++◌, map}
 use Rattle.std.specs.Cmp.Lexicographic.{pointwise}
 use Rattle.spl_branch.specs.declared.modules.Module.{Module}
 
@@ -34,3 +34,16 @@ number_of (n ∷ names) name = if pointwise nat_eq name n then 0 else number_of 
 abbrev pub modules_of : List ℕ → List Module → List Module
 modules_of name [] = []
 modules_of name (m ∷ ms) = if pointwise nat_eq name (segment_of m) then m ∷ modules_of name ms else modules_of name ms
+
+-- a segment: its name, and its modules in order
+pub record Part : Type 0 where
+  pub name : List ℕ
+  pub modules : List Module
+
+-- the segment of a name
+abbrev pub part_from : List Module → List ℕ → Part
+part_from ms name = record { name = name; modules = modules_of name ms }
+
+-- the segments of a program, by their numbers
+abbrev pub parts : List Module → List Part
+parts ms = map (part_from ms) (segment_names ms)

@@ -1,18 +1,21 @@
 -- The words of a segment: those of its modules one behind the other, with entries and offsets put in, and then its table.
-use Rattle.std.specs.Prelude.{ℕ, ◌+◌, Bool, true, if◌then◌else◌, List, [], ◌∷◌, ◌++◌, length, map, reverse, slice_index, slice_index_or, take, nat_lt, ◌<◌, ◌≡◌, Option, Some, None, is_some}
+use Rattle.std.specs.Prelude.{ℕ, ◌+◌, Bool, true, if◌then◌else◌, List, [], ◌∷◌, ◌++◌, length, map, reverse, slice_index, slice_index_or, take, nat_lt, ◌<◌, ◌≡◌, Option, Some, None}
 use Rattle.hp_instr.specs.declared.labels.Label.{Label}
 use Rattle.hp_instr.specs.declared.labels.Label.TheVariants.{Local, External}
 use Rattle.hp_instr.specs.Labels.{label_bits}
 use Rattle.spl_branch.specs.declared.modules.Fix.{Fix}
 use Rattle.spl_branch.specs.declared.modules.FixKind.TheVariants as kind
-use Rattle.spl_branch.specs.declared.modules.Want.{Want}
 use Rattle.spl_branch.specs.declared.modules.Module.{Module}
 use Rattle.spl_branch.specs.Modules.{fix_at, put_in}
-use Rattle.mpe_segmenter.specs.Entries.{Own, Wanted, wanted_of, Table, entry_of, home_from, gate_of}
+use Rattle.mpe_segmenter.specs.Entries.{Own, Wanted, wanted_of, Table, entry_of, home_from, gate_of, own_count}
 
 -- the label of an own entry: its offset
 abbrev pub own_label : Own → Label
 own_label o = Local o.offset
+
+-- the word of that label
+abbrev pub own_bits : Own → ℕ
+own_bits o = label_bits (own_label o)
 
 -- the label of a procedure of another segment
 abbrev pub home_label : Option (ℕ × ℕ) → Label
@@ -36,22 +39,21 @@ abbrev pub laid_from : ℕ → (Bool → ℕ → ℕ) → List Fix → ℕ → L
 laid_from base entries fixes k [] = []
 laid_from base entries fixes k (w ∷ ws) = put_in base entries (fix_at fixes k) w ∷ laid_from base entries fixes (k + 1) ws
 
--- the entries that a module's fixes ask for: of its defines from number `first` on, and of its wants
-abbrev pub entries_for : Table → ℕ → List Want → Bool → ℕ → ℕ
-entries_for t first ws wanted index = if wanted then slice_index (map (λ w. entry_of t (wanted_of w)) ws) index else first + index
-
--- how many entries a module has of its own
-abbrev pub own_count : Module → ℕ
-own_count m = length m.defines.items + (if is_some m.main then 1 else 0)
+-- the entries that a module's fixes ask for, by the entries of what it wants: of its defines from number `first` on, and of its
+-- wants; 0 of any other
+abbrev pub entries_for : (Wanted → ℕ) → ℕ → Module → Bool → ℕ → ℕ
+entries_for entry first m wanted index =
+    if wanted then slice_index (map (λ w. entry (wanted_of w)) m.wants.items) index else
+    if nat_lt index (length m.defines.items) then first + index else 0
 
 -- the words of modules one behind the other, the first one's beginning at `base` and its defines having the entries from `first` on
-abbrev pub body_from : Table → ℕ → ℕ → List Module → List ℕ
-body_from t base first [] = []
-body_from t base first (m ∷ ms) = laid_from base (entries_for t first m.wants.items) m.fixes.items 0 m.words.items ++ body_from t (base + m.size) (first + own_count m) ms
+abbrev pub body_from : (Wanted → ℕ) → ℕ → ℕ → List Module → List ℕ
+body_from entry base first [] = []
+body_from entry base first (m ∷ ms) = laid_from base (entries_for entry first m) m.fixes.items 0 m.words.items ++ body_from entry (base + m.size) (first + own_count m) ms
 
 -- the words of a segment
 abbrev pub segment_words : List Table → List Module → Table → List ℕ
-segment_words ts ms t = body_from t 0 1 ms ++ table_words (map label_bits (labels_of ts t))
+segment_words ts ms t = body_from (entry_of t) 0 1 ms ++ table_words (map label_bits (labels_of ts t))
 
 -- the entries of a module whose defines have those from `first` on, and its wants these
 abbrev pub entries_by : ℕ → List ℕ → Bool → ℕ → ℕ

@@ -2,7 +2,7 @@
 ghost use Rattle.std.specs.Prelude.{◌≡◌, ◌++◌, [], ◌∷◌, IfOk};
 ghost use Rattle.mpe_segmenter.specs.Faults.{define_names, callables, doubled, first_unmet, unmet_from, letters_if, Repeats, Collects};
 
-use crate::names::{Names, letters_of};
+use crate::names::Names;
 use spl_branch::{Define, Module, Want};
 use spl_tree::Name;
 use std::alloc::{AllocError, Global};
@@ -15,15 +15,6 @@ pub enum Collected {
     Twice(Name),
 }
 
-/// An equal name.
-fn copy_of(name: &Name) -> Name
-    ensures { result.text.items ≡ name.now.text.items }
-{
-    Name {
-        text: letters_of(name),
-    }
-}
-
 /// Notes a name that may be called, or answers that it is there already.
 fn note(names: &mut Names, define: &Define) -> Result<Option<Name>, AllocError>
     ensures { IfOk result (λ o. Repeats names.old (define_names (define.now ∷ [])) names.new o) }
@@ -32,7 +23,7 @@ fn note(names: &mut Names, define: &Define) -> Result<Option<Name>, AllocError>
         return Ok(None);
     }
     if names.has(&define.name) {
-        return Ok(Some(copy_of(&define.name)));
+        return Ok(Some(define.name.copy()));
     }
     names.number(&define.name)?;
     Ok(None)
@@ -44,7 +35,7 @@ fn unmet(names: &Names, wants: &[Want]) -> Option<Name>
 {
     for want in wants {
         if !want.gate && !names.has(&want.name) {
-            return Some(copy_of(&want.name));
+            return Some(want.name.copy());
         }
     }
     None

@@ -4,6 +4,7 @@ ghost use Rattle.mpe_segmenter.specs.Faults.{mains, MainBodies};
 
 use spl_branch::Module;
 use spl_tree::Name;
+use std::alloc::AllocError;
 
 /// Why no program can be made of modules. The first that holds is answered, in this order.
 #[derive(Debug, PartialEq, Eq, Drop)]
@@ -25,6 +26,17 @@ pub enum PrepFault {
     SegmentFull { segment: Name, words: u32 },
     /// Memory is wanting.
     NoMemory,
+}
+
+impl From<AllocError> for PrepFault {
+    ghost use Rattle.std.specs.Prelude.{◌≡◌};
+    ghost use Rattle.mpe_segmenter.specs.declared.faults.PrepFault.TheVariants as variants;
+
+    ghost from_gives = { λ _ e. e ≡ variants.NoMemory };
+
+    fn from(_e: AllocError) -> PrepFault {
+        PrepFault::NoMemory
+    }
 }
 
 /// What is wrong with the number of main bodies.

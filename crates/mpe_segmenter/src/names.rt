@@ -1,10 +1,8 @@
 //! Names by their letters, each once, numbered in order of first use.
-ghost use Rattle.std.specs.Prelude.{◌≡◌, ◌≤◌, ◌<◌, [], length, map, IfOk};
-ghost use Rattle.mpe_segmenter.specs.Names.{segment_names, number_of, segment_of};
+ghost use Rattle.std.specs.Prelude.{◌≡◌, ◌≤◌};
 
 use arrayvec::ArrayVec;
 use indexmap::IndexSet;
-use spl_branch::Module;
 use spl_tree::Name;
 use std::alloc::{AllocError, Global};
 use std::marker::Model;
@@ -63,18 +61,4 @@ impl Names {
         let (number, _) = self.names.insert_full(text)?;
         Ok(number)
     }
-}
-
-/// The names of the segments of modules, in order of first use, and the number of each module's segment.
-pub fn numbered(alloc: Global, modules: &[Module]) -> Result<(Names, Vec<usize>), AllocError>
-    ensures names { IfOk result (λ r. r.0 ≡ segment_names modules.now) }
-    ensures numbers { IfOk result (λ r. r.1.items ≡ map (λ m. number_of (segment_names modules.now) (segment_of m)) modules.now) }
-{
-    let mut names = Names::new(alloc);
-    let mut numbers = Vec::with_capacity(alloc, modules.len())?;
-    for module in modules {
-        let number = names.number(&module.segment)?;
-        numbers.push(number)?;
-    }
-    Ok((names, numbers))
 }

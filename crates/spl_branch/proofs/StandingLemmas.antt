@@ -60,7 +60,7 @@ lies_behind segment base entries o o' ws rest fs gs e free lies j w h =
     ∙ ap (λ o. Some (put_in base entries o w)) (free (o' + j) (omega arith))
 
 -- a place on the right has a stack operation
-left_unless : (p : Spot) (o : Op) → Waits p o → (o.code == 0) ≡ true → p.right ≡ false
+pub left_unless : (p : Spot) (o : Op) → Waits p o → (o.code == 0) ≡ true → p.right ≡ false
 left_unless p o waits e = go p.right refl where
   go : (b : Bool) → p.right ≡ b → p.right ≡ false
   go true h = absurd (false≢true (sym (waits h) ∙ e))
@@ -84,7 +84,7 @@ past_waits (i.OnCode mask back d) p next h = absurd (false≢true h)
 past_waits (i.Loop modify back d) p next h = absurd (false≢true h)
 past_waits (i.Illegal w) p next h = absurd (false≢true h)
 
-next_waits : (x : Piece) (marks : ℕ → ℕ) (p : Spot) (next : Op) → Waits p (operation x) → Waits (after marks p x next) next
+pub next_waits : (x : Piece) (marks : ℕ → ℕ) (p : Spot) (next : Op) → Waits p (operation x) → Waits (after marks p x next) next
 next_waits (Do by) marks p next w h = past_waits by p next h
 next_waits (Literal v) marks p next w h = absurd (false≢true h)
 next_waits (Place l) marks p next w h = absurd (false≢true h)
@@ -130,7 +130,7 @@ instr_start (i.OnCode mask back d) p next w = rw (left_unless p (op 0) w refl) (
 instr_start (i.Loop modify back d) p next w = rw (left_unless p (op 0) w refl) (omega arith)
 instr_start (i.Illegal v) p next w = rw (left_unless p (op 0) w refl) (omega arith)
 
-next_start : (x : Piece) (marks : ℕ → ℕ) (p : Spot) (next : Op) → Waits p (operation x) → start_of (after marks p x next) ≡ start_of p + length (piece_words marks p x next)
+pub next_start : (x : Piece) (marks : ℕ → ℕ) (p : Spot) (next : Op) → Waits p (operation x) → start_of (after marks p x next) ≡ start_of p + length (piece_words marks p x next)
 next_start (Do by) marks p next w = instr_start by p next w
 next_start (Literal v) marks p next w = rw (left_unless p (op 0) w refl) (omega arith)
 next_start (Place l) marks p next w = rw (left_unless p (op 0) w refl) (omega arith)
@@ -429,7 +429,7 @@ pub length-words_of : (ps : List Piece) (marks : ℕ → ℕ) (p : Spot) → Wai
 length-words_of [] marks p w = omega arith
 length-words_of (x ∷ ps) marks p w = omega (arith, length-words_of ps marks (after marks p x (ahead ps)) (next_waits x marks p (ahead ps) w), next_start x marks p (ahead ps) w, length-append (piece_words marks p x (ahead ps)) (words_of marks (after marks p x (ahead ps)) ps))
 
-no_wait : (o : Op) → Waits (at_left 0) o
+pub no_wait : (o : Op) → Waits (at_left 0) o
 no_wait o e = absurd (false≢true e)
 
 pub length-words : (ps : List Piece) (marks : ℕ → ℕ) → length (words_of marks (at_left 0) ps) ≡ (end_of marks (at_left 0) ps).offset

@@ -4,6 +4,7 @@ pub mod Codes
 pub mod Branches
 pub mod Stands
 pub mod Fixes
+pub mod Kept
 pub mod Modules
 pub mod Words
 pub mod Rounds

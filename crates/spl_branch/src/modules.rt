@@ -1,4 +1,8 @@
 //! Finished code: the words of a unit in a segment, with what the segmenter puts into them and what it must know of them.
+ghost use Rattle.std.specs.Prelude.{◌≡◌, true, length};
+ghost use Rattle.std.specs.List.{list_all};
+ghost use Rattle.spl_branch.specs.Kept.{is_sized, rises, has_aim};
+
 use spl_tree::{At, Name};
 
 /// What a fix waits for.
@@ -70,4 +74,7 @@ pub struct Module {
     pub main: Option<u16>,
     /// In order of text.
     pub starts: Vec<Start>,
+    pub ghost sized: { is_sized size (length words.items) ≡ true },
+    pub ghost in_order: { rises 0 (length words.items) fixes.items ≡ true },
+    pub ghost aimed: { list_all (has_aim (length defines.items) (length wants.items)) fixes.items ≡ true },
 }
