@@ -9,11 +9,8 @@ use std::test::Fail;
 /// Each text breaks this rule first, at this line and column.
 fn compare(rt: &impl Abort, alloc: Global, cases: &[(&str, u8, u32, u32)]) -> Result<(), Fail> {
     for (text, rule, line, column) in cases {
-        let told = one(alloc, text);
-        assert!(rt;
-            told == Told::Rule(*rule, 1, *line, *column),
-            "{text} {told:?}"
-        );
+        let told = one(alloc, text.as_bytes());
+        assert!(rt; told == Told::Rule(*rule, 1, *line, *column), "{text}");
     }
     Ok(())
 }
@@ -329,7 +326,7 @@ fn the_first_of_several(rt: HostRuntime) -> Result<(), Fail> {
 #[test]
 fn sound_units(rt: HostRuntime) -> Result<(), Fail> {
     for text in &SOUND {
-        assert!(rt; one(rt.alloc(), text) == Told::Sound, "{text}");
+        assert!(rt; one(rt.alloc(), text.as_bytes()) == Told::Sound, "{text}");
     }
     Ok(())
 }
@@ -360,7 +357,10 @@ static OF_TWO: [(&str, &str, Told); 4] = [
 #[test]
 fn programs_of_two_units(rt: HostRuntime) -> Result<(), Fail> {
     for (first, second, wanted) in &OF_TWO {
-        assert!(rt; two(rt.alloc(), first, second) == *wanted, "{first}");
+        assert!(rt;
+            two(rt.alloc(), first.as_bytes(), second.as_bytes()) == *wanted,
+            "{first}"
+        );
     }
     Ok(())
 }

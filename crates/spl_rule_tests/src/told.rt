@@ -19,10 +19,9 @@ pub enum Told {
 const MOST_BYTES: usize = 1_048_576;
 
 /// The unit that a text spells, with this number.
-fn unit(alloc: Global, text: &str, number: u8) -> Result<SplUnit, UnitFault>
+fn unit(alloc: Global, bytes: &[u8], number: u8) -> Result<SplUnit, UnitFault>
     ensures { IfOk result (λ u. Spelled number (source_of u)) }
 {
-    let bytes = text.as_bytes();
     if bytes.len() > MOST_BYTES {
         return Err(UnitFault::NoMemory);
     }
@@ -42,7 +41,7 @@ fn checked(alloc: Global, units: Vec<SplUnit>) -> Told
 }
 
 /// What the checker tells of one unit.
-pub fn one(alloc: Global, text: &str) -> Told {
+pub fn one(alloc: Global, text: &[u8]) -> Told {
     match unit(alloc, text, 1) {
         Ok(unit) => match vec![in alloc; unit] {
             Ok(units) => checked(alloc, units),
@@ -53,7 +52,7 @@ pub fn one(alloc: Global, text: &str) -> Told {
 }
 
 /// What the checker tells of two units.
-pub fn two(alloc: Global, first: &str, second: &str) -> Told {
+pub fn two(alloc: Global, first: &[u8], second: &[u8]) -> Told {
     match (unit(alloc, first, 1), unit(alloc, second, 2)) {
         (Ok(first), Ok(second)) => match vec![in alloc; first, second] {
             Ok(units) => checked(alloc, units),
