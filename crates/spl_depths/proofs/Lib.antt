@@ -1,0 +1,3 @@
+pub mod WordWalks
+pub mod Walks
+pub mod StatementWalks

@@ -1,0 +1,9 @@
+//! The words that wait while parts of bodies are worked out: the depths of bodies, and how far beneath the top names are used.
+#![tactic(auto)]
+
+mod depths;
+mod effects;
+mod expressions;
+mod words;
+
+pub use depths::{depth, statement, subroutine_depth};
