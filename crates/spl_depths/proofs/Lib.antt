@@ -1,3 +1,5 @@
 pub mod WordWalks
+pub mod PlaceWalks
 pub mod Walks
 pub mod StatementWalks
+pub mod UseWalks

@@ -1,5 +1,5 @@
 -- Loops over statements: what waits from one of them on. And the tree of an IF, without and with an ELSE.
-use Rattle.std.proofs.Common.{◌≡◌, ◌<◌, ◌≤◌, ℕ, ◌+◌, max, List, [], ◌∷◌, map, drop, length, get_or, refl, ap, sym, ◌∙◌, Some, None, Box, Global, arith}
+use Rattle.std.proofs.Common.{◌≡◌, ◌<◌, ◌≤◌, ℕ, ◌+◌, max, List, [], ◌∷◌, map, drop, length, get_or, ap, sym, ◌∙◌, Some, None, Box, Global, arith}
 use Rattle.spl_tree.specs.declared.names_and_places.At.{At}
 use Rattle.spl_tree.specs.declared.statements.Test.{Test}
 use Rattle.spl_tree.specs.declared.statements.Stmt.{Stmt}

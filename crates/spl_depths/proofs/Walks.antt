@@ -1,8 +1,8 @@
 -- Loops over arguments: what waits from one of them on.
-use Rattle.std.proofs.Common.{◌≡◌, ◌<◌, ◌≤◌, ℕ, ◌+◌, max, List, [], ◌∷◌, map, drop, length, get_or, refl, arith}
+use Rattle.std.proofs.Common.{◌≡◌, ◌<◌, ◌≤◌, ℕ, ◌+◌, max, List, map, drop, length, get_or, arith}
 use Rattle.spl_tree.specs.declared.expressions.Expr.{Expr}
 use Rattle.spl_tree.specs.Views as view
-use Rattle.spl_tree.specs.Trees.{Tree, Trees, trees, and, none}
+use Rattle.spl_tree.specs.Trees.{Tree, trees, and, none}
 use Rattle.spl_meaning.specs.Names.{Names, Formal}
 use Rattle.spl_meaning.specs.Pending.{most, most_of, first_formal, other_formals, argument_words}
 use Rattle.spl_depths.proofs.WordWalks.{onward, onward_end}

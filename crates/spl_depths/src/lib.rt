@@ -4,6 +4,12 @@
 mod depths;
 mod effects;
 mod expressions;
+mod full;
+mod reach;
+mod uses;
 mod words;
 
 pub use depths::{depth, statement, subroutine_depth};
+pub use full::{FirstFull, Full};
+pub use reach::Reach;
+pub use uses::{Inside, expression};
