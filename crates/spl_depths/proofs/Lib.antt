@@ -3,3 +3,4 @@ pub mod PlaceWalks
 pub mod Walks
 pub mod StatementWalks
 pub mod UseWalks
+pub mod FlowWalks

@@ -7,7 +7,7 @@ ghost use Rattle.spl_meaning.specs.Pending as pending;
 ghost use Rattle.spl_sorts.specs.Tables.{names_of};
 ghost use Rattle.spl_depths.specs.Parts as parts;
 
-use crate::effects::{effect, step, target, tested, waiting};
+use crate::effects::{effect, step, target, tested, waiting_for};
 use crate::expressions::{call, measure};
 use crate::words::{larger, plus};
 use spl_sorts::Names;
@@ -38,7 +38,7 @@ fn simple(names: &Names<'_>, statement: &Stmt) -> Result<u64, AllocError>
 {
     match statement {
         Stmt::Assign { to, value, .. } => {
-            let value = waiting(to, measure(names, value)?.most)?;
+            let value = waiting_for(to, measure(names, value)?.most)?;
             Ok(larger(target(names, to)?, value))
         }
         Stmt::AssignEffect {
@@ -46,7 +46,7 @@ fn simple(names: &Names<'_>, statement: &Stmt) -> Result<u64, AllocError>
             effect: from,
             ..
         } => {
-            let value = waiting(to, effect(names, true, from)?)?;
+            let value = waiting_for(to, effect(names, true, from)?)?;
             Ok(larger(target(names, to)?, value))
         }
         Stmt::Do(what, _) => effect(names, false, what),

@@ -22,7 +22,7 @@ fn behind_index(r: &Ref, words: u64) -> Result<u64, AllocError>
 }
 
 /// What waits behind so many words while the value for a target is worked out.
-pub fn waiting(to: &Target, words: u64) -> Result<u64, AllocError>
+pub fn waiting_for(to: &Target, words: u64) -> Result<u64, AllocError>
     ensures { IfOk result (λ most. most ≡ pending.waiting (view.target_tree to.now) words) }
 {
     match to {

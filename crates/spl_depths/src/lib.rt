@@ -4,12 +4,14 @@
 mod depths;
 mod effects;
 mod expressions;
+mod flow;
 mod full;
+mod parts;
 mod reach;
 mod uses;
 mod words;
 
-pub use depths::{depth, statement, subroutine_depth};
+pub use depths::{depth, subroutine_depth};
+pub use flow::statement;
 pub use full::{FirstFull, Full};
 pub use reach::Reach;
-pub use uses::{Inside, expression};
