@@ -4,3 +4,5 @@ pub mod Walks
 pub mod StatementWalks
 pub mod UseWalks
 pub mod FlowWalks
+pub mod ReachLaws
+pub mod PassingWalks

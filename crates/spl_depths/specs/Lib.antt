@@ -4,3 +4,4 @@ pub mod Fulls
 pub mod Reach
 pub mod Reached
 pub mod Places
+pub mod ReachLaws

@@ -6,12 +6,14 @@ mod effects;
 mod expressions;
 mod flow;
 mod full;
+mod laws;
 mod parts;
 mod reach;
+mod subroutines;
 mod uses;
 mod words;
 
 pub use depths::{depth, subroutine_depth};
-pub use flow::statement;
 pub use full::{FirstFull, Full};
-pub use reach::Reach;
+pub use laws::first_use_is_found;
+pub use subroutines::{heading_limits, subroutine_limits};

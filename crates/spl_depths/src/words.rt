@@ -1,5 +1,5 @@
 //! The words of values, parameters, results and links.
-ghost use Rattle.std.specs.Prelude.{◌≡◌, ◌+◌, max, IfOk, map, option_map};
+ghost use Rattle.std.specs.Prelude.{◌≡◌, ◌≤◌, ◌+◌, max, IfOk, map, option_map};
 ghost use Rattle.spl_meaning.specs.Kinds as kinds;
 ghost use Rattle.spl_meaning.specs.Pending as pending;
 ghost use Rattle.spl_sorts.specs.Profiles.{formal_of, profile_of};
@@ -34,7 +34,8 @@ pub fn larger(a: u64, b: u64) -> u64
 
 /// The words of a value of a kind.
 fn width(kind: Kind) -> u64
-    ensures { result ≡ kinds.width kind }
+    ensures value { result ≡ kinds.width kind }
+    ensures few { result ≤ 2 }
 {
     match kind {
         Kind::Double => 2,
@@ -54,7 +55,8 @@ pub fn operand_width(value: Operand) -> u64
 
 /// The words of a parameter: those of its kind by value, and one by reference.
 pub fn formal_words(formal: &Formal) -> u64
-    ensures { result ≡ pending.formal_words (formal_of formal.now) }
+    ensures value { result ≡ pending.formal_words (formal_of formal.now) }
+    ensures few { result ≤ 2 }
 {
     match formal.kind {
         None => 1,
@@ -86,7 +88,8 @@ pub fn formals_words(formals: &[Formal]) -> Result<u64, AllocError>
 
 /// The words of a result, where there is one.
 pub fn result_words(profile: &Profile) -> u64
-    ensures { result ≡ pending.result_words (profile_of profile.now) }
+    ensures value { result ≡ pending.result_words (profile_of profile.now) }
+    ensures few { result ≤ 2 }
 {
     match profile.result {
         None => 0,
