@@ -6,3 +6,4 @@ pub mod UseWalks
 pub mod FlowWalks
 pub mod ReachLaws
 pub mod PassingWalks
+mod KnownReach
