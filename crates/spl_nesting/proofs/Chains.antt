@@ -1,24 +1,20 @@
 -- A chain of open productions to some part, with at least so many constructs open.
-use Rattle.std.proofs.Common.{◌≡◌, ◌≤◌, ℕ, ◌+◌, suc, max, Bool, true, false, List, refl, ap, arith}
-use Rattle.std.specs.Prelude.{nat_lt, ◌||◌, not}
+use Rattle.std.proofs.Common.{◌≡◌, ◌≤◌, ℕ, ◌+◌, suc, max, Bool, true, false, List, refl, arith}
+use Rattle.std.specs.Prelude.{nat_lt}
 use Rattle.std.proofs.lemmas.Bool.{ltb-true, ltb-false}
 use Rattle.spl_tree.specs.Symbols.{Lexeme}
-use Rattle.spl_tree.specs.Trees.{Tree}
 use Rattle.spl_tree.specs.StatementTrees as stat
 use Rattle.spl_tree.specs.StatementTrees.{statements}
 use Rattle.spl_tree.specs.Statements as st
 use Rattle.spl_tree.specs.DeclarationTrees as decl
 use Rattle.spl_tree.specs.DeclarationTrees.{declarations}
-use Rattle.spl_tree.specs.Declarations as dl
-use Rattle.spl_tree.specs.Declarations.{can_be_body, is_subroutine}
 use Rattle.spl_tree.specs.Units.{Unit_of}
-use Rattle.spl_tree.specs.Units as un
 use Rattle.spl_tree.specs.Parts as part
 use Rattle.spl_tree.specs.Parts.{Part}
 use Rattle.spl_tree.specs.OpenExpressions.{Step, Opens, here, inner, of_statement, of_declaration}
 use Rattle.spl_tree.specs.OpenStatements.{StatementStep}
-use Rattle.spl_tree.specs.OpenDeclarations.{DeclarationStep, is_begin, begins_block}
-use Rattle.spl_nesting.specs.Nesting.{nested, nested_among, most_in, most_in_all, most_in_unit}
+use Rattle.spl_nesting.specs.Nesting.{nested, nested_among, most_in_unit}
+use Rattle.spl_nesting.proofs.Bodies.{Goes, unit_goes}
 
 pub record Deep (p : Part) (d : ℕ) (ts : List Lexeme) (n : ℕ) : Type 0 where
   pub part : Part
@@ -79,85 +75,20 @@ mutual
       (along (of_statement StatementStep.first_statement) (statement_deep x d) (omega arith))
       (along (of_statement (StatementStep.next_statement x k)) (statements_deep xs d) (omega arith))
 
--- ---- declarations and bodies
+-- in all bodies of a unit
+deep_at : Part → List Lexeme → ℕ → Type 0
+deep_at p ts n = Deep p 0 ts n
 
--- a statement that can be a body does not begin with BEGIN
-reference_first : {r : Tree} {ts rest : List Lexeme} → st.Reference r ts rest → begins_block ts ≡ false
-reference_first (st.Reference.name i) = ap is_begin i
-reference_first (st.Reference.element i _ _ _) = ap is_begin i
+deep_goes : Goes deep_at nested_among
+unfolding deep_at
+deep_goes = record {
+  nothing = λ p ts. at_once p 0 ts;
+  behind = λ p q ts mid n s r. along (of_declaration s) r (omega arith);
+  both = λ p ts a b x y. either x y;
+  list = λ xs ts rest x. statements_deep x 0;
+  single = λ x ts rest y. less (statement_deep y 0) (omega arith);
+}
 
-target_first : {x : stat.Target} {ts rest : List Lexeme} → st.Target x ts rest → begins_block ts ≡ false
-target_first (st.Target.plain r) = reference_first r
-target_first (st.Target.field r _ _ _ _ _ _) = reference_first r
-target_first (st.Target.address i _) = ap is_begin i
-
-effect_first : {x : stat.Effect} {ts rest : List Lexeme} → st.Effect x ts rest → begins_block ts ≡ false
-effect_first (st.Effect.move i _ _ _) = ap is_begin i
-effect_first (st.Effect.scan_while i _ _ _) = ap is_begin i
-effect_first (st.Effect.scan_until i _ _ _) = ap is_begin i
-
-body_first : {x : stat.Statement} {ts rest : List Lexeme} → st.Statement x ts rest → can_be_body x ≡ true → begins_block ts ≡ false
-body_first st.Statement.empty e = cc
-body_first (st.Statement.labelled i _ _) e = ap is_begin i
-body_first (st.Statement.block i _ _) e = cc
-body_first (st.Statement.if_then i _ _ _) e = ap is_begin i
-body_first (st.Statement.if_else i _ _ _ _ _ _) e = ap is_begin i
-body_first (st.Statement.while_do i _ _ _) e = ap is_begin i
-body_first (st.Statement.do_until i _ _ _) e = ap is_begin i
-body_first (st.Statement.for_do i _ _ _ _ _ _ _ _) e = ap is_begin i
-body_first (st.Statement.case_of i _ _ _ _ _) e = ap is_begin i
-body_first (st.Statement.go i _) e = ap is_begin i
-body_first (st.Statement.go_to i _ _) e = ap is_begin i
-body_first (st.Statement.goto i _) e = ap is_begin i
-body_first (st.Statement.return i) e = ap is_begin i
-body_first (st.Statement.assign x _ _) e = target_first x
-body_first (st.Statement.assign_effect x _ _) e = target_first x
-body_first (st.Statement.effect x) e = effect_first x
-body_first (st.Statement.call i) e = ap is_begin i
-body_first (st.Statement.call_with i _ _ _) e = ap is_begin i
-
--- where a procedure stands, no subroutine came before
-first_of_all : (after : Bool) → (false || not after) ≡ true → after ≡ false
-first_of_all false e = refl
-first_of_all true e = cc
-
-mutual
-  declaration_deep : {u : Bool} {segment : ℕ} {x : decl.Declaration} {ts rest : List Lexeme} → dl.Declaration u segment x ts rest
-      → (after : Bool) → (is_subroutine x || not after) ≡ true → Deep (part.declaration u after) 0 ts (most_in nested_among x)
-  declaration_deep (dl.Declaration.simple _ _ _) after e = at_once _ 0 _
-  declaration_deep (dl.Declaration.array _ _ _ _) after e = at_once _ 0 _
-  declaration_deep (dl.Declaration.pointers_of _ _ _) after e = at_once _ 0 _
-  declaration_deep (dl.Declaration.equate _ _) after e = at_once _ 0 _
-  declaration_deep (dl.Declaration.intrinsic _ _) after e = at_once _ 0 _
-  declaration_deep (dl.Declaration.label _ _) after e = at_once _ 0 _
-  declaration_deep (dl.Declaration.forward _ _ _ _) after e = at_once _ 0 _
-  declaration_deep (dl.Declaration.external _ _ _ _) after e = at_once _ 0 _
-  declaration_deep (dl.Declaration.procedure h b) false e =
-      along (of_declaration (DeclarationStep.procedure_body h)) (body_deep b) (omega arith)
-  declaration_deep (dl.Declaration.procedure h b) true e = cc
-  declaration_deep (dl.Declaration.procedure_with h i o f g k b) false e =
-      along (of_declaration (DeclarationStep.options_body h i o f g k)) (body_deep b) (omega arith)
-  declaration_deep (dl.Declaration.procedure_with h i o f g k b) true e = cc
-  declaration_deep (dl.Declaration.subroutine h x) after e =
-      along (of_declaration (DeclarationStep.subroutine_statement h)) (statement_deep x 0) (omega arith)
-
-  declarations_deep : {u after : Bool} {segment : ℕ} {ds : List decl.Declaration} {ts rest : List Lexeme}
-      → dl.Declarations u after segment ds ts rest → Deep (part.declarations u after) 0 ts (most_in_all nested_among (declarations ds))
-  declarations_deep dl.Declarations.none = at_once _ 0 _
-  declarations_deep (dl.Declarations.more x e k ds) = either
-      (along (of_declaration DeclarationStep.declaration_of) (declaration_deep x _ e) (omega arith))
-      (along (of_declaration (DeclarationStep.next_declaration x e k)) (declarations_deep ds) (omega arith))
-
-  body_deep : {segment : ℕ} {ds : List decl.Declaration} {xs : List stat.Statement} {ts rest : List Lexeme} → dl.Body segment ds xs ts rest
-      → Deep part.body 0 ts (max (most_in_all nested_among (declarations ds)) (nested_among (statements xs)))
-  body_deep (dl.Body.block i ds xs z) = either
-      (along (of_declaration (DeclarationStep.body_declarations i)) (declarations_deep ds) (omega arith))
-      (along (of_declaration (DeclarationStep.body_statements i ds)) (statements_deep xs 0) (omega arith))
-  body_deep (dl.Body.single x e) =
-      along (of_declaration (DeclarationStep.body_statement (body_first x e))) (statement_deep x 0) (omega arith)
-
--- a unit
 pub unit_deep : {u : decl.UnitTree} {ts : List Lexeme} → Unit_of u ts → Deep part.unit 0 ts (most_in_unit nested_among u)
-unit_deep (un.Unit_of.unit i ds xs z d e) = either
-    (along (of_declaration (DeclarationStep.unit_declarations i)) (declarations_deep ds) (omega arith))
-    (along (of_declaration (DeclarationStep.unit_statements i ds)) (statements_deep xs 0) (omega arith))
+unfolding deep_at
+unit_deep w = unit_goes deep_at nested_among deep_goes w
