@@ -6,4 +6,5 @@ pub mod UseWalks
 pub mod FlowWalks
 pub mod ReachLaws
 pub mod PassingWalks
+pub mod HeadingLaws
 mod KnownReach

@@ -23,7 +23,7 @@ some_words f = by (by_value f) f.kind
     by false k = refl
 
 -- a parameter more
-counted : (limit most before : ℕ) (f : n.Formal) (fs : List n.Formal)
+pub counted : (limit most before : ℕ) (f : n.Formal) (fs : List n.Formal)
     → passing limit most before (parameter_sizes (f ∷ fs))
     ≡ (if nat_lt most (before + formal_words f) then record { limit = limit; at = f.at; count = before + formal_words f } ∷ []
     else passing limit most (before + formal_words f) (parameter_sizes fs))

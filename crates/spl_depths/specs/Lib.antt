@@ -5,3 +5,4 @@ pub mod Reach
 pub mod Reached
 pub mod Places
 pub mod ReachLaws
+pub mod HeadingLaws

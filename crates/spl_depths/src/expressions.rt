@@ -27,15 +27,20 @@ pub struct Measured {
 }
 
 impl Measured {
+    /// What is this, with so many words.
+    fn new(operand: Operand, most: u64) -> Measured
+        ensures operand { result.operand ≡ operand }
+        ensures most { result.most ≡ most }
+    {
+        Measured { operand, most }
+    }
+
     /// A value of a kind.
     fn of(kind: Kind, most: u64) -> Measured
         ensures operand { operand_of result.operand ≡ kinds.of kind }
         ensures most { result.most ≡ most }
     {
-        Measured {
-            operand: Operand::Of(kind),
-            most,
-        }
+        Measured::new(Operand::Of(kind), most)
     }
 }
 
@@ -92,18 +97,14 @@ pub fn measure(names: &Names<'_>, e: &Expr) -> Result<Measured, AllocError>
     ensures most { IfOk result (λ m. m.most ≡ pending.most (names_of names.now) (view.expression e.now)) }
 {
     match e {
-        Expr::Number(_) | Expr::Text(_) | Expr::Truth(_) => Ok(Measured {
-            operand: Operand::Constant,
-            most: 0,
-        }),
+        Expr::Number(_) | Expr::Text(_) | Expr::Truth(_) => {
+            Ok(Measured::new(Operand::Constant, 0))
+        }
         Expr::Wide(_) => Ok(Measured::of(Kind::Double, 0)),
         Expr::Named { name, args, .. } => {
             let sort = names.find(name);
             let most = call(names, sort, args)?;
-            Ok(Measured {
-                operand: Operand::named(sort),
-                most,
-            })
+            Ok(Measured::new(Operand::named(sort), most))
         }
         Expr::Address { index: None, .. } => Ok(Measured::of(Kind::Logical, 0)),
         Expr::Address {
@@ -112,10 +113,7 @@ pub fn measure(names: &Names<'_>, e: &Expr) -> Result<Measured, AllocError>
         } => Ok(Measured::of(Kind::Logical, measure(names, index)?.most)),
         Expr::Unary { op, of, .. } => {
             let value = measure(names, of)?;
-            Ok(Measured {
-                operand: value.operand.unary(*op),
-                most: value.most,
-            })
+            Ok(Measured::new(value.operand.unary(*op), value.most))
         }
         Expr::Binary {
             op,
@@ -126,14 +124,12 @@ pub fn measure(names: &Names<'_>, e: &Expr) -> Result<Measured, AllocError>
             let a = measure(names, left)?;
             let b = measure(names, right)?;
             let waiting = left_words(names, *op, left, right, a.operand);
-            Ok(Measured {
-                operand: a.operand.binary(*op, b.operand),
-                most: larger(a.most, plus(waiting, b.most)?),
-            })
+            let most = larger(a.most, plus(waiting, b.most)?);
+            Ok(Measured::new(a.operand.binary(*op, b.operand), most))
         }
         Expr::Shift { of, .. } | Expr::Field { of, .. } => {
             Ok(Measured::of(Kind::Logical, measure(names, of)?.most))
-        },
+        }
         Expr::Transfer { to, of, .. } => Ok(Measured::of(*to, measure(names, of)?.most)),
         Expr::Bytes {
             left,
@@ -143,9 +139,8 @@ pub fn measure(names: &Names<'_>, e: &Expr) -> Result<Measured, AllocError>
         } => {
             let a = reference(names, left)?;
             let b = plus(1, reference(names, right)?)?;
-            let bytes = plus(2, measure(names, count)?.most)?;
-            let most = larger(a, larger(b, bytes));
-            Ok(Measured::of(Kind::Logical, most))
+            let count = plus(2, measure(names, count)?.most)?;
+            Ok(Measured::of(Kind::Logical, larger(a, larger(b, count))))
         }
     }
 }

@@ -15,5 +15,5 @@ mod words;
 
 pub use depths::{depth, subroutine_depth};
 pub use full::{FirstFull, Full};
-pub use laws::first_use_is_found;
+pub use laws::{first_use_is_found, headings_have_few_words};
 pub use subroutines::{heading_limits, subroutine_limits};

@@ -78,21 +78,11 @@ pub fn expression(
             call(inside, name, *at, args, waiting, first)?;
             Ok(Operand::named(inside.names.find(name)))
         }
-        Expr::Address {
-            name,
-            index: None,
-            at,
-        } => {
+        Expr::Address { name, index, at } => {
             used(inside.reach, name, *at, waiting, false, first)?;
-            Ok(Operand::Of(Kind::Logical))
-        }
-        Expr::Address {
-            name,
-            index: Some(index),
-            at,
-        } => {
-            used(inside.reach, name, *at, waiting, false, first)?;
-            let _ = expression(inside, index, waiting, first)?;
+            if let Some(index) = index {
+                let _ = expression(inside, index, waiting, first)?;
+            }
             Ok(Operand::Of(Kind::Logical))
         }
         Expr::Unary { op, of, .. } => {
