@@ -4,3 +4,4 @@ pub mod NestingLaws
 pub mod HeightBounds
 pub mod HighChains
 pub mod HeightLaws
+mod KnownNesting
