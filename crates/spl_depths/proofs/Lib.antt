@@ -1,0 +1,10 @@
+pub mod WordWalks
+pub mod PlaceWalks
+pub mod Walks
+pub mod StatementWalks
+pub mod UseWalks
+pub mod FlowWalks
+pub mod ReachLaws
+pub mod PassingWalks
+pub mod HeadingLaws
+mod KnownReach

@@ -1,0 +1,28 @@
+-- A name that is not there goes last; another stays.
+use Rattle.std.proofs.Common.{rules, ◌≡◌, ◌∷◌, ◌++◌, [], List, ℕ, map, is_some, None, true, ap, ◌∙◌}
+use Rattle.std.proofs.lemmas.List.{map_push}
+use Rattle.arrayvec.specs.ArrayVec.{ArrayVec}
+use Rattle.indexmap.proofs.CallerLemmas.{insert_entry-new}
+use Rattle.spl_tree.specs.Views.{letters}
+use Rattle.spl_meaning.specs.Names.{Table, find}
+use Rattle.spl_found.proofs.OwnNames.{still, find_pushed}
+use Rattle.spl_depths.specs.Places.{entry_of, places_of}
+use Rattle.spl_depths.proofs.PlaceWalks.{equal_names, place_found}
+use Rattle.spl_depths.proofs.reach.Places.add.Goals as goal
+
+pub returns-in_ok-insert : goal.returns-in_ok-insert
+returns-in_ok-insert c =
+    let m = c.args.self.now.names in
+    let key = c.copy.result.text in
+    let none : find (places_of c.args.self.now) (letters c.args.name.now) ≡ None = search rules in
+    let absent = place_found m.entries key.items ∙ ap (find (places_of c.args.self.now)) c.copy.ensures ∙ none in
+    ap (λ (es : List (ArrayVec ℕ × ℕ)). find (map entry_of es))
+    (c.in_ok-insert.ensures.entries ∙ insert_entry-new equal_names m key c.args.words absent)
+    ∙ ap (λ (t : Table ℕ). find t) (map_push entry_of m.entries (key, c.args.words)
+    ∙ ap (λ (x : List ℕ). places_of c.args.self.now ++ (x, c.args.words) ∷ []) c.copy.ensures)
+    ∙ find_pushed (places_of c.args.self.now) (letters c.args.name.now) c.args.words
+
+pub returns-else-is_none : goal.returns-else-is_none
+returns-else-is_none c =
+    let there : is_some (find (places_of c.args.self.now) (letters c.args.name.now)) ≡ true = search rules in
+    still (places_of c.args.self.now) (letters c.args.name.now) c.args.words there

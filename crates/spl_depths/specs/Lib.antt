@@ -1,0 +1,8 @@
+pub mod Calls
+pub mod Parts
+pub mod Fulls
+pub mod Reach
+pub mod Reached
+pub mod Places
+pub mod ReachLaws
+pub mod HeadingLaws

@@ -1,0 +1,4 @@
+pub mod Nesting
+pub mod NestingLaws
+pub mod Heights
+pub mod HeightLaws
