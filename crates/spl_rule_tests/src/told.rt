@@ -1,5 +1,5 @@
 //! What the checker tells of texts.
-ghost use Rattle.std.specs.Prelude.{◌≡◌, length, map, IfOk};
+ghost use Rattle.std.specs.Prelude.{◌≡◌, ◌≤◌, length, map, IfOk};
 ghost use Rattle.spl_sound.specs.Spelled.{AreSpelled, Spelled, most_units, source_of};
 
 use spl_front::{UnitFault, read_unit};
@@ -41,6 +41,7 @@ fn checked(alloc: Global, units: Vec<SplUnit>) -> Told
 }
 
 /// What the checker tells of one unit.
+#[tactic(auto, using(crate::proofs::SpelledLists::spelled_lists))]
 pub fn one(alloc: Global, text: &[u8]) -> Told {
     match unit(alloc, text, 1) {
         Ok(unit) => match vec![in alloc; unit] {
@@ -52,6 +53,7 @@ pub fn one(alloc: Global, text: &[u8]) -> Told {
 }
 
 /// What the checker tells of two units.
+#[tactic(auto, using(crate::proofs::SpelledLists::spelled_lists))]
 pub fn two(alloc: Global, first: &[u8], second: &[u8]) -> Told {
     match (unit(alloc, first, 1), unit(alloc, second, 2)) {
         (Ok(first), Ok(second)) => match vec![in alloc; first, second] {
