@@ -1,0 +1,2 @@
+pub mod DataWalks
+pub mod CounterWalks
