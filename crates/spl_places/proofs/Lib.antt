@@ -1,2 +1,4 @@
 pub mod DataWalks
 pub mod CounterWalks
+pub mod HeldLaws
+pub mod CounterLaws

@@ -1,3 +1,5 @@
 pub mod Fulls
 pub mod ListedData
 pub mod Counters
+pub mod Held
+pub mod Passed
