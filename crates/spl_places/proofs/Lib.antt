@@ -2,3 +2,5 @@ pub mod DataWalks
 pub mod CounterWalks
 pub mod HeldLaws
 pub mod CounterLaws
+pub mod NameMapLemmas
+pub mod PlaceWalks

@@ -3,3 +3,5 @@ pub mod ListedData
 pub mod Counters
 pub mod Held
 pub mod Passed
+pub mod NameMaps
+pub mod Spots

@@ -20,7 +20,7 @@ pub enum Part {
 }
 
 /// The words of an item, where it is OWN as is asked.
-fn words(part: Part, own: bool, sort: &Sort) -> Result<u64, AllocError>
+pub fn counted_words(part: Part, own: bool, sort: &Sort) -> Result<u64, AllocError>
     ensures { IfOk result (λ words. words ≡ places.where_own own (part_words part) (sort_of sort.now)) }
 {
     if is_own(sort) != own {
@@ -88,7 +88,7 @@ impl Counter {
         ensures first { OnOk result (first.new ≡ found self.old (sizes own (part_words part) (map datum_of list.now)) first.old) }
     {
         for datum in list {
-            let words = words(part, own, &datum.sort)?;
+            let words = counted_words(part, own, &datum.sort)?;
             self.add(datum.at, words, first)?;
         }
         Ok(())
@@ -102,7 +102,7 @@ pub fn total(part: Part, own: bool, list: &[Datum]) -> Result<u64, AllocError>
 {
     let mut total = 0;
     for datum in list {
-        total = plus(total, words(part, own, &datum.sort)?)?;
+        total = plus(total, counted_words(part, own, &datum.sort)?)?;
     }
     Ok(total)
 }

@@ -5,10 +5,14 @@ mod counters;
 mod data;
 mod full;
 mod limits;
+mod name_maps;
+mod places;
 mod words;
 
 pub use counters::{Counter, Part, total};
 pub use data::{Datum, declarations};
 pub use full::{FirstFull, Full};
 pub use limits::{global_limits, local_limits};
+pub use name_maps::NameMap;
+pub use places::{Area, Array, ListPlaces, Place, Starts, list_places};
 pub use words::{array_words, elements, elements_words, is_own, item_words, plus};
