@@ -36,7 +36,7 @@ declaration_placed outer t (decl.Declaration.external h) = refl
 declaration_placed outer t (decl.Declaration.procedure h items ss) = refl
 declaration_placed outer t (decl.Declaration.subroutine h s) = refl
 
-map_both : {A B : Type 0} (f : A → B) (xs ys : List A) → map f (xs ++ ys) ≡ map f xs ++ map f ys
+pub map_both : {A B : Type 0} (f : A → B) (xs ys : List A) → map f (xs ++ ys) ≡ map f xs ++ map f ys
 map_both f [] ys = refl
 map_both f (x ∷ xs) ys = ap (λ zs. f x ∷ zs) (map_both f xs ys)
 

@@ -4,3 +4,4 @@ pub mod HeldLaws
 pub mod CounterLaws
 pub mod NameMapLemmas
 pub mod PlaceWalks
+pub mod ProgramLaws

@@ -5,3 +5,4 @@ pub mod Held
 pub mod Passed
 pub mod NameMaps
 pub mod Spots
+pub mod Programs

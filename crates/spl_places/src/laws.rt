@@ -1,0 +1,36 @@
+//! Laws of lists of declarations, for who lays out a program and who generates code.
+ghost use Rattle.std.specs.Prelude.{◌≡◌, ◌++◌, ℕ, List, map};
+ghost use Rattle.spl_tree.specs.DeclarationTrees.{Declarations};
+ghost use Rattle.spl_meaning.specs.Names.{Names, Sort, Table, find};
+ghost use Rattle.spl_meaning.specs.Tables.{Source, Routine, with_declarations, routine_table};
+ghost use Rattle.spl_meaning.specs.Places.{Place, places_from, arrays_from};
+ghost use Rattle.spl_meaning.specs.Bodies.{own_table};
+ghost use Rattle.spl_meaning.specs.Limits.{all_data, global_limits, local_limits};
+ghost use Rattle.spl_places.specs.ListedData.{list_data};
+ghost use Rattle.spl_places.specs.Counters.{entry};
+ghost use Rattle.spl_places.specs.Held.{held, named, NewNames};
+ghost use Rattle.spl_places.specs.Passed.{global_passed, local_passed};
+ghost use Rattle.spl_places.specs.Programs.{unit_items, routine_items, all_globals, all_locals, NewInUnit, NewInRoutine, NewInAll};
+
+/// The items of a list are all its data; and they are what its table holds, where each item's name is new.
+pub fn items_are_held()
+    ensures all { (outer : Names) (table : Table Sort) (ds : Declarations) → map entry (list_data outer (find table) ds) ≡ all_data outer table ds }
+    ensures table { (outer : Names) (table : Table Sort) (ds : Declarations) → NewNames outer table ds → held (with_declarations outer table ds) ≡ held table ++ map named (list_data outer (find table) ds) }
+{
+}
+
+/// The places of a list are those of its items, where each item's name is new.
+pub fn items_have_places()
+    ensures unit { (u : Source) (at : ℕ → Place) (own here : ℕ) → NewInUnit u → places_from at own here (own_table u) ≡ places_from at own here (map named (unit_items u)) }
+    ensures unit_arrays { (u : Source) (at : ℕ → Place) (own here : ℕ) → NewInUnit u → arrays_from at own here (own_table u) ≡ arrays_from at own here (map named (unit_items u)) }
+    ensures routine { (r : Routine) (at : ℕ → Place) (own here : ℕ) → NewInRoutine r → places_from at own here (routine_table r) ≡ places_from at own here (map named (routine_items r)) }
+    ensures routine_arrays { (r : Routine) (at : ℕ → Place) (own here : ℕ) → NewInRoutine r → arrays_from at own here (routine_table r) ≡ arrays_from at own here (map named (routine_items r)) }
+{
+}
+
+/// The limits of lists are those of their items, where each item's name is new.
+pub fn items_pass_limits()
+    ensures global { (us : List Source) → NewInAll us → global_limits us ≡ global_passed (all_globals us) (all_locals us) }
+    ensures local { (r : Routine) → NewInRoutine r → local_limits r ≡ local_passed (routine_items r) }
+{
+}
