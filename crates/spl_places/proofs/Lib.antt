@@ -5,3 +5,4 @@ pub mod CounterLaws
 pub mod NameMapLemmas
 pub mod PlaceWalks
 pub mod ProgramLaws
+pub mod ApartLaws

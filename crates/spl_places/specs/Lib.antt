@@ -6,3 +6,4 @@ pub mod Passed
 pub mod NameMaps
 pub mod Spots
 pub mod Programs
+pub mod Apart

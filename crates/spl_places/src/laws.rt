@@ -1,12 +1,13 @@
 //! Laws of lists of declarations, for who lays out a program and who generates code.
-ghost use Rattle.std.specs.Prelude.{◌≡◌, ◌++◌, ℕ, List, map};
+ghost use Rattle.std.specs.Prelude.{◌≡◌, ◌++◌, ◌+◌, ℕ, List, map, option_map, Some, true, false};
 ghost use Rattle.spl_tree.specs.DeclarationTrees.{Declarations};
-ghost use Rattle.spl_meaning.specs.Names.{Names, Sort, Table, find};
+ghost use Rattle.spl_meaning.specs.Names.{Names, Sort, Table, find, same_name};
 ghost use Rattle.spl_meaning.specs.Tables.{Source, Routine, with_declarations, routine_table};
-ghost use Rattle.spl_meaning.specs.Places.{Place, places_from, arrays_from};
+ghost use Rattle.spl_meaning.specs.Places.{Place, places_from, arrays_from, list_words};
 ghost use Rattle.spl_meaning.specs.Bodies.{own_table};
 ghost use Rattle.spl_meaning.specs.Limits.{all_data, global_limits, local_limits};
 ghost use Rattle.spl_places.specs.ListedData.{list_data};
+ghost use Rattle.spl_places.specs.Apart.{Spot, spots_from, place_at, Within, Apart};
 ghost use Rattle.spl_places.specs.Counters.{entry};
 ghost use Rattle.spl_places.specs.Held.{held, named, NewNames};
 ghost use Rattle.spl_places.specs.Passed.{global_passed, local_passed};
@@ -32,5 +33,15 @@ pub fn items_have_places()
 pub fn items_pass_limits()
     ensures global { (us : List Source) → NewInAll us → global_limits us ≡ global_passed (all_globals us) (all_locals us) }
     ensures local { (r : Routine) → NewInRoutine r → local_limits r ≡ local_passed (routine_items r) }
+{
+}
+
+/// Where an item of a list stands: a name's place is its item's; its words are among those of the list; and two items have no word in
+/// common, where both are OWN or neither is.
+pub fn items_stand_apart()
+    ensures place { (at : ℕ → Place) (own here : ℕ) (t : Table Sort) (x : List ℕ) → find (places_from at own here t) x ≡ option_map (place_at at) (find (spots_from own here t) x) }
+    ensures sort { (own here : ℕ) (t : Table Sort) (x : List ℕ) → find (held t) x ≡ option_map (λ p. p.sort) (find (spots_from own here t) x) }
+    ensures within { (own here : ℕ) (t : Table Sort) (x : List ℕ) (p : Spot) → find (spots_from own here t) x ≡ Some p → Within own (own + list_words true t) here (here + list_words false t) p }
+    ensures apart { (own here : ℕ) (t : Table Sort) (x y : List ℕ) (p q : Spot) → same_name x y ≡ false → p.own ≡ q.own → find (spots_from own here t) x ≡ Some p → find (spots_from own here t) y ≡ Some q → Apart p q }
 {
 }

@@ -13,7 +13,7 @@ mod words;
 pub use counters::{Counter, Part, total};
 pub use data::{Datum, declarations};
 pub use full::{FirstFull, Full};
-pub use laws::{items_are_held, items_have_places, items_pass_limits};
+pub use laws::{items_are_held, items_have_places, items_pass_limits, items_stand_apart};
 pub use limits::{global_limits, local_limits};
 pub use name_maps::NameMap;
 pub use places::{Area, Array, ListPlaces, Place, Starts, list_places};
