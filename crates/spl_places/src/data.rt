@@ -53,8 +53,8 @@ fn shaped(names: &Names<'_>, form: Data, shape: &Shape) -> Sort
     }
 }
 
-/// The same, in a list.
-fn shaped_here(outer: &Table, here: &Table, form: Data, shape: &Shape) -> Sort
+/// What an item stands for in a list, with the names outside it.
+pub fn shaped_here(outer: &Table, here: &Table, form: Data, shape: &Shape) -> Sort
     ensures { sort_of result ≡ t.shaped (over (find (table_of here.now)) (find (table_of outer.now))) form.own form.kind (shape_tree shape.now) }
 {
     shaped(&seen(here, outer), form, shape)
@@ -91,8 +91,8 @@ fn items(
     Ok(())
 }
 
-/// Declares what a declaration other than of data does. That it breaks no rule was checked before.
-fn other(
+/// Declares what a declaration does. That it breaks no rule was checked before.
+pub fn declare_all(
     alloc: Global,
     outer: &Table,
     here: &mut Table,
@@ -139,7 +139,7 @@ fn declaration(
         | Decl::Forward(_)
         | Decl::External(_)
         | Decl::Procedure(..)
-        | Decl::Subroutine(..) => other(alloc, outer, here, declaration),
+        | Decl::Subroutine(..) => declare_all(alloc, outer, here, declaration),
     }
 }
 

@@ -11,7 +11,7 @@ mod places;
 mod words;
 
 pub use counters::{Counter, Part, total};
-pub use data::{Datum, declarations};
+pub use data::{Datum, constant_or_zero, declarations, declare_all, shaped_here};
 pub use full::{FirstFull, Full};
 pub use laws::{items_are_held, items_have_places, items_pass_limits, items_stand_apart};
 pub use limits::{global_limits, local_limits};
