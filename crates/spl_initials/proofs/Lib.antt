@@ -1,3 +1,4 @@
 pub mod MemoryLemmas
 pub mod ValueWalks
 pub mod CellWalks
+pub mod InitialWalks

@@ -2,9 +2,11 @@
 #![tactic(auto)]
 
 mod cells;
+mod initials;
 mod memory;
 mod values;
 
-pub use cells::{global_address, put_cells};
+pub use cells::{array_named, global_address, place_named, put_cells};
+pub use initials::put_initials;
 pub use memory::{put_byte, store, word_at};
 pub use values::{put_constants, put_value};
