@@ -1,5 +1,5 @@
 -- The items of a list stand one behind the other.
-use Rattle.std.proofs.Common.{ℕ, ◌≡◌, ◌≤◌, ◌⊎◌, ◌+◌, Bool, true, false, nat_lt, List, [], ◌∷◌, ◌++◌, Option, Some, None, refl, sym, ap, ◌∙◌, subst, inl, inr, arith}
+use Rattle.std.proofs.Common.{ℕ, ◌≡◌, ◌≤◌, ◌⊎◌, ◌+◌, Bool, true, false, nat_lt, List, [], ◌∷◌, ◌++◌, Option, Some, refl, sym, ap, ◌∙◌, subst, inl, inr, arith}
 use Rattle.std.specs.Prelude.{if◌then◌else◌, option_map}
 use Rattle.std.specs.Cmp.Lexicographic.{same_text}
 use Rattle.spl_meaning.specs.Names as n
@@ -107,8 +107,8 @@ within o h (e ∷ t) x p is =
     let l = list_words true t in
     let m = list_words false t in
     elim (split (nat_lt 0 (item_words e.1)) x e.0 (spot o h e.1) p (spots_from (o + w) (h + v) t) is)
-        as (λ _. Within o (o + (w + l)) h (h + (v + m)) p) [
-      inl found ↦ subst (λ (q : Spot). Within o (o + (w + l)) h (h + (v + m)) q) found.0 (head_by o h e.1 l m (is_own e.1))
+    as (λ _. Within o (o + (w + l)) h (h + (v + m)) p) [
+      | inl found ↦ subst (λ (q : Spot). Within o (o + (w + l)) h (h + (v + m)) q) found.0 (head_by o h e.1 l m (is_own e.1))
       | inr found ↦ within_after o h w v l m p (within (o + w) (h + v) t x p found)
     ]
 
@@ -137,12 +137,12 @@ apart o h (e ∷ t) x y p q differ own px qy =
     let rest = spots_from (o + w) (h + v) t in
     let there = nat_lt 0 (item_words e.1) in
     elim (split there x e.0 (spot o h e.1) p rest px) as (λ _. Apart p q) [
-      inl fx ↦ elim (split there y e.0 (spot o h e.1) q rest qy) as (λ _. Apart p q) [
-        inl fy ↦ absurd (not_both x y e.0 differ fx.1 fy.1)
+      | inl fx ↦ elim (split there y e.0 (spot o h e.1) q rest qy) as (λ _. Apart p q) [
+        | inl fy ↦ absurd (not_both x y e.0 differ fx.1 fy.1)
         | inr fy ↦ inl (first_apart o h _ _ e.1 p q (within (o + w) (h + v) t y q fy) fx.0 own)
       ]
       | inr fx ↦ elim (split there y e.0 (spot o h e.1) q rest qy) as (λ _. Apart p q) [
-        inl fy ↦ inr (first_apart o h _ _ e.1 q p (within (o + w) (h + v) t x p fx) fy.0 (sym own))
+        | inl fy ↦ inr (first_apart o h _ _ e.1 q p (within (o + w) (h + v) t x p fx) fy.0 (sym own))
         | inr fy ↦ apart (o + w) (h + v) t x y p q differ own fx fy
       ]
     ]

@@ -10,9 +10,8 @@ use Rattle.spl_meaning.specs.Names.{Names, Sort, Table, find, within, profile_of
 use Rattle.spl_meaning.specs.Tables.{declared, shaped, intrinsic_sort, with_items, with_equates, with_intrinsics, with_labels, with_declaration, with_declarations}
 use Rattle.spl_meaning.specs.Places.{only}
 use Rattle.spl_meaning.specs.Limits.{sorted_items, data_of, all_data}
-use Rattle.spl_found.specs.OwnNames.{with_name}
 use Rattle.spl_found.proofs.OwnNames.{find_declared, find_declaration}
-use Rattle.spl_places.specs.ListedData.{Datum, items_data, declaration_data, list_data}
+use Rattle.spl_places.specs.ListedData.{items_data, declaration_data, list_data}
 use Rattle.spl_places.specs.Counters.{entry}
 use Rattle.spl_places.specs.Held.{is_data, held, named, NewItems, NewIn, NewNames}
 

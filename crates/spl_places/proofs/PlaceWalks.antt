@@ -1,10 +1,9 @@
 -- A loop over the items of a list: where those from one on stand.
-use Rattle.std.proofs.Common.{◌≡◌, ◌<◌, ◌≤◌, ℕ, ◌+◌, Bool, true, false, nat_lt, List, [], ◌∷◌, ◌++◌, map, drop, length, get_or, Option, refl, ap, sym, ◌∙◌}
+use Rattle.std.proofs.Common.{◌≡◌, ◌<◌, ◌≤◌, ℕ, ◌+◌, Bool, true, false, nat_lt, List, ◌++◌, map, drop, length, get_or, Option, refl, ◌∙◌}
 use Rattle.std.specs.Prelude.{if◌then◌else◌}
 use Rattle.spl_tree.specs.Views.{letters}
 use Rattle.spl_meaning.specs.Names as n
 use Rattle.spl_meaning.specs.Names.{Sort, Table, find}
-use Rattle.spl_meaning.specs.Places as p
 use Rattle.spl_meaning.specs.Places.{Place, Array, is_own, item_words, array_words, where_own, only, place_of, array_at, places_from, arrays_from}
 use Rattle.spl_sorts.specs.Sorts.{sort_of}
 use Rattle.spl_lists.proofs.NameWalks.{onward, onward_end}

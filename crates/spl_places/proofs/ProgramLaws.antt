@@ -9,7 +9,7 @@ use Rattle.spl_meaning.specs.Names.{Sort, Table, Formal, find, nothing_declared,
 use Rattle.spl_meaning.specs.Tables.{Source, Routine, unit_table, outer_names, routine_table}
 use Rattle.spl_meaning.specs.Places.{Place, Array, is_own, item_words, array_words, where_own, sum, list_words, list_array_words, only, place_of, array_at, places_from, arrays_from}
 use Rattle.spl_meaning.specs.Bodies.{own_table, all_routines, global_words, own_words, primary_words}
-use Rattle.spl_meaning.specs.Limits.{Full, Sized, passing, sized, joined, unit_data, routine_data, all_data, global_limits, local_limits, most_primary, most_locals, most_data}
+use Rattle.spl_meaning.specs.Limits.{Sized, passing, sized, joined, unit_data, routine_data, all_data, global_limits, local_limits, most_primary, most_locals, most_data}
 use Rattle.spl_places.specs.ListedData.{Datum, list_data}
 use Rattle.spl_places.specs.Counters.{entry, sizes, total_words}
 use Rattle.spl_places.specs.Held.{is_data, held, named}
@@ -226,11 +226,11 @@ pub global_is : (us : List Source) → NewInAll us → global_limits us ≡ glob
 global_is us new =
     let words = ap (λ (m : ℕ). m + own_words us) (unit_totals us new.0) ∙ ap (λ (m : ℕ). total_words false item_words (all_globals us) + m) (routine_totals (all_routines us) new.1) in
     let items = ap (λ (xs : List Sized). xs ++ joined (λ r. sized true item_words (routine_data r)) (all_routines us)) (unit_sizes item_words us)
-        ∙ ap (λ (ys : List Sized). sizes false item_words (all_globals us) ++ ys) (routine_sizes item_words (all_routines us)) in
+    ∙ ap (λ (ys : List Sized). sizes false item_words (all_globals us) ++ ys) (routine_sizes item_words (all_routines us)) in
     let arrays = ap (λ (xs : List Sized). xs ++ joined (λ r. sized true array_words (routine_data r)) (all_routines us)) (unit_sizes array_words us)
-        ∙ ap (λ (ys : List Sized). sizes false array_words (all_globals us) ++ ys) (routine_sizes array_words (all_routines us)) in
+    ∙ ap (λ (ys : List Sized). sizes false array_words (all_globals us) ++ ys) (routine_sizes array_words (all_routines us)) in
     ap (λ (xs : List Sized). passing 1 most_primary 0 xs ++ passing 4 most_data (primary_words us)
-        (joined (λ u. sized false array_words (unit_data u)) us ++ joined (λ r. sized true array_words (routine_data r)) (all_routines us))) items
+    (joined (λ u. sized false array_words (unit_data u)) us ++ joined (λ r. sized true array_words (routine_data r)) (all_routines us))) items
     ∙ ap (λ (xs : List Sized). passing 1 most_primary 0 (sizes false item_words (all_globals us) ++ sizes true item_words (all_locals us)) ++ passing 4 most_data (primary_words us) xs) arrays
     ∙ ap (λ (m : ℕ). passing 1 most_primary 0 (sizes false item_words (all_globals us) ++ sizes true item_words (all_locals us))
-        ++ passing 4 most_data m (sizes false array_words (all_globals us) ++ sizes true array_words (all_locals us))) words
+    ++ passing 4 most_data m (sizes false array_words (all_globals us) ++ sizes true array_words (all_locals us))) words

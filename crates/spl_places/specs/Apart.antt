@@ -1,5 +1,5 @@
 -- The words of items: where each stands, among those that are OWN or among the others.
-use Rattle.std.specs.Prelude.{◌≡◌, ◌≤◌, ◌⊎◌, ℕ, ◌+◌, Bool, true, false, nat_lt, if◌then◌else◌, List, [], ◌∷◌, ◌++◌}
+use Rattle.std.specs.Prelude.{◌≡◌, ◌≤◌, ◌⊎◌, ℕ, ◌+◌, Bool, true, false, nat_lt, if◌then◌else◌, [], ◌∷◌, ◌++◌}
 use Rattle.spl_meaning.specs.Names.{Sort, Table}
 use Rattle.spl_meaning.specs.Places.{Place, is_own, item_words, where_own, only, place_of}
 

@@ -1,5 +1,5 @@
 -- The limits that items pass, by lists of items.
-use Rattle.std.specs.Prelude.{ℕ, ◌+◌, true, false, List, ◌++◌}
+use Rattle.std.specs.Prelude.{◌+◌, true, false, List, ◌++◌}
 use Rattle.spl_meaning.specs.Places.{item_words, array_words}
 use Rattle.spl_meaning.specs.Limits.{Full, passing, most_primary, most_locals, most_data}
 use Rattle.spl_places.specs.ListedData.{Datum}

@@ -1,6 +1,5 @@
 -- Places as the code has them, and where the items of a list stand.
-use Rattle.std.specs.Prelude.{ℕ, ◌+◌, Bool, true, false, nat_lt, if◌then◌else◌, List, [], ◌∷◌, Option}
-use Rattle.spl_tree.specs.declared.expressions.Kind.{Kind}
+use Rattle.std.specs.Prelude.{ℕ, ◌+◌, true, false, nat_lt, if◌then◌else◌, List, [], ◌∷◌, Option}
 use Rattle.spl_meaning.specs.Names as n
 use Rattle.spl_meaning.specs.Names.{Sort, Table, find}
 use Rattle.spl_meaning.specs.Places as p
@@ -53,3 +52,7 @@ behind_item at s = record {
 abbrev pub behind_data : starts.Starts → List Datum → starts.Starts
 behind_data at [] = at
 behind_data at (d ∷ ds) = behind_data (behind_item at d.sort) ds
+
+-- where a procedure's list starts, as the definitions have it for a list of these items
+abbrev pub frame_starts : ℕ → ℕ → List Datum → starts.Starts
+frame_starts own own_arrays ds = record { own = own; own_arrays = own_arrays; here = 1; here_arrays = 1 + total_words false item_words ds }

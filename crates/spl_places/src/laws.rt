@@ -17,8 +17,7 @@ ghost use Rattle.spl_places.specs.Programs.{unit_items, routine_items, all_globa
 pub fn items_are_held()
     ensures all { (outer : Names) (table : Table Sort) (ds : Declarations) → map entry (list_data outer (find table) ds) ≡ all_data outer table ds }
     ensures table { (outer : Names) (table : Table Sort) (ds : Declarations) → NewNames outer table ds → held (with_declarations outer table ds) ≡ held table ++ map named (list_data outer (find table) ds) }
-{
-}
+{}
 
 /// The places of a list are those of its items, where each item's name is new.
 pub fn items_have_places()
@@ -26,15 +25,13 @@ pub fn items_have_places()
     ensures unit_arrays { (u : Source) (at : ℕ → Place) (own here : ℕ) → NewInUnit u → arrays_from at own here (own_table u) ≡ arrays_from at own here (map named (unit_items u)) }
     ensures routine { (r : Routine) (at : ℕ → Place) (own here : ℕ) → NewInRoutine r → places_from at own here (routine_table r) ≡ places_from at own here (map named (routine_items r)) }
     ensures routine_arrays { (r : Routine) (at : ℕ → Place) (own here : ℕ) → NewInRoutine r → arrays_from at own here (routine_table r) ≡ arrays_from at own here (map named (routine_items r)) }
-{
-}
+{}
 
 /// The limits of lists are those of their items, where each item's name is new.
 pub fn items_pass_limits()
     ensures global { (us : List Source) → NewInAll us → global_limits us ≡ global_passed (all_globals us) (all_locals us) }
     ensures local { (r : Routine) → NewInRoutine r → local_limits r ≡ local_passed (routine_items r) }
-{
-}
+{}
 
 /// Where an item of a list stands: a name's place is its item's; its words are among those of the list; and two items have no word in
 /// common, where both are OWN or neither is.
@@ -43,5 +40,4 @@ pub fn items_stand_apart()
     ensures sort { (own here : ℕ) (t : Table Sort) (x : List ℕ) → find (held t) x ≡ option_map (λ p. p.sort) (find (spots_from own here t) x) }
     ensures within { (own here : ℕ) (t : Table Sort) (x : List ℕ) (p : Spot) → find (spots_from own here t) x ≡ Some p → Within own (own + list_words true t) here (here + list_words false t) p }
     ensures apart { (own here : ℕ) (t : Table Sort) (x y : List ℕ) (p q : Spot) → same_name x y ≡ false → p.own ≡ q.own → find (spots_from own here t) x ≡ Some p → find (spots_from own here t) y ≡ Some q → Apart p q }
-{
-}
+{}

@@ -16,5 +16,5 @@ pub use full::{FirstFull, Full};
 pub use laws::{items_are_held, items_have_places, items_pass_limits, items_stand_apart};
 pub use limits::{global_limits, local_limits};
 pub use name_maps::NameMap;
-pub use places::{Area, Array, ListPlaces, Place, Starts, list_places};
+pub use places::{Area, Array, ListPlaces, Place, Starts, frame_starts, list_places};
 pub use words::{array_words, elements, elements_words, is_own, item_words, plus};

@@ -7,15 +7,18 @@ ghost use Rattle.spl_sorts.specs.Sorts.{sort_of};
 ghost use Rattle.spl_places.specs.ListedData.{datum_of};
 ghost use Rattle.spl_places.specs.NameMaps.{entries_of, shown};
 ghost use Rattle.spl_places.specs.Held.{named};
-ghost use Rattle.spl_places.specs.Spots.{spot_of, array_of, place_in, and_place, and_array, behind_item, behind_data};
+ghost use Rattle.spl_places.specs.Spots.{spot_of, array_of, place_in, and_place, and_array, behind_item, behind_data, frame_starts};
 
-use crate::counters::{Part, counted_words};
+use crate::counters::{Part, counted_words, total};
 use crate::data::Datum;
 use crate::name_maps::NameMap;
 use crate::words::{is_own, item_words, plus};
 use spl_sorts::Sort;
 use spl_tree::{Kind, Name};
 use std::alloc::{AllocError, Global};
+
+/// The first local item stands so many words above the last word of a marker.
+const FIRST_LOCAL: u64 = 1;
 
 /// The place of a word, in words.
 #[derive(Clone, Copy, Debug, PartialEq, Eq)]
@@ -51,6 +54,20 @@ pub struct Starts {
     pub own_arrays: u64,
     pub here: u64,
     pub here_arrays: u64,
+}
+
+/// Where a procedure's list starts: its items that are OWN at these addresses; the others above its marker, and their arrays' data
+/// behind them. An error is as in `plus`.
+pub fn frame_starts(own: u64, own_arrays: u64, list: &[Datum]) -> Result<Starts, AllocError>
+    ensures { IfOk result (λ s. s ≡ frame_starts own own_arrays (map datum_of list.now)) }
+{
+    let words = total(Part::Items, false, list)?;
+    Ok(Starts {
+        own,
+        own_arrays,
+        here: FIRST_LOCAL,
+        here_arrays: plus(FIRST_LOCAL, words)?,
+    })
 }
 
 /// A place in an area.
@@ -161,12 +178,7 @@ pub fn list_places(
     let mut arrays = NameMap::new(alloc);
     let mut next = at;
     for datum in list {
-        let from = place_of(
-            area,
-            is_own(&datum.sort),
-            next.own_arrays,
-            next.here_arrays,
-        );
+        let from = place_of(area, is_own(&datum.sort), next.own_arrays, next.here_arrays);
         note_place(&mut places, area, next, &datum.name, &datum.sort)?;
         note_array(&mut arrays, from, &datum.name, &datum.sort)?;
         next = behind_item(next, &datum.sort)?;

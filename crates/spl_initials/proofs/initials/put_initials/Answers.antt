@@ -1,5 +1,5 @@
 -- One declaration more.
-use Rattle.std.proofs.Common.{ℕ, ◌≡◌, ◌+◌, ap, sym, ◌∙◌, map, drop, Option}
+use Rattle.std.proofs.Common.{ℕ, ◌+◌, ap, sym, ◌∙◌, map, drop, Option}
 use Rattle.spl_tree.specs.DeclarationTrees.{declarations}
 use Rattle.spl_tree.specs.Spells.{declaration}
 use Rattle.spl_meaning.specs.Names.{Names, find}

@@ -1,5 +1,5 @@
 -- The place, the names and the values are those of the item.
-use Rattle.std.proofs.Common.{ℕ, ◌≡◌, List, map, option_map, Option, ap, ◌∙◌}
+use Rattle.std.proofs.Common.{List, map, option_map, Option, ap, ◌∙◌}
 use Rattle.spl_tree.specs.declared.expressions.Const.{Const}
 use Rattle.spl_tree.specs.Views.{letters, constant}
 use Rattle.spl_meaning.specs.Names.{Names, find, constant_or_zero}
@@ -19,7 +19,7 @@ returns c =
     let x = letters c.args.item.now.name in
     let mem = memory_of c.args.words.now in
     let start = c.start_of-start.ensures ∙ ap (λ (p : Option Place). start_of p (option_map array_of c.array_named.result)) c.place_named-place.ensures
-        ∙ ap (λ (a : Option Array). start_of (f.place x) a) c.array_named.ensures in
+    ∙ ap (λ (a : Option Array). start_of (f.place x) a) c.array_named.ensures in
     let seen = over (find (table_of c.args.here.now)) (find (table_of c.args.outer.now)) in
     c.put_from.ensures
     ∙ ap (λ (p : Option Place). put_initials global_address (initial_at p k (map (constant_or_zero (names_of c.seen-names.result)) (map constant c.deref.result.now))) mem) start

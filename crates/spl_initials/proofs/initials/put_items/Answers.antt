@@ -1,5 +1,5 @@
 -- One item more.
-use Rattle.std.proofs.Common.{ℕ, ◌≡◌, ◌+◌, ap, sym, ◌∙◌, map, drop, Option}
+use Rattle.std.proofs.Common.{ℕ, ◌+◌, ap, sym, ◌∙◌, map, drop, Option}
 use Rattle.spl_tree.specs.Views.{letters}
 use Rattle.spl_tree.specs.Spells.{item_tree, shape_tree}
 use Rattle.spl_meaning.specs.Names.{Names, find}

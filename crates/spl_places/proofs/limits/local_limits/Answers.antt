@@ -1,5 +1,5 @@
 -- Two sums run along the items.
-use Rattle.std.proofs.Common.{ℕ, ◌≡◌, false, map, Option, ap, sym, ◌∙◌}
+use Rattle.std.proofs.Common.{ℕ, false, map, Option, ap, sym, ◌∙◌}
 use Rattle.spl_meaning.specs.Places.{item_words, array_words}
 use Rattle.spl_meaning.specs.Limits.{Full, passing, first_among}
 use Rattle.spl_places.specs.ListedData.{datum_of}
