@@ -2,3 +2,4 @@ pub mod MemoryLemmas
 pub mod ValueWalks
 pub mod CellWalks
 pub mod InitialWalks
+pub mod LaidLaws
