@@ -1,5 +1,5 @@
 -- The cells and initial values of a list are those of its items.
-use Rattle.std.proofs.Common.{ℕ, ◌≡◌, Bool, true, false, List, [], ◌∷◌, ◌++◌, map, refl, sym, ap, ◌∙◌}
+use Rattle.std.proofs.Common.{ℕ, ◌≡◌, Bool, true, false, List, [], ◌∷◌, ◌++◌, map, refl, ap, ◌∙◌}
 use Rattle.std.specs.Prelude.{if◌then◌else◌}
 use Rattle.spl_tree.specs.declared.expressions.Kind.{Kind}
 use Rattle.spl_tree.specs.DeclarationTrees as decl
@@ -7,13 +7,12 @@ use Rattle.spl_tree.specs.DeclarationTrees.{Item, Declaration, Declarations}
 use Rattle.spl_meaning.specs.Names as n
 use Rattle.spl_meaning.specs.Names.{Names, Sort, Table, find, within, same_flag, constant_or_zero}
 use Rattle.spl_meaning.specs.Tables.{declared, shaped, with_declaration}
-use Rattle.spl_meaning.specs.Places.{Place, Array, Cell, Initial, Starts, Laid, is_own, only, cell_of, cells_among, start_of, initial_at, item_initials, declaration_initials, initials_among, places_from, arrays_from, laid}
-use Rattle.spl_found.specs.OwnNames.{with_name}
+use Rattle.spl_meaning.specs.Places.{Place, Array, Cell, Initial, Starts, is_own, only, cell_of, cells_among, start_of, initial_at, item_initials, declaration_initials, initials_among, places_from, arrays_from, laid}
 use Rattle.spl_found.proofs.OwnNames.{find_declared, find_declaration}
 use Rattle.spl_places.specs.ListedData.{Datum}
 use Rattle.spl_places.specs.Held.{is_data, held, named}
 use Rattle.spl_places.proofs.ProgramLaws.{places_held, arrays_held}
-use Rattle.spl_initials.specs.Cells.{Found, cell_by, item_cell, cells_by, item_initial, initials_of_items, initials_of_declaration, initials_by}
+use Rattle.spl_initials.specs.Cells.{Found, cell_by, item_cell, cells_by, initials_of_items, initials_of_declaration, initials_by}
 use Rattle.spl_initials.specs.Lists.{found_of}
 
 -- what tables of places and of arrays have

@@ -12,5 +12,4 @@ ghost use Rattle.spl_initials.specs.Lists.{found_of};
 pub fn lists_are_laid()
     ensures cells { (own : Bool) (outer : Names) (before : Table Sort) (at : ℕ → Place) (starts : Starts) (t : Table Sort) (ds : Declarations) (items : List Datum) → held t ≡ map named items → (laid own outer before at starts t ds).cells ≡ cells_by own (found_of at starts items) items }
     ensures initials { (own : Bool) (outer : Names) (before : Table Sort) (at : ℕ → Place) (starts : Starts) (t : Table Sort) (ds : Declarations) (items : List Datum) → held t ≡ map named items → (laid own outer before at starts t ds).initials ≡ initials_by own outer (found_of at starts items) (find before) ds }
-{
-}
+{}
