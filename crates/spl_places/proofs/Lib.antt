@@ -6,3 +6,4 @@ pub mod NameMapLemmas
 pub mod PlaceWalks
 pub mod ProgramLaws
 pub mod ApartLaws
+pub mod SoundLaws

@@ -5,6 +5,7 @@ ghost use Rattle.spl_meaning.specs.Names.{Names, Sort, Table, find, same_name};
 ghost use Rattle.spl_meaning.specs.Tables.{Source, Routine, with_declarations, routine_table};
 ghost use Rattle.spl_meaning.specs.Places.{Place, places_from, arrays_from, list_words};
 ghost use Rattle.spl_meaning.specs.Bodies.{own_table};
+ghost use Rattle.spl_meaning.specs.Sound.{IsSound};
 ghost use Rattle.spl_meaning.specs.Limits.{all_data, global_limits, local_limits};
 ghost use Rattle.spl_places.specs.ListedData.{list_data};
 ghost use Rattle.spl_places.specs.Apart.{Spot, spots_from, place_at, Within, Apart};
@@ -41,3 +42,9 @@ pub fn items_stand_apart()
     ensures within { (own here : ℕ) (t : Table Sort) (x : List ℕ) (p : Spot) → find (spots_from own here t) x ≡ Some p → Within own (own + list_words true t) here (here + list_words false t) p }
     ensures apart { (own here : ℕ) (t : Table Sort) (x y : List ℕ) (p q : Spot) → same_name x y ≡ false → p.own ≡ q.own → find (spots_from own here t) x ≡ Some p → find (spots_from own here t) y ≡ Some q → Apart p q }
 {}
+
+/// In units that break no rule each item's name is new in its list.
+pub fn sound_items_are_new()
+    ensures { (us : List Source) → IsSound us → NewInAll us }
+{
+}
