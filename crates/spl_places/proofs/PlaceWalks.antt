@@ -1,5 +1,5 @@
 -- A loop over the items of a list: where those from one on stand.
-use Rattle.std.proofs.Common.{◌≡◌, ◌<◌, ◌≤◌, ℕ, ◌+◌, Bool, true, false, nat_lt, List, ◌++◌, map, drop, length, get_or, Option, refl, ◌∙◌}
+use Rattle.std.proofs.Common.{◌≡◌, ◌<◌, ◌≤◌, ℕ, ◌+◌, Bool, true, false, nat_lt, List, ◌∷◌, [], ◌++◌, map, drop, length, get_or, Option, refl, ◌∙◌, sym, add-zero, add_assoc}
 use Rattle.std.specs.Prelude.{if◌then◌else◌}
 use Rattle.spl_tree.specs.Views.{letters}
 use Rattle.spl_meaning.specs.Names as n
@@ -10,7 +10,9 @@ use Rattle.spl_lists.proofs.NameWalks.{onward, onward_end}
 use Rattle.spl_found.specs.OwnNames.{with_name}
 use Rattle.spl_places.specs.declared.data.Datum.{Datum}
 use Rattle.spl_places.specs.declared.places.Starts.{Starts}
+use Rattle.spl_places.specs.ListedData as d
 use Rattle.spl_places.specs.ListedData.{datum_of}
+use Rattle.spl_places.specs.Counters.{total_words}
 use Rattle.spl_places.specs.NameMaps.{behind_table}
 use Rattle.spl_places.specs.Held.{named}
 use Rattle.spl_places.specs.Spots.{and_place, and_array, behind_item, behind_data}
@@ -80,3 +82,23 @@ pub next_end : (at : Starts) (list : List Datum) (i : ℕ) → length list ≤ i
 next_end at list i le = onward_end datum_of (behind_data at) list i le
 
 pub ruleset place_steps = (place_step, place_end, array_step, array_end, next_step, next_end, behind_nothing, shown_none)
+
+-- ---- where the next item stands, by the words of those before it
+
+pub next_own : (at : Starts) (ds : List d.Datum) → (behind_data at ds).own ≡ at.own + total_words true item_words ds
+next_own at [] = sym (add-zero at.own)
+next_own at (x ∷ ds) = next_own (behind_item at x.sort) ds ∙ add_assoc at.own (where_own true item_words x.sort) (total_words true item_words ds)
+
+pub next_own_arrays : (at : Starts) (ds : List d.Datum) → (behind_data at ds).own_arrays ≡ at.own_arrays + total_words true array_words ds
+next_own_arrays at [] = sym (add-zero at.own_arrays)
+next_own_arrays at (x ∷ ds) =
+    next_own_arrays (behind_item at x.sort) ds ∙ add_assoc at.own_arrays (where_own true array_words x.sort) (total_words true array_words ds)
+
+pub next_here : (at : Starts) (ds : List d.Datum) → (behind_data at ds).here ≡ at.here + total_words false item_words ds
+next_here at [] = sym (add-zero at.here)
+next_here at (x ∷ ds) = next_here (behind_item at x.sort) ds ∙ add_assoc at.here (where_own false item_words x.sort) (total_words false item_words ds)
+
+pub next_here_arrays : (at : Starts) (ds : List d.Datum) → (behind_data at ds).here_arrays ≡ at.here_arrays + total_words false array_words ds
+next_here_arrays at [] = sym (add-zero at.here_arrays)
+next_here_arrays at (x ∷ ds) =
+    next_here_arrays (behind_item at x.sort) ds ∙ add_assoc at.here_arrays (where_own false array_words x.sort) (total_words false array_words ds)

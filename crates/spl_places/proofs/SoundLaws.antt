@@ -6,13 +6,13 @@ use Rattle.spl_tree.specs.declared.expressions.Kind.{Kind}
 use Rattle.spl_tree.specs.DeclarationTrees as decl
 use Rattle.spl_tree.specs.DeclarationTrees.{Heading, Item, Declaration, Declarations, declarations}
 use Rattle.spl_tree.specs.StatementTrees.{statements}
-use Rattle.spl_meaning.specs.Names.{Names, Sort, Table, find, within, nothing_declared, parameters, formals_of}
+use Rattle.spl_meaning.specs.Names.{Sort, Table, find, within, nothing_declared, parameters, formals_of}
 use Rattle.spl_meaning.specs.Tables.{Source, Routine, declared, shaped, with_declaration, routine_in, routines_among, routines_of}
 use Rattle.spl_meaning.specs.Bodies.{all_routines}
 use Rattle.spl_meaning.specs.Stops.{declaration_stops}
 use Rattle.spl_meaning.specs.ExpressionRules.{Scope}
 use Rattle.spl_meaning.specs.Faults.{Fault, unless, IsAmong}
-use Rattle.spl_meaning.specs.DeclarationRules.{Around, Waiting, twice, item_faults, items_faults, local_faults_of, local_faults, heading_faults, procedure_by, procedure_scope, procedure_faults, global_faults, globals_faults, waiting_behind, unit_faults, main_scope}
+use Rattle.spl_meaning.specs.DeclarationRules.{Around, Waiting, item_faults, items_faults, local_faults_of, local_faults, heading_faults, procedure_by, procedure_scope, procedure_faults, global_faults, globals_faults, waiting_behind, unit_faults, main_scope}
 use Rattle.spl_meaning.specs.StatementRules.{body_faults}
 use Rattle.spl_meaning.specs.Sound.{IsSound, all_faults, faults_behind}
 use Rattle.spl_places.specs.Held.{NewItems, NewIn, NewNames}
@@ -42,9 +42,10 @@ not_twice (Some s) at is = cc
 items_new : (a : Around) (t : Table Sort) (own : Bool) (k : Kind) (is : List Item) → items_faults a t own k is ≡ [] → NewItems a.names own k t is
 items_new a t own k [] none = tt
 items_new a t own k (i ∷ is) none =
-    let rest = declared t i.name (shaped (within t a.names) own k i.shape) in
-    (not_twice (find t i.name) i.at (first_of_eight _ _ _ _ _ _ _ _ (left_none (item_faults a t own k i) (items_faults a rest own k is) none)),
-    items_new a rest own k is (right_none (item_faults a t own k i) (items_faults a rest own k is) none))
+    let rest = declared t i.name (shaped (within t a.names) own k i.shape) in (
+      not_twice (find t i.name) i.at (first_of_eight _ _ _ _ _ _ _ _ (left_none (item_faults a t own k i) (items_faults a rest own k is) none)),
+      items_new a rest own k is (right_none (item_faults a t own k i) (items_faults a rest own k is) none),
+    )
 
 local_new_in : (a : Around) (sc : Scope) (t : Table Sort) (d : Declaration) → local_faults_of a sc t d ≡ [] → NewIn a.names t d
 local_new_in a sc t (decl.Declaration.data_items own k items) none = items_new a t own k items none
@@ -59,9 +60,10 @@ local_new_in a sc t (decl.Declaration.subroutine h s) none = tt
 local_new : (a : Around) (sc : Scope) (t : Table Sort) (ds : Declarations) → local_faults a sc t ds ≡ [] → NewNames a.names t ds
 local_new a sc t decl.none none = tt
 local_new a sc t (decl.and d ds) none =
-    let behind = with_declaration a.names t d in
-    (local_new_in a sc t d (left_none (local_faults_of a sc t d) (local_faults a sc behind ds) none),
-    local_new a sc behind ds (right_none (local_faults_of a sc t d) (local_faults a sc behind ds) none))
+    let behind = with_declaration a.names t d in (
+      local_new_in a sc t d (left_none (local_faults_of a sc t d) (local_faults a sc behind ds) none),
+      local_new a sc behind ds (right_none (local_faults_of a sc t d) (local_faults a sc behind ds) none),
+    )
 
 -- ---- units
 
@@ -82,9 +84,14 @@ global_new_in subprogram sc others w t m (decl.Declaration.procedure h items ss)
     let a : Around = record { names = find globals; in_procedure = true; split = h.split; subprogram = false } in
     let own = local_faults a (procedure_scope globals h items) (parameters (formals_of h)) items in
     let body = body_faults (procedure_scope globals h items) (statements ss) in
-    let all = right_none (procedure_by t (find w h.name) h) (procedure_faults globals h items ss) none in
-    (tt, (local_new a (procedure_scope globals h items) (parameters (formals_of h)) items
-    (right_none (heading_faults h.split h) own (left_none (heading_faults h.split h ++ own) body all)), tt))
+    let all = right_none (procedure_by t (find w h.name) h) (procedure_faults globals h items ss) none in (
+      tt,
+      (
+        local_new a (procedure_scope globals h items) (parameters (formals_of h)) items
+            (right_none (heading_faults h.split h) own (left_none (heading_faults h.split h ++ own) body all)),
+        tt,
+      ),
+    )
 global_new_in subprogram sc others w t m (decl.Declaration.subroutine h s) ds none = (tt, tt)
 
 each_both : {A : Type 0} (P : A → Type 0) (xs ys : List A) → Each P xs → Each P ys → Each P (xs ++ ys)

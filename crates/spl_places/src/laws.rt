@@ -3,13 +3,15 @@ ghost use Rattle.std.specs.Prelude.{◌≡◌, ◌++◌, ◌+◌, ℕ, List, map
 ghost use Rattle.spl_tree.specs.DeclarationTrees.{Declarations};
 ghost use Rattle.spl_meaning.specs.Names.{Names, Sort, Table, find, same_name};
 ghost use Rattle.spl_meaning.specs.Tables.{Source, Routine, with_declarations, routine_table};
-ghost use Rattle.spl_meaning.specs.Places.{Place, places_from, arrays_from, list_words};
+ghost use Rattle.spl_places.specs.declared.places.Starts.{Starts};
+ghost use Rattle.spl_places.specs.Spots.{behind_data};
+ghost use Rattle.spl_meaning.specs.Places.{item_words, array_words, Place, places_from, arrays_from, list_words};
 ghost use Rattle.spl_meaning.specs.Bodies.{own_table};
 ghost use Rattle.spl_meaning.specs.Sound.{IsSound};
 ghost use Rattle.spl_meaning.specs.Limits.{all_data, global_limits, local_limits};
-ghost use Rattle.spl_places.specs.ListedData.{list_data};
+ghost use Rattle.spl_places.specs.ListedData.{Datum, list_data};
 ghost use Rattle.spl_places.specs.Apart.{Spot, spots_from, place_at, Within, Apart};
-ghost use Rattle.spl_places.specs.Counters.{entry};
+ghost use Rattle.spl_places.specs.Counters.{entry, total_words};
 ghost use Rattle.spl_places.specs.Held.{held, named, NewNames};
 ghost use Rattle.spl_places.specs.Passed.{global_passed, local_passed};
 ghost use Rattle.spl_places.specs.Programs.{unit_items, routine_items, all_globals, all_locals, NewInUnit, NewInRoutine, NewInAll};
@@ -46,5 +48,12 @@ pub fn items_stand_apart()
 /// In units that break no rule each item's name is new in its list.
 pub fn sound_items_are_new()
     ensures { (us : List Source) → IsSound us → NewInAll us }
-{
-}
+{}
+
+/// Behind items the next stand so many words on: those of the items that are OWN, of their arrays, and of the others.
+pub fn items_move_starts()
+    ensures own { (at : Starts) (ds : List Datum) → (behind_data at ds).own ≡ at.own + total_words true item_words ds }
+    ensures own_arrays { (at : Starts) (ds : List Datum) → (behind_data at ds).own_arrays ≡ at.own_arrays + total_words true array_words ds }
+    ensures here { (at : Starts) (ds : List Datum) → (behind_data at ds).here ≡ at.here + total_words false item_words ds }
+    ensures here_arrays { (at : Starts) (ds : List Datum) → (behind_data at ds).here_arrays ≡ at.here_arrays + total_words false array_words ds }
+{}

@@ -13,7 +13,10 @@ mod words;
 pub use counters::{Counter, Part, total};
 pub use data::{Datum, constant_or_zero, declarations, declare_all, shaped_here};
 pub use full::{FirstFull, Full};
-pub use laws::{items_are_held, items_have_places, items_pass_limits, items_stand_apart, sound_items_are_new};
+pub use laws::{
+    items_are_held, items_have_places, items_move_starts, items_pass_limits, items_stand_apart,
+    sound_items_are_new,
+};
 pub use limits::{global_limits, local_limits};
 pub use name_maps::NameMap;
 pub use places::{Area, Array, ListPlaces, Place, Starts, frame_starts, list_places};
