@@ -3,3 +3,4 @@ pub mod ValueWalks
 pub mod CellWalks
 pub mod InitialWalks
 pub mod LaidLaws
+pub mod FoundLemmas
