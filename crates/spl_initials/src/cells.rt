@@ -25,8 +25,8 @@ pub fn global_address(place: Place) -> u64
     }
 }
 
-/// The word in the cell of an array whose data begin at an address: that address less the lower bound, twice that for a
-/// DOUBLE; for a BYTE the byte address less it.
+/// The word in the cell of an array whose data begin at an address: that address less the lower bound, twice
+/// that for a DOUBLE; for a BYTE the byte address less it.
 fn cell_word(kind: Kind, low: i64, address: u64) -> u16
     ensures { result ≡ places.cell_word kind low address }
 {

@@ -124,8 +124,8 @@ fn put_declaration(
     }
 }
 
-/// Stores the initial values of a list of declarations, of items that are OWN or of those that are not, and declares what it
-/// does. The list's places are those of `list_places`, and its table has the names before it.
+/// Stores the initial values of a list of declarations, of items that are OWN or of those that are not, and
+/// declares what it does. The list's places are those of `list_places`, and its table has the names before it.
 #[tactic(auto, using(crate::proofs::InitialWalks::declaration_steps))]
 pub fn put_initials(
     alloc: Global,

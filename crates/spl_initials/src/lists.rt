@@ -19,8 +19,8 @@ use spl_sorts::Table;
 use spl_tree::Decl;
 use std::alloc::{AllocError, Global};
 
-/// Stores the cells of a list of these items that starts there, of those that are OWN or of those that are not. Answers where the next
-/// list starts. An error is want of memory, or a sum beyond `u64`.
+/// Stores the cells of a list of these items that starts there, of those that are OWN or of those that are not.
+/// Answers where the next list starts. An error is want of memory, or a sum beyond `u64`.
 pub fn list_cells(
     alloc: Global,
     words: &mut [u16],
@@ -37,8 +37,8 @@ pub fn list_cells(
     Ok(list.next)
 }
 
-/// Stores the initial values of such a list of declarations, with the names outside it and those before it. Answers where the next list
-/// starts. An error is as in `list_cells`.
+/// Stores the initial values of such a list of declarations, with the names outside it and those before it.
+/// Answers where the next list starts. An error is as in `list_cells`.
 pub fn list_initials(
     alloc: Global,
     words: &mut [u16],

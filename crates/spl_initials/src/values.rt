@@ -11,8 +11,8 @@ use spl_places::constant_or_zero;
 use spl_sorts::Names;
 use spl_tree::{Const, Kind};
 
-/// Stores the j-th value of a kind from an address on, where there are its words: a DOUBLE has its high word first, and a
-/// BYTE half a word.
+/// Stores the j-th value of a kind from an address on, where there are its words: a DOUBLE has its high word
+/// first, and a BYTE half a word.
 pub fn put_value(words: &mut [u16], kind: Kind, address: u64, j: u64, value: i64)
     ensures { memory_of words.new ≡ places.put_value kind address j value (memory_of words.old) }
 {

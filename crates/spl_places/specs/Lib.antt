@@ -7,3 +7,4 @@ pub mod NameMaps
 pub mod Spots
 pub mod Programs
 pub mod Apart
+pub mod KnownSpots

@@ -36,8 +36,8 @@ pub fn items_pass_limits()
     ensures local { (r : Routine) → NewInRoutine r → local_limits r ≡ local_passed (routine_items r) }
 {}
 
-/// Where an item of a list stands: a name's place is its item's; its words are among those of the list; and two items have no word in
-/// common, where both are OWN or neither is.
+/// Where an item of a list stands: a name's place is its item's; its words are among those of the list; and two
+/// items have no word in common, where both are OWN or neither is.
 pub fn items_stand_apart()
     ensures place { (at : ℕ → Place) (own here : ℕ) (t : Table Sort) (x : List ℕ) → find (places_from at own here t) x ≡ option_map (place_at at) (find (spots_from own here t) x) }
     ensures sort { (own here : ℕ) (t : Table Sort) (x : List ℕ) → find (held t) x ≡ option_map (λ p. p.sort) (find (spots_from own here t) x) }

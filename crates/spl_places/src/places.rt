@@ -56,8 +56,8 @@ pub struct Starts {
     pub here_arrays: u64,
 }
 
-/// Where a procedure's list starts: its items that are OWN at these addresses; the others above its marker, and their arrays' data
-/// behind them. An error is as in `plus`.
+/// Where a procedure's list starts: its items that are OWN at these addresses; the others above its marker, and
+/// their arrays' data behind them. An error is as in `plus`.
 pub fn frame_starts(own: u64, own_arrays: u64, list: &[Datum]) -> Result<Starts, AllocError>
     ensures { IfOk result (λ s. s ≡ frame_starts own own_arrays (map datum_of list.now)) }
 {
@@ -161,8 +161,8 @@ pub struct ListPlaces {
     pub next: Starts,
 }
 
-/// Where the items of a list stand, and the data of its arrays: those that are OWN as addresses, the others in an area.
-/// An error is want of memory, or as in `plus`.
+/// Where the items of a list stand, and the data of its arrays: those that are OWN as addresses, the others in
+/// an area. An error is want of memory, or as in `plus`.
 #[tactic(auto, using(crate::proofs::PlaceWalks::place_steps))]
 pub fn list_places(
     alloc: Global,

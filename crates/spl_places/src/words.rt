@@ -79,8 +79,8 @@ pub fn elements(low: i64, high: i64) -> u128
     }
 }
 
-/// The words of so many elements: two for a DOUBLE, one for two BYTEs, rounded up. A number beyond `u64` is an error, as
-/// want of memory is: no bounds that the rules let pass have so many.
+/// The words of so many elements: two for a DOUBLE, one for two BYTEs, rounded up. A number beyond `u64` is an
+/// error, as want of memory is: no bounds that the rules let pass have so many.
 pub fn elements_words(kind: Kind, count: u128) -> Result<u64, AllocError>
     ensures { IfOk result (λ words. words ≡ places.elements_words kind count) }
 {
