@@ -1,0 +1,20 @@
+-- Before the first declaration, and one more.
+use Rattle.std.proofs.Common.{◌++◌, map, ap}
+use Rattle.spl_tree.specs.DeclarationTrees.{declarations}
+use Rattle.spl_tree.specs.Spells.{declaration}
+use Rattle.spl_meaning.specs.Names.{Names, find}
+use Rattle.spl_sorts.specs.Tables.{table_of}
+use Rattle.spl_places.specs.ListedData.{datum_of}
+use Rattle.spl_areas.specs.Gathered.{items_among}
+use Rattle.spl_areas.proofs.GatherWalks.{unit_more}
+use Rattle.spl_areas.proofs.gather.unit_locals.Goals as goal
+
+pub loop-d-init : goal.loop-d-init
+loop-d-init c =
+    ap (λ (here : Names). map datum_of c.args.all.now.items ++ items_among here (declarations (map declaration c.args.list.now))) c.nothing-here.ensures
+
+pub loop-d-preserved : goal.loop-d-preserved
+loop-d-preserved c =
+    unit_more (map datum_of c.loop-d.all.items) (map datum_of c.items_in.new.all.items) _ (find (table_of c.nothing-outer.result)) (find (table_of c.loop-d.here))
+    (find (table_of c.declare_all.new.here)) c.args.list.now c.loop-d.d-index c.d-item.result c.loop-d-test.true c.d-item.is
+    c.nothing-outer.ensures c.in_ok-declare_all.ensures c.in_ok-items_in.ensures c.loop-d.invariant
