@@ -1,4 +1,3 @@
-pub mod Fulls
 pub mod ListedData
 pub mod Counters
 pub mod Held

@@ -3,7 +3,6 @@
 
 mod counters;
 mod data;
-mod full;
 mod laws;
 mod limits;
 mod name_maps;
@@ -12,7 +11,6 @@ mod words;
 
 pub use counters::{Counter, Part, total};
 pub use data::{Datum, constant_or_zero, declarations, declare_all, shaped_here};
-pub use full::{FirstFull, Full};
 pub use laws::{
     items_are_held, items_have_places, items_move_starts, items_pass_limits, items_stand_apart,
     sound_items_are_new,
