@@ -1,5 +1,5 @@
 -- No chain over a unit's tokens has more open than may be, so few parts wait at any point of it.
-use Rattle.std.proofs.Common.{◌+◌, length, arith}
+use Rattle.std.proofs.Common.{◌+◌, arith}
 use Rattle.std.proofs.Math.Logic.{∥∥₁_elim}
 use Rattle.std.proofs.Math.Bridge.{le_prop}
 use Rattle.spl_grammar.specs.Verdicts.{spelled}
@@ -17,4 +17,4 @@ few_parts ts u (spelled w calm) =
 
 -- whichever tokens spell the unit
 pub few_parts_in_units : FewPartsWaitInUnits
-few_parts_in_units us front back u are e = ∥∥₁_elim (are front back u e) le_prop (λ (s : Spelled (length front + 1) u). few_parts _ u.tree s.spelled)
+few_parts_in_units us i u are e = ∥∥₁_elim (are i u e) le_prop (λ (s : Spelled (i + 1) u). few_parts _ u.tree s.spelled)

@@ -1,5 +1,5 @@
 -- No chain over a unit's tokens has more than 64 constructs open, so no statement has more around it.
-use Rattle.std.proofs.Common.{◌≤◌, ◌+◌, [], ◌∷◌, length, arith}
+use Rattle.std.proofs.Common.{◌≤◌, ◌+◌, [], ◌∷◌, arith}
 use Rattle.std.proofs.Math.Logic.{∥∥₁_elim}
 use Rattle.std.proofs.Math.Bridge.{le_prop}
 use Rattle.spl_tree.specs.StatementTrees as stat
@@ -69,7 +69,7 @@ few_fors ts u v =
 
 -- in each unit of a program: a bound is one fact, whichever tokens spell the unit
 pub units_nest : SpelledUnitsNest
-units_nest us front back u are e = ∥∥₁_elim (are front back u e) both (λ (s : Spelled (length front + 1) u). (nest _ u.tree s.spelled, few_fors _ u.tree s.spelled))
+units_nest us i u are e = ∥∥₁_elim (are i u e) both (λ (s : Spelled (i + 1) u). (nest _ u.tree s.spelled, few_fors _ u.tree s.spelled))
   where
     both : IsProp ((most_in_unit nested_among u.tree ≤ limit) × (most_in_unit fors_among u.tree ≤ limit))
     both = hlevel le_prop

@@ -1,5 +1,5 @@
 -- In a unit that tokens spell, the depth of each body fits a word, where no call has more than 63 words.
-use Rattle.std.specs.Prelude.{ℕ, ◌+◌, ◌*◌, ◌≡◌, ◌≤◌, ◌<◌, List, [], ◌∷◌, ◌++◌}
+use Rattle.std.specs.Prelude.{slice_get, Some, ℕ, ◌+◌, ◌*◌, ◌≡◌, ◌≤◌, ◌<◌, List, []}
 use Rattle.spl_tree.specs.Symbols.{Lexeme}
 use Rattle.spl_tree.specs.StatementTrees.{Statements}
 use Rattle.spl_tree.specs.DeclarationTrees.{UnitTree}
@@ -28,7 +28,7 @@ FewPartsWait = (ts : List Lexeme) (u : UnitTree) → Verdict ts (Got u []) → m
 
 -- so in each unit of a program, as it is handed to the checker of rules
 abbrev pub FewPartsWaitInUnits : Type 0
-FewPartsWaitInUnits = (us front back : List Source) (u : Source) → AreSpelled us → us ≡ front ++ u ∷ back
+FewPartsWaitInUnits = (us : List Source) (i : ℕ) (u : Source) → AreSpelled us → slice_get us i ≡ Some u
     → most_in_unit statements_height u.tree ≤ most_height
 
 -- each has few words

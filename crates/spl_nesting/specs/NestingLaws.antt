@@ -1,5 +1,5 @@
 -- In a unit that tokens spell, at most 64 constructs stand around a statement, and so at most 64 FORs.
-use Rattle.std.specs.Prelude.{◌≡◌, ◌≤◌, List, [], ◌∷◌, ◌++◌}
+use Rattle.std.specs.Prelude.{ℕ, slice_get, Some, ◌≡◌, ◌≤◌, List, []}
 use Rattle.spl_tree.specs.Symbols.{Lexeme}
 use Rattle.spl_tree.specs.DeclarationTrees.{UnitTree}
 use Rattle.spl_tree.specs.OpenExpressions.{limit}
@@ -19,5 +19,5 @@ FewForsNest = (ts : List Lexeme) (u : UnitTree) → Verdict ts (Got u []) → mo
 
 -- both in each unit of a program, as it is handed to the checker of rules
 abbrev pub SpelledUnitsNest : Type 0
-SpelledUnitsNest = (us front back : List Source) (u : Source) → AreSpelled us → us ≡ front ++ u ∷ back
+SpelledUnitsNest = (us : List Source) (i : ℕ) (u : Source) → AreSpelled us → slice_get us i ≡ Some u
     → (most_in_unit nested_among u.tree ≤ limit) × (most_in_unit fors_among u.tree ≤ limit)
