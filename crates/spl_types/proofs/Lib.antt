@@ -1,6 +1,5 @@
 pub mod FormalLists
 pub mod Inserts
-pub mod Declares
 pub mod ProfileLaws
 pub mod HeadLaws
 pub mod ForwardLaws

@@ -4,7 +4,7 @@ ghost use Rattle.spl_tree.specs.DeclarationTrees.{declarations};
 ghost use Rattle.spl_tree.specs.Spells.{declaration, heading_tree};
 ghost use Rattle.spl_tree.specs.Views.{letters};
 ghost use Rattle.spl_meaning.specs.Names as n;
-ghost use Rattle.spl_meaning.specs.Names.{find, label, procedure};
+ghost use Rattle.spl_meaning.specs.Names.{find, label};
 ghost use Rattle.spl_sorts.specs.Profiles.{profile_of};
 ghost use Rattle.spl_sorts.specs.Sorts.{sort_of};
 ghost use Rattle.spl_sorts.specs.Tables.{table_of};
@@ -12,7 +12,7 @@ ghost use Rattle.spl_found.specs.OwnNames.{with_name};
 ghost use Rattle.spl_types.specs.HeadTables.{heads_of, heads_with, heads_behind, heads_list, no_heads, agreed, differs};
 
 use crate::alike::same_profile;
-use spl_lists::profile;
+use spl_lists::{declare, profile};
 use spl_sorts::{Profile, Sort, Table};
 use spl_tree::{Decl, Heading, Name};
 use std::alloc::{AllocError, Global};
@@ -41,7 +41,7 @@ impl Bodies {
     {
         let other = differs(self.firsts.find(name), &profile);
         note_where(&mut self.unlike, other, name)?;
-        declare_procedure(&mut self.firsts, name, profile)?;
+        declare(&mut self.firsts, name, Sort::Procedure(profile))?;
         Ok(())
     }
 
@@ -69,29 +69,13 @@ fn differs(first: Option<&Sort>, profile: &Profile) -> bool
     }
 }
 
-/// Notes a name.
-pub fn note_name(table: &mut Table, name: &Name) -> Result<(), AllocError>
-    ensures { OnOk result (find (table_of table.new) ≡ with_name (find (table_of table.old)) (letters name.now) label) }
-{
-    table.declare(name, Sort::Label)?;
-    Ok(())
-}
-
 /// Notes a name where this holds.
 fn note_where(table: &mut Table, holds: bool, name: &Name) -> Result<(), AllocError>
     ensures { OnOk result (find (table_of table.new) ≡ (if holds then with_name (find (table_of table.old)) (letters name.now) label else find (table_of table.old))) }
 {
     if holds {
-        note_name(table, name)?;
+        declare(table, name, Sort::Label)?;
     }
-    Ok(())
-}
-
-/// Declares a procedure.
-fn declare_procedure(table: &mut Table, name: &Name, profile: Profile) -> Result<(), AllocError>
-    ensures { OnOk result (find (table_of table.new) ≡ with_name (find (table_of table.old)) (letters name.now) (procedure (profile_of profile))) }
-{
-    table.declare(name, Sort::Procedure(profile))?;
     Ok(())
 }
 

@@ -7,8 +7,8 @@ ghost use Rattle.spl_sorts.specs.Tables.{table_of};
 ghost use Rattle.spl_found.specs.FoundUnits.{found_forwards};
 ghost use Rattle.spl_types.specs.Forwards.{bodied, forward_by};
 
-use crate::heads::note_name;
-use spl_sorts::{Report, Table};
+use spl_lists::declare;
+use spl_sorts::{Report, Sort, Table};
 use spl_tree::Decl;
 use std::alloc::{AllocError, Global};
 
@@ -19,7 +19,7 @@ fn before(item: &Decl, bodies: &mut Table, report: &mut Report) -> Result<(), Al
 {
     match item {
         Decl::Forward(heading) => report.unless(bodies.has(&heading.name), 19, heading.at),
-        Decl::Procedure(heading, _) => note_name(bodies, &heading.name)?,
+        Decl::Procedure(heading, _) => declare(bodies, &heading.name, Sort::Label)?,
         Decl::Data { .. }
         | Decl::Equate(_)
         | Decl::Intrinsic(_)
