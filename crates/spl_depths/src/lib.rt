@@ -17,3 +17,4 @@ pub use depths::{depth, subroutine_depth};
 pub use full::{FirstFull, Full};
 pub use laws::{first_use_is_found, headings_have_few_words};
 pub use subroutines::{heading_limits, subroutine_limits};
+pub use words::plus;

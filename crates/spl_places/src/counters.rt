@@ -6,8 +6,8 @@ ghost use Rattle.spl_places.specs.ListedData.{datum_of};
 ghost use Rattle.spl_places.specs.Counters.{part_words, sizes, total_words, behind_words, found_words, behind, found};
 
 use crate::data::Datum;
-use crate::words::{array_words, is_own, item_words, plus};
-use spl_depths::{FirstFull, Full};
+use crate::words::{array_words, is_own, item_words};
+use spl_depths::{FirstFull, Full, plus};
 use spl_sorts::Sort;
 use spl_tree::At;
 use std::alloc::AllocError;

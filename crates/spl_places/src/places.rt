@@ -12,7 +12,8 @@ ghost use Rattle.spl_places.specs.Spots.{spot_of, array_of, place_in, and_place,
 use crate::counters::{Part, counted_words, total};
 use crate::data::Datum;
 use crate::name_maps::NameMap;
-use crate::words::{is_own, item_words, plus};
+use crate::words::{is_own, item_words};
+use spl_depths::plus;
 use spl_sorts::Sort;
 use spl_tree::{Kind, Name};
 use std::alloc::{AllocError, Global};

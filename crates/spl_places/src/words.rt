@@ -4,19 +4,10 @@ ghost use Rattle.spl_meaning.specs.Kinds.{width};
 ghost use Rattle.spl_meaning.specs.Places as places;
 ghost use Rattle.spl_sorts.specs.Sorts.{sort_of};
 
+use spl_depths::plus;
 use spl_sorts::Sort;
 use spl_tree::Kind;
 use std::alloc::AllocError;
-
-/// A sum of words. One beyond `u64` is an error, as want of memory is: no units in memory have so many.
-pub fn plus(a: u64, b: u64) -> Result<u64, AllocError>
-    ensures { IfOk result (λ sum. sum ≡ a + b) }
-{
-    match a.checked_add(b) {
-        Some(sum) => Ok(sum),
-        None => Err(AllocError),
-    }
-}
 
 /// Whether an item is OWN.
 pub fn is_own(sort: &Sort) -> bool
