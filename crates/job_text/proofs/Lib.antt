@@ -3,4 +3,5 @@ pub mod RuleLemmas
 pub mod ReadingLemmas
 pub mod JobLaws
 pub mod AnswerLemmas
+pub mod FitLemmas
 pub mod KnownJobs

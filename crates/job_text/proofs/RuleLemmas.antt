@@ -3,7 +3,7 @@ use Rattle.std.proofs.Common.{◌≡◌, ℕ, zero, suc, ◌+◌, ◌<◌, ◌�
 use Rattle.std.specs.Prelude.{slice_get}
 use Rattle.job_lines.specs.Says.{Said}
 use Rattle.job_text.specs.States.{State}
-use Rattle.job_text.specs.Rules.{first_failing, kept, broken, is_in_limits, is_well_named, has_room}
+use Rattle.job_text.specs.Rules.{first_failing, kept, broken, is_in_limits, is_well_named, has_room, names_program, has_seat}
 use Rattle.job_lines.proofs.ListLemmas.{fronted, dropped}
 
 -- a test that is passed
@@ -39,5 +39,13 @@ named_kept prep s said h = all_pass 1 (kept prep s said) 4 (is_well_named s said
 pub room_kept : (prep : Bool) (s : State) (said : Said) → broken prep s said ≡ None → has_room s said ≡ true
 unfolding broken
 room_kept prep s said h = all_pass 1 (kept prep s said) 5 (has_room s said) h refl
+
+pub program_kept : (prep : Bool) (s : State) (said : Said) → broken prep s said ≡ None → names_program s said ≡ true
+unfolding broken
+program_kept prep s said h = all_pass 1 (kept prep s said) 7 (names_program s said) h refl
+
+pub seat_kept : (prep : Bool) (s : State) (said : Said) → broken prep s said ≡ None → has_seat s said ≡ true
+unfolding broken
+seat_kept prep s said h = all_pass 1 (kept prep s said) 8 (has_seat s said) h refl
 
 pub ruleset kept_rules = (limits_kept, named_kept, room_kept)

@@ -1,6 +1,7 @@
 -- The laws of job texts.
-use Rattle.std.specs.Prelude.{◌≡◌, ℕ, ◌⊎◌, Bool, List}
+use Rattle.std.specs.Prelude.{◌≡◌, ℕ, ◌⊎◌, Bool, List, length}
 use Rattle.job_text.specs.Jobs.{JobValue, JobIs, JobBreaks}
+use Rattle.job_text.specs.Fits.{JobFits}
 
 -- each text is a job or breaks a rule first at a line
 abbrev pub TextsAreRead : Type 0
@@ -17,3 +18,7 @@ JobsAreUnique = (bytes : List ℕ) (prep : Bool) (a b : JobValue) → JobIs byte
 -- and has at most one first fault
 abbrev pub FaultsAreUnique : Type 0
 FaultsAreUnique = (bytes : List ℕ) (prep : Bool) (l r m q : ℕ) → JobBreaks bytes prep l r → JobBreaks bytes prep m q → (l ≡ m) × (r ≡ q)
+
+-- every job keeps within its limits
+abbrev pub JobsFit : Type 0
+JobsFit = (bytes : List ℕ) (prep : Bool) (job : JobValue) → JobIs bytes prep job → JobFits (length bytes) job

@@ -1,8 +1,9 @@
--- In reading order: what lines say together, the rules, what a job is, its laws, a text read from its front, and what the
+-- In reading order: what lines say together, the rules, what a job is and keeps within, its laws, a text read from its front, and what the
 -- code's types and answers stand for. Lines themselves, and what each says, are those of `job_lines`.
 pub mod States
 pub mod Rules
 pub mod Jobs
+pub mod Fits
 pub mod Laws
 pub mod Verdicts
 pub mod Views

@@ -1,5 +1,5 @@
 //! Laws of job texts, each as the contract of a function that does nothing.
-ghost use Rattle.job_text.specs.Laws.{TextsAreRead, JobsBreakNothing, JobsAreUnique, FaultsAreUnique};
+ghost use Rattle.job_text.specs.Laws.{TextsAreRead, JobsBreakNothing, JobsAreUnique, FaultsAreUnique, JobsFit};
 
 /// Each text is a job, or breaks a rule first at a line.
 pub fn texts_are_read()
@@ -19,4 +19,9 @@ pub fn jobs_are_unique()
 /// A text has at most one first fault, and there one least rule.
 pub fn faults_are_unique()
     ensures { FaultsAreUnique }
+{}
+
+/// A job keeps within its limits.
+pub fn jobs_fit()
+    ensures { JobsFit }
 {}
