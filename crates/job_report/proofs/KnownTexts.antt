@@ -10,7 +10,7 @@ use Rattle.hp_instr.specs.declared.labels.Label.TheVariants.{Local, External}
 use Rattle.job_report.specs.declared.refusals.UnitRefusal.TheVariants.{Text, Rule}
 use Rattle.spl_tree.specs.declared.fault_kinds.FaultKind.TheVariants.{OpenComment}
 use Rattle.job_report.specs.declared.refusals.FileRefusal.TheVariants.{Label}
-use Rattle.job_report.specs.Reports.{Reported, session_text, report_of}
+use Rattle.job_report.specs.Reports.{Reported, session_text, report_of, summary_of}
 use Rattle.job_report.specs.Refusals.{job_refused, unit_refused, stack_refused, file_refused}
 use Rattle.job_report.specs.Listings.{head_line, data_line, entry_line}
 
@@ -83,3 +83,8 @@ gate = refl
 other : entry_line 10 (External 1 2) ≡ codes "ENTRY 10 SEGMENT 1 ENTRY 2\n"
 unfolding digits
 other = refl
+
+-- a summary has no statistics
+summed : summary_of 7 55322 (session (codes "1679\n") Terminated ∷ []) ≡ codes "GEN 7 BYTES 55322\nSESSION 1 A BYTES 5\n1679\nEND 1 TERMINATED\n"
+unfolding summary_of session_text digits
+summed = refl

@@ -61,3 +61,11 @@ totals_line turns loads = line (codes "STATS TURNS " ∷ decimal turns ∷ codes
 unfoldable pub report_of : List Reported → Option (ℕ × ℕ) → List ℕ
 report_of ss None = sessions_text false 1 ss
 report_of ss (Some counted) = sessions_text true 1 ss ++ totals_line counted.0 counted.1
+
+-- the first line of a summary: the number of the generated job, and the length of its text
+abbrev pub generated_line : ℕ → ℕ → List ℕ
+generated_line n bytes = line (codes "GEN " ∷ decimal n ∷ codes " BYTES " ∷ decimal bytes ∷ [])
+
+-- the summary of a generated job: that line, and the sessions as they are reported without statistics
+unfoldable pub summary_of : ℕ → ℕ → List Reported → List ℕ
+summary_of n bytes ss = generated_line n bytes ++ sessions_text false 1 ss

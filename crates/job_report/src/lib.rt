@@ -1,4 +1,4 @@
-//! What is reported of a job, why an input is refused, and the listing of a program, as texts.
+//! What is reported of a job, why an input is refused, the listing of a program, and the summary of a generated job, as texts.
 #![tactic(auto)]
 
 mod endings;
@@ -14,4 +14,4 @@ mod tests;
 pub use listings::listing;
 pub use point::Point;
 pub use refusals::{FileRefusal, ModulesRefusal, Refusal, UnitRefusal, refusal_line};
-pub use reports::report;
+pub use reports::{report, summary};

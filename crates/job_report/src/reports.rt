@@ -1,6 +1,6 @@
 //! The report of a job.
 ghost use Rattle.std.specs.Prelude.{◌≡◌, ◌+◌, ◌++◌, OnOk, IfOk, map};
-ghost use Rattle.job_report.specs.Reports.{reported, line_end, session_line, counts_line, totals_line, session_text, sessions_text, report_of};
+ghost use Rattle.job_report.specs.Reports.{reported, line_end, session_line, counts_line, totals_line, session_text, sessions_text, report_of, generated_line, summary_of};
 
 use crate::endings::push_end;
 use crate::lines::push_line;
@@ -113,5 +113,31 @@ pub fn report(
             push_totals(&mut text, turns, loads)?;
         }
     }
+    Ok(text)
+}
+
+/// Appends the first line of a summary.
+fn push_generated(text: &mut Vec<u8>, n: u16, bytes: usize) -> Result<(), NoMemory>
+    ensures { OnOk result (text.new.items ≡ text.old.items ++ generated_line n bytes) }
+{
+    let n = number(n as u64);
+    let bytes = number(bytes as u64);
+    push_line(text, &[b"GEN ", &n, b" BYTES ", &bytes])
+}
+
+/// The summary of the generated job with number `n`, whose text has so many bytes and whose sessions stand so. Only memory
+/// may be wanting.
+#[tactic(auto, unfolding(crate::specs::Reports::summary_of))]
+pub fn summary(
+    alloc: Global,
+    n: u16,
+    bytes: usize,
+    points: &Vec<Point>,
+) -> Result<Vec<u8>, NoMemory>
+    ensures { IfOk result (λ text. text.items ≡ summary_of n bytes (map reported points.now.items)) }
+{
+    let mut text = Vec::new(alloc);
+    push_generated(&mut text, n, bytes)?;
+    push_sessions(&mut text, false, points)?;
     Ok(text)
 }

@@ -111,6 +111,27 @@ STATS TURNS 40 LOADS 1
     Ok(())
 }
 
+#[test]
+fn a_summary_has_the_sessions_behind_its_line(rt: HostRuntime) -> Result<(), Fail> {
+    let alloc = rt.alloc();
+    let mut points = Vec::new(alloc);
+    points.push(point(alloc, "G1", b"1679\n", Ending::Terminated)?)?;
+    points.push(point(alloc, "G2", b"X", Ending::Running)?)?;
+    assert_eq!(rt;
+        summary(alloc, 65535, 55327, &points)?.as_slice(),
+        b"GEN 65535 BYTES 55327
+SESSION 1 G1 BYTES 5
+1679
+END 1 TERMINATED
+SESSION 2 G2 BYTES 1
+X
+END 2 RUNNING
+"
+            .as_slice()
+    );
+    Ok(())
+}
+
 /// The place at which the units below are refused.
 fn place() -> At {
     At {

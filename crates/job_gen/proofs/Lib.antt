@@ -1,0 +1,5 @@
+pub mod GrowthLemmas
+pub mod LineLemmas
+pub mod SizeLemmas
+pub mod JobLemmas
+pub mod KnownTexts

@@ -1,0 +1,9 @@
+//! The generated jobs: the text of each, by its number.
+#![tactic(auto)]
+
+mod growing;
+mod jobs;
+#[cfg(test)]
+mod tests;
+
+pub use jobs::generate;
