@@ -6,7 +6,6 @@ use Rattle.std.proofs.lemmas.Bool.Decides.{nat_tests}
 use Rattle.mpe_regions.specs.declared.region.Region.{Region}
 use Rattle.mpe_regions.specs.Area.{times, times_placed, region_of}
 use Rattle.mpe_regions.specs.Loads.{placed, without}
-use Rattle.mpe_regions.specs.Ranks.{rank}
 
 -- the region of a key at a place, of a size in words
 abbrev pub loaded_at : ℕ → ℕ → ℕ → Region
@@ -105,18 +104,6 @@ longer_step false x r xs ys h = omega arith
 pub length-placed : (x : Region) (list : List Region) → length (placed x list) ≡ length list + 1
 length-placed x [] = refl
 length-placed x (r ∷ rs) = longer_step (nat_lt x.place r.place) x r rs (placed x rs) (length-placed x rs)
-
-insert_step : (b : Bool) (x r : Region) (xs ys : List Region) (n : ℕ) → ys ≡ insert xs n x
-    → (if b then x ∷ r ∷ xs else r ∷ ys) ≡ insert (r ∷ xs) (if b then 0 else 1 + n) x
-insert_step true x r xs ys n h = refl
-insert_step false x r xs ys n h = let next : 1 + n ≡ suc n = omega arith in rw next (ap (λ zs. r ∷ zs) h)
-
--- it is put in behind the regions that lie no higher
-pub placed-insert : (x : Region) (list : List Region) → placed x list ≡ insert list (rank x.place list) x
-placed-insert x [] = refl
-placed-insert x (r ∷ rs) = insert_step (nat_lt x.place r.place) x r rs (placed x rs) (rank x.place rs) (placed-insert x rs)
-
--- What a key finds.
 
 -- a key that no region has counts none, and the other way round
 pub times-absent : (key : ℕ) (list : List Region) → region_of key list ≡ None → times_placed key list ≡ 0

@@ -3,7 +3,8 @@
 pub mod Area
 pub mod Loads
 pub mod Sound
-pub mod Ranks
 pub mod Kept
-pub mod PlainForm
+pub mod Searches
+pub mod LinkedForm
+pub mod Fresh
 pub mod AreaLaws

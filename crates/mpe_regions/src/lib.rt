@@ -2,9 +2,10 @@
 #![tactic(auto)]
 
 mod laws;
-mod lists;
 mod region;
 mod regions;
+mod searches;
+mod tables;
 
 pub use laws::{
     holes_are_found, holes_are_lowest, regions_lie_apart, regions_lie_inside, small_ones_are_loaded,

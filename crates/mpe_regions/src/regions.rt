@@ -1,13 +1,14 @@
-//! The table of regions in its plain form: two lists, one in order of place and one in order of use. No contract names
-//! a field of it.
+//! The table of regions: nodes that are linked in order of place and in order of use. No contract names a field of it.
 ghost use Rattle.std.specs.Prelude.{◌≡◌, ◌<◌, nat_le, [], length, IfOk, option_map};
 ghost use Rattle.std.specs.Bool.{OnFalse};
 ghost use Rattle.mpe_regions.specs.Area.{region_of, is_live, IsAbsent, oldest_of};
 ghost use Rattle.mpe_regions.specs.Loads.{hole, put_if, dropped, touched};
 ghost use Rattle.mpe_regions.specs.Sound.{IsSound};
 
-use crate::lists::{find, first_hole, forget, move_last, put_in, take_out};
 use crate::region::Region;
+use crate::searches::{find, first_hole, key_in, note, region_in};
+use crate::tables::{enter, free_nodes, no_guesses};
+use mpe_links::{NONE, Node, release, renew};
 use std::alloc::{AllocError, Global};
 use std::marker::Model;
 
@@ -16,12 +17,18 @@ use std::marker::Model;
 pub struct Regions {
     /// The size of the area, in words.
     pub size: u32,
-    /// The regions in order of place.
-    pub list: Vec<Region>,
-    /// Their keys in order of use, the one used longest ago first.
-    pub order: Vec<u32>,
-    /// How many regions there is room for.
-    pub room: u16,
+    /// The nodes: those of regions, and free ones. A hole is none.
+    pub nodes: Vec<Node>,
+    /// The node of the lowest region, or `NONE`.
+    pub first: u16,
+    /// The node of the region that was used longest ago, and of the one used last.
+    pub oldest: u16,
+    pub newest: u16,
+    /// The first free node.
+    pub free: u16,
+    /// For each number below the length of the table, a node that may have a key that leaves it. What is noted is looked at and
+    /// not relied on: a search for a key that is live and noted walks over no region.
+    pub guesses: Vec<u16>,
 }
 
 impl Model for Regions {
@@ -29,7 +36,7 @@ impl Model for Regions {
 
     ghost Value = { Kept };
 
-    ghost use Rattle.mpe_regions.specs.PlainForm.{kept_by, IsTable};
+    ghost use Rattle.mpe_regions.specs.LinkedForm.{kept_by, IsTable};
 
     ghost view = { kept_by };
 
@@ -43,13 +50,16 @@ impl Regions {
         ensures room { IfOk result (λ r. r.room ≡ nodes) }
         ensures sound { IfOk result (λ r. IsSound r.area) }
     {
-        let list = Vec::with_capacity(alloc, nodes as usize)?;
-        let order = Vec::with_capacity(alloc, nodes as usize)?;
+        let table = free_nodes(alloc, nodes)?;
+        let guesses = no_guesses(alloc, nodes)?;
         Ok(Regions {
             size,
-            list,
-            order,
-            room: nodes,
+            nodes: table.nodes,
+            first: NONE,
+            oldest: NONE,
+            newest: NONE,
+            free: table.free,
+            guesses,
         })
     }
 
@@ -58,7 +68,7 @@ impl Regions {
         ensures value { result ≡ nat_le self.now.room (length self.now.area.list) }
         ensures sound { IsSound self.now.area }
     {
-        self.room as usize <= self.list.len()
+        self.free == NONE
     }
 
     /// Takes the lowest hole of at least `size` words for a new key, which is then the one used last. Answers its
@@ -72,11 +82,21 @@ impl Regions {
         ensures room { self.new.room ≡ self.old.room }
         ensures sound { IsSound self.new.area }
     {
-        match first_hole(&self.list, self.size, size) {
+        match first_hole(&self.nodes, self.first, self.size, size) {
             None => None,
-            Some(place) => {
-                put_in(&mut self.list, Region { key, place, size });
-                self.order.push_reserved(key);
+            Some(hole) => {
+                let x = self.free;
+                let place = hole.place;
+                enter(
+                    &mut self.nodes,
+                    &mut self.first,
+                    &mut self.oldest,
+                    &mut self.newest,
+                    &mut self.free,
+                    hole.before,
+                    Region { key, place, size },
+                );
+                note(&mut self.guesses, key, x);
                 Some(place)
             }
         }
@@ -90,12 +110,20 @@ impl Regions {
         ensures room { self.new.room ≡ self.old.room }
         ensures sound { IsSound self.new.area }
     {
-        if find(&self.list, key).is_none() {
-            return false;
+        match find(&self.nodes, &self.guesses, self.first, key) {
+            None => false,
+            Some(x) => {
+                release(
+                    &mut self.nodes,
+                    &mut self.first,
+                    &mut self.oldest,
+                    &mut self.newest,
+                    &mut self.free,
+                    x,
+                );
+                true
+            }
         }
-        take_out(&mut self.list, key);
-        forget(&mut self.order, key);
-        true
     }
 
     /// Makes a region the one used last. Answers whether the key was live; where it was not, nothing changes.
@@ -106,11 +134,13 @@ impl Regions {
         ensures room { self.new.room ≡ self.old.room }
         ensures sound { IsSound self.new.area }
     {
-        if find(&self.list, key).is_none() {
-            return false;
+        match find(&self.nodes, &self.guesses, self.first, key) {
+            None => false,
+            Some(x) => {
+                renew(&mut self.nodes, &mut self.oldest, &mut self.newest, x);
+                true
+            }
         }
-        move_last(&mut self.order, key);
-        true
     }
 
     /// The key that was used longest ago, and None exactly where no key is live.
@@ -118,7 +148,7 @@ impl Regions {
         ensures value { result ≡ oldest_of self.now.area }
         ensures sound { IsSound self.now.area }
     {
-        self.order.first().copied()
+        key_in(&self.nodes, self.oldest)
     }
 
     /// The region of a key, and None exactly where the key is not live.
@@ -126,7 +156,10 @@ impl Regions {
         ensures value { result ≡ region_of key self.now.area.list }
         ensures sound { IsSound self.now.area }
     {
-        find(&self.list, key)
+        region_in(
+            &self.nodes,
+            find(&self.nodes, &self.guesses, self.first, key),
+        )
     }
 
     /// The place of a key's region, in words from the start of the area, and None exactly where the key is not live.

@@ -1,5 +1,7 @@
 //! Calls on tables of regions, with places and orders worked by hand.
 
+mod histories;
+
 use super::*;
 use std::process::Abort;
 use std::test::Fail;

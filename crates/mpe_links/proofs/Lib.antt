@@ -1,0 +1,4 @@
+pub mod WayLaws
+pub mod NodeLemmas
+pub mod RingLemmas
+pub mod TableLemmas

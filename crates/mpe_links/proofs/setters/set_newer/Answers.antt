@@ -1,0 +1,10 @@
+use Rattle.std.proofs.Common.{refl, get_or}
+use Rattle.mpe_links.specs.Nodes.{blank, less_newer}
+use Rattle.mpe_links.proofs.NodeLemmas.{wrote, same}
+use Rattle.mpe_links.proofs.setters.set_newer.Goals as goal
+
+pub returns-else-at-eq-NONE-clause-written : goal.returns-else-at-eq-NONE-clause-written
+returns-else-at-eq-NONE-clause-written c = wrote (λ n. n.newer) c.args.nodes.now c.args.oldest.now c.args.at c.args.to (record (get_or c.args.nodes.now c.args.at blank) { newer = c.args.to }) c.if-at-eq-NONE.false (c.requires c.if-at-eq-NONE.false) refl
+
+pub returns-else-at-eq-NONE-clause-same : goal.returns-else-at-eq-NONE-clause-same
+returns-else-at-eq-NONE-clause-same c = same less_newer c.args.nodes.now c.args.at (record (get_or c.args.nodes.now c.args.at blank) { newer = c.args.to }) (c.requires c.if-at-eq-NONE.false) refl
