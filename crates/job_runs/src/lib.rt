@@ -1,0 +1,8 @@
+//! The sessions of a job: their turns, and the report on where they stand.
+#![tactic(auto)]
+
+mod reports;
+mod turns;
+
+pub use reports::report_on;
+pub use turns::take_turns;
