@@ -1,0 +1,2 @@
+pub mod LimitWalks
+pub mod LimitLaws

@@ -1,0 +1,9 @@
+-- A loop over units.
+use Rattle.std.proofs.Common.{◌≡◌, map, drop}
+use Rattle.spl_sound.specs.Spelled.{source_of}
+use Rattle.spl_limits.specs.FirstPassed.{behind_units}
+use Rattle.spl_limits.proofs.units.bodies_passed.Given as goal
+
+-- the first limit with the units from here on is that with all
+abbrev pub invariant-loop-unit : goal.invariant-loop-unit
+invariant-loop-unit l = behind_units (map source_of (drop l.unit-index l.units)) l.first ≡ behind_units (map source_of l.units) l.initial.first

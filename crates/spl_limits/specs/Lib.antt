@@ -1,0 +1,2 @@
+pub mod FirstPassed
+pub mod Answers
