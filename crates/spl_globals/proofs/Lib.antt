@@ -1,0 +1,3 @@
+pub mod StoredWalks
+pub mod StoredLaws
+pub mod ZeroLemmas
