@@ -1,0 +1,19 @@
+-- Before the first declaration, and one more.
+use Rattle.std.proofs.Common.{map, ap}
+use Rattle.spl_tree.specs.DeclarationTrees.{declarations}
+use Rattle.spl_tree.specs.Spells.{declaration}
+use Rattle.spl_meaning.specs.Names.{Names, find, nothing_declared}
+use Rattle.spl_sorts.specs.Tables.{table_of}
+use Rattle.spl_found.specs.OwnNames.{behind_declarations}
+use Rattle.spl_rooms.proofs.RoomWalks.{names_more}
+use Rattle.spl_rooms.proofs.units.unit_names.Goals as goal
+
+pub loop-d-init : goal.loop-d-init
+loop-d-init c =
+    ap (λ (here : Names). behind_declarations nothing_declared here (declarations (map declaration c.args.list.now))) c.nothing-here.ensures
+
+pub loop-d-preserved : goal.loop-d-preserved
+loop-d-preserved c =
+    names_more _ (find (table_of c.nothing-outer.result)) (find (table_of c.loop-d.here))
+    (find (table_of c.declare_all.new.here)) c.args.list.now c.loop-d.d-index c.d-item.result c.loop-d-test.true c.d-item.is
+    c.nothing-outer.ensures c.in_ok-declare_all.ensures c.loop-d.invariant
