@@ -1,0 +1,8 @@
+-- In reading order.
+pub mod MarkLemmas
+pub mod WantLemmas
+pub mod TextLemmas
+pub mod Joins
+pub mod ExpressionLemmas
+pub mod ViewLemmas
+pub mod WordCounts
