@@ -1,0 +1,10 @@
+//! A program, from the texts of its units: units that break no rule, or the first fault of the texts.
+#![tactic(auto)]
+
+mod faults;
+mod reading;
+#[cfg(test)]
+mod tests;
+
+pub use faults::ProgramFault;
+pub use reading::read_program;
