@@ -42,5 +42,14 @@ fn main(rt: HostRuntime) -> ExitCode {
         faults: 0,
     };
     let mut made = Vec::new(rt.alloc());
-    ExitCode::from(hp3000_main(rt.alloc(), &words, &mut input, &mut output, &mut made).status())
+    let mut ran = None;
+    let exit = hp3000_main(
+        rt.alloc(),
+        &words,
+        &mut input,
+        &mut output,
+        &mut made,
+        &mut ran,
+    );
+    ExitCode::from(exit.status())
 }

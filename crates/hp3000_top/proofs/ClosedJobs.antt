@@ -12,8 +12,6 @@ use Rattle.thin_jobs.specs.ThinUnits as u
 use Rattle.thin_jobs.specs.ThinTrees.{tree_statement, is_integer}
 use Rattle.thin_jobs.specs.ThinShapes.{is_atom, is_sum, is_short, is_statement, is_simple_item, is_variable_name, are_distinct, are_variables, are_gates, are_statements, is_first_segment, unit_with, tree_unit, thin_in}
 use Rattle.thin_meaning.specs.Closed.{is_closed_atom, is_closed_sum, is_closed_statement, Closed}
-use Rattle.thin_jobs.specs.ThinJobs.{Job}
-use Rattle.hp3000_top.specs.Jobs.{Thin_job}
 
 both : (a b : Bool) → a ≡ true → b ≡ true → (a && b) ≡ true
 both true b h k = k
@@ -113,6 +111,3 @@ kept_in false ds ss unit h = cc
 
 pub kept : (subprogram : Bool) (segments : List (List ℕ)) (t : UnitTree) (unit : u.Unit) → thin_in subprogram segments t ≡ Some unit → Kept unit
 kept subprogram segments t unit h = kept_in (not subprogram && is_first_segment segments) t.items t.statements unit h
-
-pub kept_job : (job : Job) (bytes : List ℕ) → Thin_job job bytes → Kept job.unit
-kept_job job bytes v = kept v.source.subprogram v.source.segments v.source.tree job.unit v.is_thin

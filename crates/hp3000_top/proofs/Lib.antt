@@ -1,4 +1,9 @@
-pub mod RunLemmas
 pub mod ClosedJobs
-pub mod JobLemmas
+pub mod Loops
+pub mod Making
+pub mod Copies
+pub mod Unique
+pub mod Headline
+pub mod Opening
 pub mod AnswerLemmas
+pub mod TopLemmas

@@ -1,43 +1,31 @@
 -- What the top call answers and writes.
-use Rattle.std.specs.Prelude.{◌≡◌, ℕ, Bool, true, false, List, [], ◌∷◌, Option, None, Some, IfSome, codes, nat_eq, length, ◌≤◌, ◌<◌}
+use Rattle.std.specs.Prelude.{ℕ, ◌≡◌, ◌≢◌, ◌≤◌, Bool, false, List, [], ◌∷◌, length, slice_get, Option, None, Some, IfSome, codes, nat_eq, ◌⊎◌}
 use Rattle.std.specs.Io.KnownBytes.{Appends, IsAtEnd}
 use lib.Pointwise.{pointwise}
-use Rattle.spl_tree.specs.declared.names_and_places.At.{At}
-use Rattle.spl_tree.specs.declared.fault_kinds.FaultKind.{FaultKind}
+use Rattle.job_text.specs.Jobs.{JobValue}
+use Rattle.job_text.specs.States.{TextValue, SeatValue}
+use Rattle.job_runs.specs.Reported.{names_of, report_on}
 use Rattle.hp_program.specs.declared.program.Program.{Program}
-use Rattle.hp_session.specs.State.{Machine}
+use Rattle.mpe_worlds.specs.Worlds.{Run, World}
+use Rattle.mpe_turns.specs.declared.monitor.Monitor.{Monitor}
+use Rattle.mpe_turns.specs.declared.fault.OpenFault.TheVariants.{MemoryTooSmall}
+use Rattle.mpe_turns.specs.Opening.{refusal}
+use Rattle.mpe_turns.specs.Monitors.{world_of}
+use Rattle.mpe_session.specs.declared.seat.Seat as seats
+use Rattle.thin_jobs.specs.ThinUnits as u
+use Rattle.thin_meaning.specs.ThinMeaning.{Seat, alone}
+use Rattle.thin_carries.specs.Carries.{flat_point}
 use Rattle.hp3000_top.specs.declared.exit.Exit.{Exit}
 use Rattle.hp3000_top.specs.declared.exit.Exit.TheVariants as e
-use Rattle.thin_jobs.specs.ThinJobs.{Job}
-use Rattle.thin_compiler.specs.ThinCode.{bound_of, is_in_bounds}
-use Rattle.thin_compiler.specs.ProgramViews.{IsMadeOf}
-use Rattle.hp3000_top.specs.Reports.{report_of}
-use Rattle.thin_meaning.specs.ThinMeaning.{Standing, stands, stray, alone}
-use Rattle.thin_carries.specs.Carries.{Carries}
-use Rattle.hp3000_top.specs.Runs.{run_of, thin_seat}
-use Rattle.hp3000_top.specs.Jobs.{Thin_job, Faulty, IsSound}
-use Rattle.hp3000_top.specs.Refusals.{later_line, fault_line, IsUnbuilt}
+use Rattle.hp3000_top.specs.declared.ran.Ran.{Ran}
+use Rattle.hp3000_top.specs.declared.ran.Ran.TheVariants.{Plain}
+use Rattle.hp3000_top.specs.Programs.{IsThin}
+use Rattle.hp3000_top.specs.Causes.{IsJob, Cause, Runs, open_line}
 
 -- the one word of the verb that is built
 abbrev pub is_run : List (List ℕ) → Bool
 is_run (w ∷ []) = pointwise nat_eq w (codes "run")
 is_run _ = false
-
--- the report of a session of this program's name
-abbrev pub report_of_run : List ℕ → Machine → List ℕ
-report_of_run name m = report_of name m.printed m.ending
-
--- The bytes are a thin job without a fault, of which a segment can be made; the one program is made of its unit, and the text is the
--- report of that program's run by the flat machine.
-pub record IsAnswered (bytes : List ℕ) (made : List Program) (text : List ℕ) : Type 0 where
-  pub job : Job
-  pub thin : Thin_job job bytes
-  pub sound : IsSound bytes
-  pub program : Program
-  pub one : made ≡ program ∷ []
-  pub fits : is_in_bounds job.unit.names job.unit.statements ≡ true
-  pub is_made : IsMadeOf job.unit.names job.unit.statements program
-  pub report : text ≡ report_of_run job.name (run_of program job.quantum)
 
 -- the input was read to its end, and has at most so many bytes
 abbrev pub IsWhole : ℕ → Option (List ℕ) → Option (List ℕ) → Type 0
@@ -50,45 +38,61 @@ IsSilent e.Refused = ⊥
 IsSilent e.WriteFault = ⊥
 IsSilent _ = Unit {0}
 
--- the one program is made of the job's unit and carries it, and the report of its run was appended to what was written
-abbrev pub DeliversJob : Job → List Program → Option (List ℕ) → Option (List ℕ) → Type 0
-DeliversJob job (p ∷ []) old new =
-    IsMadeOf job.unit.names job.unit.statements p × Carries p job.unit × Appends old new (report_of_run job.name (run_of p job.quantum))
-DeliversJob job _ old new = ⊥
+-- one line was appended to what was written, and the bytes that were left are refused by it
+abbrev pub Refuses : Option (List ℕ) → Option (List ℕ) → Option (List ℕ) → Type 0
+Refuses left old new = IfSome left (λ bytes. (line : List ℕ) × Cause bytes line × Appends old new line)
 
--- the bytes that were left are a thin job, whose segment has a bound of at most 16,383 words, and it was delivered
-abbrev pub Delivers : Option (List ℕ) → List Program → Option (List ℕ) → Option (List ℕ) → Type 0
-Delivers left made old new = IfSome left (λ bytes. (job : Job) × Thin_job job bytes × (bound_of job.unit.statements ≤ 16383) × DeliversJob job made old new)
+-- ---- done
 
--- the unit of the bytes that were left has this fault
-abbrev pub HasFaulty : Option (List ℕ) → List ℕ → FaultKind → At → Type 0
-HasFaulty left name kind at = IfSome left (Faulty name kind at)
+-- what is left of the run is a monitor, and it stands for this world
+abbrev pub HasRun : Option Ran → World → Type 0
+HasRun None w = ⊥
+HasRun (Some (Plain m)) w = world_of m ≡ w
 
--- no unit of them has a fault, and no segment can be made of them
-abbrev pub IsNotBuilt : Option (List ℕ) → Type 0
-IsNotBuilt left = IfSome left IsUnbuilt
+-- the report of the job's world was appended to what was written, and the monitor stands for that world
+pub record DeliversJob (bytes : List ℕ) (made : List Program) (ran : Option Ran) (old new : Option (List ℕ)) : Type 0 where
+  pub job : JobValue
+  pub world : World
+  pub runs : Runs bytes job made world
+  pub has_run : HasRun ran world
+  pub appends : Appends old new (report_on (names_of job.programs) job.stats world)
 
--- one line was appended to what was written: that of what is not built, or that of the fault
-pub data Refuses (left old new : Option (List ℕ)) : Type 0 where
-  later : Appends old new later_line → IsNotBuilt left → Refuses left old new
-  faulty : (name : List ℕ) (kind : FaultKind) (at : At) → Appends old new (fault_line name kind at) → HasFaulty left name kind at
-      → Refuses left old new
+abbrev pub Delivers : Option (List ℕ) → List Program → Option Ran → Option (List ℕ) → Option (List ℕ) → Type 0
+Delivers left made ran old new = IfSome left (λ bytes. DeliversJob bytes made ran old new)
 
--- the report of a source run that stands so was appended to what was written; of one that has strayed there is none
-abbrev pub Reports : List ℕ → List ℕ → Standing → Option (List ℕ) → Option (List ℕ) → Type 0
-Reports name printed (stands ending) old new = Appends old new (report_of name printed ending)
-Reports name printed stray old new = ⊥
+-- ---- the headline
 
--- the bytes that were left are a thin job, and what was reported is where its unit, run alone, stands after some number of steps: what it
--- has printed there, and how it has ended there, if it has
-abbrev pub IsAsAlone : Option (List ℕ) → Option (List ℕ) → Option (List ℕ) → Type 0
-IsAsAlone left old new = IfSome left (λ bytes. (job : Job) × Thin_job job bytes
-    × ((n : ℕ) × Reports job.name (alone job.unit thin_seat n).printed (alone job.unit thin_seat n).standing old new))
+-- what a source run alone is given where a session has this seat
+abbrev pub seat_of : SeatValue → Seat
+seat_of s = record { stack = s.stack; extra = s.extra; room = s.room; lines = s.lines }
 
--- the bytes that are left are a thin job, at most 1,048,576, whose segment has a bound of at most 16,383 words
+-- the session has printed what the unit, run alone, has printed after some number of its steps, and stands as that run stands there
+abbrev pub IsAsAlone : u.Unit → SeatValue → Run → Type 0
+IsAsAlone unit seat r = (n : ℕ) × (alone unit (seat_of seat) n ≡ flat_point r.machine)
+
+-- there is a session for each of the job's, and each is so with the unit of its program
+pub record EachIsAsAlone (job : JobValue) (runs : List Run) : Type 0 where
+  pub count : length runs ≡ length job.sessions
+  pub each : (k : ℕ) (seat : SeatValue) (t : TextValue) (r : Run) → slice_get job.sessions k ≡ Some seat → slice_get job.programs seat.program ≡ Some t
+      → slice_get runs k ≡ Some r → (unit : u.Unit) × IsThin t.units unit × IsAsAlone unit seat r
+
+-- what was reported is a world of the job's sessions in which each is so
+pub record ReportsAsAlone (bytes : List ℕ) (made : List Program) (old new : Option (List ℕ)) : Type 0 where
+  pub job : JobValue
+  pub world : World
+  pub runs : Runs bytes job made world
+  pub each : EachIsAsAlone job world.runs
+  pub appends : Appends old new (report_on (names_of job.programs) job.stats world)
+
+abbrev pub AreAsAlone : Option (List ℕ) → List Program → Option (List ℕ) → Option (List ℕ) → Type 0
+AreAsAlone left made old new = IfSome left (λ bytes. ReportsAsAlone bytes made old new)
+
+-- ---- when each answer has to come
+
+-- the bytes that are left, at most 1,048,576, are a job whose programs can be made and whose sessions open
 abbrev pub IsBuilt : Option (List ℕ) → Type 0
 IsBuilt None = ⊥
-IsBuilt (Some bytes) = (job : Job) × Thin_job job bytes × (bound_of job.unit.statements ≤ 16383) × (length bytes ≤ 1048576)
+IsBuilt (Some bytes) = (length bytes ≤ 1048576) × ((job : JobValue) × (made : List Program) × (w : World) × Runs bytes job made w)
 
 -- done, unless memory is wanting
 abbrev pub IsDone : Exit → Type 0
@@ -96,13 +100,30 @@ IsDone e.Done = Unit {0}
 IsDone e.NoMemory = Unit {0}
 IsDone _ = ⊥
 
--- the bytes that are left are those of a job whose unit has a fault, at most 1,048,576
-abbrev pub IsFaulty : Option (List ℕ) → List ℕ → FaultKind → At → Type 0
-IsFaulty None name kind at = ⊥
-IsFaulty (Some bytes) name kind at = Faulty name kind at bytes × (length bytes ≤ 1048576)
+-- the bytes that are left, at most 1,048,576, are refused by this line
+abbrev pub IsFaulty : Option (List ℕ) → List ℕ → Type 0
+IsFaulty None line = ⊥
+IsFaulty (Some bytes) line = (length bytes ≤ 1048576) × Cause bytes line
 
--- the line of this fault was appended, unless memory is wanting
-abbrev pub IsRefused : Exit → Option (List ℕ) → Option (List ℕ) → List ℕ → FaultKind → At → Type 0
-IsRefused e.Refused old new name kind at = Appends old new (fault_line name kind at)
-IsRefused e.NoMemory old new name kind at = Unit {0}
-IsRefused _ old new name kind at = ⊥
+-- this line was appended, unless memory is wanting
+abbrev pub IsRefusedBy : Exit → Option (List ℕ) → Option (List ℕ) → List ℕ → Type 0
+IsRefusedBy e.Refused old new line = Appends old new line
+IsRefusedBy e.NoMemory old new line = Unit {0}
+IsRefusedBy _ old new line = ⊥
+
+-- ---- what is made
+
+-- the programs of a job that the memory is too small for
+pub record IsCrowded (bytes : List ℕ) (made : List Program) : Type 0 where
+  pub job : JobValue
+  pub seats : List seats.Seat
+  pub is : IsJob bytes job made seats
+  pub need : ℕ
+  pub given : ℕ
+  pub refused : refusal job.memory seats made ≡ Some (MemoryTooSmall need given)
+
+-- at a refusal the programs are those of a job that the memory is too small for, or as before
+abbrev pub MadeAt : Exit → Option (List ℕ) → List Program → List Program → Type 0
+MadeAt e.Done left old new = Unit {0}
+MadeAt e.Refused left old new = (new ≡ old) ⊎ IfSome left (λ bytes. IsCrowded bytes new)
+MadeAt _ left old new = new ≡ old

@@ -1,7 +1,6 @@
-pub mod Runs
-pub mod Reports
+-- In reading order: exit statuses, what is made of programs, what an input comes to, what the top call answers and writes, and what its parts do.
 pub mod Statuses
-pub mod Frames
-pub mod Jobs
-pub mod Refusals
+pub mod Programs
+pub mod Causes
 pub mod Answers
+pub mod Steps

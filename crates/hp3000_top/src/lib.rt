@@ -1,14 +1,17 @@
 //! The top call: from the words of the command line and the bytes of the input to the bytes of the output.
 #![tactic(auto)]
 
+mod answer;
+mod answering;
 mod exit;
-mod job;
-mod report;
-mod session;
+mod programs;
+mod ran;
+mod running;
 #[cfg(test)]
 mod tests;
 mod top;
-mod unanswered;
+mod unmade;
 
 pub use exit::Exit;
+pub use ran::Ran;
 pub use top::hp3000_main;

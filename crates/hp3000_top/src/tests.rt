@@ -1,7 +1,7 @@
 //! The top call over sources and sinks in memory.
 use crate::{Exit, hp3000_main};
-use hp_flat::Program;
 use hp_outside::{MemorySink, MemorySource, SteadySink, SteadySource};
+use hp_program::Program;
 use std::alloc::Global;
 use std::test::Fail;
 
@@ -34,7 +34,8 @@ fn call(
         list.push(String::from_str(alloc, word)?)?;
     }
     let mut made: Vec<Program> = Vec::new(alloc);
-    let exit = hp3000_main(alloc, &list, &mut input, &mut output, &mut made);
+    let mut ran = None;
+    let exit = hp3000_main(alloc, &list, &mut input, &mut output, &mut made, &mut ran);
     Ok((exit, input, output, made.len()))
 }
 
@@ -61,7 +62,15 @@ fn the_first_job_quits_with_five(rt: HostRuntime) -> Result<(), Fail> {
     let mut sink = SteadySink { taken: 0 };
     let words = vec![in alloc; String::from_str(alloc, "run")?]?;
     let mut programs: Vec<Program> = Vec::new(alloc);
-    let exit = hp3000_main(alloc, &words, &mut steady, &mut sink, &mut programs);
+    let mut ran = None;
+    let exit = hp3000_main(
+        alloc,
+        &words,
+        &mut steady,
+        &mut sink,
+        &mut programs,
+        &mut ran,
+    );
     assert_eq!(rt; exit.status(), 0);
     assert_eq!(rt; sink.taken, FIRST_REPORT.len() as u64);
     Ok(())
@@ -169,32 +178,149 @@ fn jobs_and_their_reports(rt: HostRuntime) -> Result<(), Fail> {
     Ok(())
 }
 
+/// A job of one program A with this unit, and one session of it.
+fn job_of(alloc: Global, unit: &str) -> Result<Vec<u8>, Fail> {
+    let text = format!(in alloc; "!JOB\n!PROGRAM A\n!UNIT\n{unit}\n!SESSION A\n!EOJ\n")?;
+    Ok(Vec::from_slice(alloc, text.as_bytes())?)
+}
+
 #[test]
-fn inputs_that_are_no_thin_job(rt: HostRuntime) -> Result<(), Fail> {
+fn jobs_that_are_refused(rt: HostRuntime) -> Result<(), Fail> {
     let alloc = rt.alloc();
-    let cases: [&[u8]; 12] = [
-        b"",
-        b"!JOB\n!PROGRAM A\n!UNIT\nBEGIN INTEGER A; INTRINSIC QUIT; QUIT(A) END.\n!SESSION B\n!EOJ\n",
-        b"!JOB\n!PROGRAM A\n!UNIT\nBEGIN INTEGER A; INTRINSIC QUIT; QUIT(A) END.\n!SESSION A\n!EOJ\nX\n",
-        b"!JOB\n!PROGRAM A\n!UNIT\nBEGIN INTEGER A; INTRINSIC QUIT; QUIT(A) END.\n!SESSION A\n",
-        b"!JOB\n!QUANTUM 501\n!PROGRAM A\n!UNIT\nBEGIN INTEGER A; INTRINSIC QUIT; QUIT(A) END.\n!SESSION A\n!EOJ\n",
-        b"!JOB\n!QUANTUM 0\n!PROGRAM A\n!UNIT\nBEGIN INTEGER A; INTRINSIC QUIT; QUIT(A) END.\n!SESSION A\n!EOJ\n",
-        b"!JOB\n!PROGRAM A23456789\n!UNIT\nBEGIN INTEGER A; INTRINSIC QUIT; QUIT(A) END.\n!SESSION A23456789\n!EOJ\n",
-        b"!JOB\n!PROGRAM A\n!UNIT\nBEGIN INTEGER A; INTRINSIC QUIT; QUIT(B) END.\n!SESSION A\n!EOJ\n",
-        b"!JOB\n!PROGRAM A\n!UNIT\nBEGIN INTEGER A,A; INTRINSIC QUIT; QUIT(A) END.\n!SESSION A\n!EOJ\n",
-        b"!JOB\n!PROGRAM A\n!UNIT\nBEGIN INTEGER A; INTRINSIC QUIT,QUIT; QUIT(A) END.\n!SESSION A\n!EOJ\n",
-        b"!JOB\n!PROGRAM A\n!UNIT\nBEGIN INTEGER A; INTRINSIC QUIT; TERMINATE END.\n!SESSION A\n!EOJ\n",
-        b"!JOB\n!PROGRAM A\n!UNIT\nBEGIN INTEGER A; INTRINSIC QUIT; A:=32768 END.\n!SESSION A\n!EOJ\n",
+    let cases: [(&[u8], &[u8]); 9] = [
+        (b"", b"JOB LINE 1 RULE 1\n"),
+        (
+            b"!JOB\n!PROGRAM A\n!UNIT\nBEGIN END.\n!SESSION B\n!EOJ\n",
+            b"JOB LINE 5 RULE 8\n",
+        ),
+        (
+            b"!JOB\n!PROGRAM A\n!UNIT\nBEGIN END.\n!SESSION A\n!EOJ\nX\n",
+            b"JOB LINE 7 RULE 13\n",
+        ),
+        (
+            b"!JOB\n!PROGRAM A\n!UNIT\nBEGIN END.\n!SESSION A\n",
+            b"JOB LINE 6 RULE 13\n",
+        ),
+        (
+            b"!JOB\n!QUANTUM 501\n!PROGRAM A\n!UNIT\nBEGIN END.\n!SESSION A\n!EOJ\n",
+            b"JOB LINE 7 RULE 12\n",
+        ),
+        (
+            b"!JOB\n!QUANTUM 0\n!PROGRAM A\n!UNIT\nBEGIN END.\n!SESSION A\n!EOJ\n",
+            b"JOB LINE 2 RULE 3\n",
+        ),
+        (
+            b"!JOB\n!PROGRAM A23456789\n!UNIT\nBEGIN END.\n!SESSION A23456789\n!EOJ\n",
+            b"JOB LINE 2 RULE 5\n",
+        ),
+        // of two programs with faults the first counts
+        (
+            b"!JOB\n!PROGRAM A\n!UNIT\nBEGIN I:=1 END.\n!PROGRAM B\n!UNIT\nBEGIN ?\n!SESSION B\n!EOJ\n",
+            b"PROGRAM A UNIT 1 LINE 1 COLUMN 7 RULE 1\n",
+        ),
+        (
+            b"!JOB\n!PROGRAM A\n!UNIT\nBEGIN INTEGER I; INTRINSIC QUIT; QUIT(I) END.\n!PROGRAM B\n!UNIT\nBEGIN END.\n!UNIT\nBEGIN ?\n!SESSION B\n!EOJ\n",
+            b"PROGRAM B UNIT 2 LINE 1 COLUMN 7 BADBYTE\n",
+        ),
     ];
-    for job in cases {
+    for (job, why) in cases {
+        let mut line = Vec::from_slice(alloc, b"REFUSED ")?;
+        line.extend_from_slice(why)?;
         let (exit, text) = run(alloc, job)?;
-        assert_eq!(rt; text.as_slice(), b"REFUSED LATER\n".as_slice());
+        assert_eq!(rt; text.as_slice(), line.as_slice());
         assert_eq!(rt; exit, Exit::Refused);
     }
     for end in 0..FIRST.len() - 1 {
         let (exit, _) = run(alloc, &FIRST[..end])?;
         assert_eq!(rt; exit, Exit::Refused);
     }
+    Ok(())
+}
+
+#[test]
+fn units_that_are_refused(rt: HostRuntime) -> Result<(), Fail> {
+    let alloc = rt.alloc();
+    let cases: [(&str, &str); 6] = [
+        (
+            "BEGIN INTEGER A; INTRINSIC QUIT; QUIT(B) END.",
+            "PROGRAM A UNIT 1 LINE 1 COLUMN 39 RULE 1",
+        ),
+        (
+            "BEGIN INTEGER A,A; INTRINSIC QUIT; QUIT(A) END.",
+            "PROGRAM A UNIT 1 LINE 1 COLUMN 17 RULE 2",
+        ),
+        (
+            "BEGIN INTEGER A; INTRINSIC QUIT,QUIT; QUIT(A) END.",
+            "PROGRAM A UNIT 1 LINE 1 COLUMN 33 RULE 2",
+        ),
+        (
+            "BEGIN INTEGER A; INTRINSIC QUIT; TERMINATE END.",
+            "PROGRAM A UNIT 1 LINE 1 COLUMN 34 RULE 1",
+        ),
+        // sound, and not thin
+        ("BEGIN INTEGER A; INTRINSIC QUIT; A:=32768 END.", "LATER"),
+        ("BEGIN END.", "LATER"),
+    ];
+    for (unit, why) in cases {
+        let line = format!(in alloc; "REFUSED {why}\n")?;
+        let (exit, text) = run(alloc, &job_of(alloc, unit)?)?;
+        assert_eq!(rt; text.as_slice(), line.as_bytes(), "{unit}");
+        assert_eq!(rt; exit, Exit::Refused);
+    }
+    Ok(())
+}
+
+/// A job of two programs and three sessions, behind these settings.
+fn crowd(alloc: Global, settings: &str) -> Result<Vec<u8>, Fail> {
+    let text = format!(in alloc;
+        "!JOB\n{settings}!PROGRAM A\n!UNIT\nBEGIN INTEGER I; INTRINSIC QUIT; I:=2; I:=I+3; QUIT(I) END.\n!PROGRAM B\n!UNIT\nBEGIN INTEGER J; INTRINSIC TERMINATE; TERMINATE END.\n!SESSION B\n!SESSION A STACK=64\n!SESSION B EXTRA=10\n!EOJ\n"
+    )?;
+    Ok(Vec::from_slice(alloc, text.as_bytes())?)
+}
+
+#[test]
+fn sessions_of_two_programs(rt: HostRuntime) -> Result<(), Fail> {
+    let alloc = rt.alloc();
+    let report: &[u8] =
+        b"SESSION 1 B BYTES 0\nEND 1 TERMINATED\nSESSION 2 A BYTES 0\nEND 2 QUIT 5\nSESSION 3 B BYTES 0\nEND 3 TERMINATED\n";
+    for settings in ["", "!QUANTUM 1\n", "!TURNS 1000\n"] {
+        let output = MemorySink::make(alloc, 4096, Vec::new(alloc))?;
+        let job = crowd(alloc, settings)?;
+        let (exit, _, output, made) = call(alloc, &["run"], source(alloc, &job, &[])?, output)?;
+        assert_eq!(rt; output.bytes.as_slice(), report);
+        assert_eq!(rt; (exit, made), (Exit::Done, 2));
+    }
+    // one turn is that of the first session
+    let (_, text) = run(alloc, &crowd(alloc, "!QUANTUM 1\n!TURNS 1\n")?)?;
+    let running: &[u8] =
+        b"SESSION 1 B BYTES 0\nEND 1 RUNNING\nSESSION 2 A BYTES 0\nEND 2 RUNNING\nSESSION 3 B BYTES 0\nEND 3 RUNNING\n";
+    assert_eq!(rt; text.as_slice(), running);
+    Ok(())
+}
+
+#[test]
+fn jobs_that_do_not_open(rt: HostRuntime) -> Result<(), Fail> {
+    let alloc = rt.alloc();
+    // 100 data words and a marker, in a stack of 64 words
+    let mut job = with_names(alloc, 100)?;
+    job.truncate(job.len().saturating_sub(6));
+    job.extend_from_slice(b" STACK=64\n!EOJ\n")?;
+    let (exit, text) = run(alloc, &job)?;
+    assert_eq!(rt;
+        text.as_slice(),
+        b"REFUSED STACK SESSION 1 NEED 104 GIVEN 64\n".as_slice()
+    );
+    assert_eq!(rt; exit, Exit::Refused);
+    // a stack of 1,024 words; a segment of room, two calls and a table of three words
+    let job: &[u8] =
+        b"!JOB\n!MEMORY 1\n!PROGRAM A\n!UNIT\nBEGIN INTEGER A; INTRINSIC TERMINATE; TERMINATE END.\n!SESSION A\n!EOJ\n";
+    let output = MemorySink::make(alloc, 4096, Vec::new(alloc))?;
+    let (exit, _, output, made) = call(alloc, &["run"], source(alloc, job, &[])?, output)?;
+    assert_eq!(rt;
+        output.bytes.as_slice(),
+        b"REFUSED MEMORY NEED 1030 GIVEN 1\n".as_slice()
+    );
+    assert_eq!(rt; (exit, made), (Exit::Refused, 1));
     Ok(())
 }
 

@@ -1,5 +1,2 @@
 pub mod NameLemmas
 pub mod TreeLemmas
-pub mod GivesLemmas
-pub mod JobLemmas
-pub mod LineLemmas

@@ -1,57 +1,38 @@
-//! Lines and jobs worked by hand.
-
+//! Names worked by hand.
 use super::*;
-use std::alloc::Global;
+use spl_tree::{At, Name};
 use std::test::Fail;
 
-const FIRST: &[u8] =
-    b"!JOB\r\n!quantum 1\n!PROGRAM A\n!UNIT\nBEGIN INTEGER I;\nINTRINSIC QUIT; QUIT(I) END.\n!SESSION A\n!EOJ";
+/// An intrinsic, as it is declared.
+fn gate(name: &[u8]) -> (Name, At) {
+    let at = At {
+        unit: 1,
+        line: 1,
+        column: 1,
+    };
+    (Name::new(&name[..name.len().min(15)]), at)
+}
 
 #[test]
-fn lines_end_at_line_feeds(rt: HostRuntime) -> Result<(), Fail> {
-    let cases: [(&[u8], &[&[u8]]); 6] = [
-        (b"", &[]),
-        (b"A", &[b"A"]),
-        (b"A\n", &[b"A"]),
-        (b"A\r\nB\r", &[b"A", b"B\r"]),
-        (b"\n\n", &[b"", b""]),
-        (b"\r\r\n", &[b"\r"]),
-    ];
-    for (bytes, wanted) in cases {
-        assert_eq!(rt; lines(rt.alloc(), bytes)?.as_slice(), wanted);
-    }
+fn intrinsics_that_are_declared(rt: HostRuntime) -> Result<(), Fail> {
+    let (quit, terminate) = (gate(b"QUIT"), gate(b"TERMINATE"));
+    assert!(rt; is_word(&quit.0, b"QUIT"));
+    assert!(rt; !is_word(&terminate.0, b"QUIT"));
+    let both = [quit, terminate];
+    assert!(rt; quit_declared(&both) && terminate_declared(&both));
+    let first = [gate(b"QUIT")];
+    assert!(rt; quit_declared(&first) && !terminate_declared(&first));
+    let second = [gate(b"TERMINATE")];
+    assert!(rt; !quit_declared(&second) && terminate_declared(&second));
+    assert!(rt; !quit_declared(&[]) && !terminate_declared(&[]));
     Ok(())
 }
 
 #[test]
-fn the_parts_of_a_job(rt: HostRuntime) -> Result<(), Fail> {
-    let alloc = rt.alloc();
-    let job = read_lines(alloc, &lines(alloc, FIRST)?)?;
-    assert!(rt; whole(job.due));
-    assert_eq!(rt; job.quantum, 1);
-    assert_eq!(rt; job.name.text.as_slice(), b"A".as_slice());
-    assert_eq!(rt;
-        job.text.as_slice(),
-        b"BEGIN INTEGER I;\nINTRINSIC QUIT; QUIT(I) END.\n".as_slice()
-    );
-    Ok(())
-}
-
-#[test]
-fn jobs_that_are_not_thin(rt: HostRuntime) -> Result<(), Fail> {
-    let alloc = rt.alloc();
-    let cases: [&[u8]; 8] = [
-        b"!JOB\n\n!PROGRAM A",
-        b"!JOB\n!QUANTUM 501",
-        b"!JOB\n!QUANTUM 1\n!QUANTUM 1",
-        b"!JOB\n!PROGRAM 1A",
-        b"!JOB\n!PROGRAM A\n!UNIT\n!SESSION A",
-        b"!JOB\n!PROGRAM A\n!UNIT\nX\n!SESSION B",
-        b"!JOB\n!PROGRAM A\n!UNIT\nX\n!SESSION A\n!EOJ\n!JOB",
-        b"JOB",
-    ];
-    for job in cases {
-        assert!(rt; read_lines(alloc, &lines(alloc, job)?).is_err());
+fn bytes_of_names(rt: HostRuntime) -> Result<(), Fail> {
+    for b in 0..=255u8 {
+        let wanted = b"ABCDEFGHIJKLMNOPQRSTUVWXYZ0123456789".contains(&b);
+        assert_eq!(rt; name_byte(b), wanted);
     }
     Ok(())
 }

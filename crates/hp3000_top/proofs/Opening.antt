@@ -1,0 +1,76 @@
+-- What the monitor answers, of the programs that were made.
+use Rattle.std.proofs.Common.{ℕ, ◌≡◌, ◌≢◌, ◌<◌, ◌≤◌, List, [], ◌∷◌, map, length, Vec, Global, Option, None, Some, Result, Ok, Err, refl, ap, sym, subst, ◌∙◌, arith}
+use Rattle.std.specs.Prelude.{slice_get, IfOk, IfSome, MatchResult}
+use Rattle.std.proofs.lemmas.List.{length-map}
+use Rattle.hp_program.specs.declared.program.Program.{Program}
+use Rattle.job_text.specs.declared.job.Job.{Job}
+use Rattle.job_text.specs.declared.job.Text.{Text}
+use Rattle.job_text.specs.Fits.{Each, SeatFits, JobFits}
+use Rattle.job_text.specs.Jobs.{JobValue}
+use Rattle.job_text.specs.States.{SeatValue}
+use Rattle.job_text.specs.Views.{text_value, seat_value, job_value}
+use Rattle.mpe_overlay.specs.Codes.{codes_of}
+use Rattle.mpe_session.specs.declared.seat.Seat.{Seat}
+use Rattle.mpe_worlds.specs.Worlds.{World}
+use Rattle.mpe_worlds.specs.Opening.{opening}
+use Rattle.mpe_worlds.specs.Dispatch.{after}
+use Rattle.mpe_turns.specs.declared.fault.OpenFault.{OpenFault}
+use Rattle.mpe_turns.specs.declared.fault.OpenFault.TheVariants.{NoMemory}
+use Rattle.mpe_turns.specs.declared.monitor.Monitor.{Monitor}
+use Rattle.mpe_turns.specs.Monitors.{codes_in, world_of}
+use Rattle.mpe_turns.specs.Opening.{AreSeats, refusal}
+use Rattle.hp3000_top.specs.Programs.{AreMade}
+use Rattle.hp3000_top.specs.Steps.{AreCopies}
+use Rattle.hp3000_top.proofs.Copies.{same_codes, same_opening, same_refusal}
+use Rattle.hp3000_top.proofs.Loops.{each_slice, copies_count}
+use Rattle.hp3000_top.proofs.Headline.{made_count}
+
+-- as many programs as texts
+pub count_so : (job : Job) (made copies : List Program) → AreMade (job_value job).programs made → AreCopies made copies → length copies ≡ length job.programs.items
+count_so job made copies a c = copies_count c ∙ made_count a ∙ length-map job.programs.items text_value
+
+pub few_so : (job : Job) (made copies : List Program) → JobFits 1048576 (job_value job) → AreMade (job_value job).programs made → AreCopies made copies → length copies ≤ 16
+few_so job made copies f a c = let m = copies_count c in let n = made_count a in let k = f.programs in omega (arith, m, n, k)
+
+pub seats_so : (job : Job) (made copies : List Program) → JobFits 1048576 (job_value job) → AreMade (job_value job).programs made → AreCopies made copies
+    → AreSeats copies job.seats.items
+seats_so job made copies f a c =
+    let m = copies_count c in
+    let n = made_count a in
+    let at = λ (k : ℕ) (s : Seat) (e : slice_get job.seats.items k ≡ Some s).
+    each_slice (SeatFits (length (job_value job).programs)) seat_value job.seats.items k s f.each_session e in
+    record {
+      few = let k = f.sessions in let l = length-map job.seats.items seat_value in omega (arith, k, l);
+      program = λ k s e. let l = (at k s e).program in omega (arith, l, m, n);
+      stack = λ k s e. (at k s e).stack;
+      extra = λ k s e. (at k s e).extra;
+    }
+
+-- a monitor that opened was not refused
+pub opened_so : (m : Monitor) (o : Option OpenFault) → IfSome o (λ e. Ok m ≡ Err e) → o ≡ None
+opened_so m None h = refl
+opened_so m (Some e) h = cc
+
+pub none_of : (job : Job) (made copies : List Program) → AreCopies made copies → refusal job.memory job.seats.items copies ≡ None → refusal job.memory job.seats.items made ≡ None
+none_of job made copies c e = sym (same_refusal job.memory job.seats.items job.seats.items c refl) ∙ e
+
+-- one that did not was refused for this
+abbrev pub failed : OpenFault → Result Monitor OpenFault
+failed e = Err e
+
+pub refused_of : (job : Job) (made copies : List Program) (e : OpenFault) → AreCopies made copies → e ≢ NoMemory
+    → IfSome (refusal job.memory job.seats.items copies) (λ f. failed e ≡ Err f) → (refusal job.memory job.seats.items copies ≡ None → e ≡ NoMemory)
+    → refusal job.memory job.seats.items made ≡ Some e
+refused_of job made copies e c n h k = sym (same_refusal job.memory job.seats.items job.seats.items c refl) ∙ by (refusal job.memory job.seats.items copies) refl h
+  where
+    by : (o : Option OpenFault) → refusal job.memory job.seats.items copies ≡ o → IfSome o (λ f. failed e ≡ Err f) → o ≡ Some e
+    by None d h = absurd (n (k d))
+    by (Some f) d h = let same : e ≡ f = cc in ap Some (sym same)
+
+-- the world of the copies is that of the programs
+pub world_so : (job : Job) (made : List Program) (copies : Vec Program Global) (m n : Monitor) → AreCopies made copies.items → m.overlay.programs ≡ copies
+    → world_of m ≡ opening job.memory job.seats.items copies.items → world_of n ≡ after (codes_in m) job.quantum job.turns (world_of m)
+    → world_of n ≡ after (codes_of made) job.quantum job.turns (opening job.memory job.seats.items made)
+world_so job made copies m n c ps o t =
+    let codes : codes_in m ≡ codes_of made = ap (λ (v : Vec Program Global). codes_of v.items) ps ∙ same_codes c in
+    t ∙ ap (λ cs. after cs job.quantum job.turns (world_of m)) codes ∙ ap (after (codes_of made) job.quantum job.turns) (o ∙ same_opening job.memory job.seats.items c)
