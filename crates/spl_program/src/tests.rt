@@ -20,6 +20,9 @@ fn shown(alloc: Global, texts: &[Chars]) -> Result<String, AllocError>
         Err(ProgramFault::Rule { rule, at }) => {
             format!(in alloc; "RULE {rule} {} {} {}", at.unit, at.line, at.column)
         }
+        Err(ProgramFault::Limit { limit, at }) => {
+            format!(in alloc; "LIMIT {limit} {} {} {}", at.unit, at.line, at.column)
+        }
         Err(ProgramFault::NoMemory) => Err(AllocError),
     }
 }
@@ -50,13 +53,17 @@ fn two(alloc: Global, first: &str, second: &str) -> Result<String, AllocError> {
 #[test]
 fn programs_of_one_unit(rt: HostRuntime) -> Result<(), Fail> {
     let alloc = rt.alloc();
-    let cases: [(&str, &str); 6] = [
+    let cases: [(&str, &str); 7] = [
         ("BEGIN END.", "1 UNITS"),
         ("BEGIN INTEGER I; I:=1 END.", "1 UNITS"),
         ("BEGIN ?", "BADBYTE 1 1 7"),
         ("BEGIN\n X:= END.", "SYNTAX 1 2 6"),
         ("BEGIN\nINTEGER I,I; END.", "RULE 2 1 2 11"),
         ("BEGIN I:=1 END.", "RULE 1 1 1 7"),
+        (
+            "BEGIN INTEGER I;\nINTEGER ARRAY A(1:32000); END.",
+            "LIMIT 4 1 2 15",
+        ),
     ];
     for (text, wanted) in cases {
         assert_eq!(rt; one(alloc, text)?.as_str(), wanted, "{text}");
