@@ -1,0 +1,4 @@
+-- In reading order.
+mod KnownFrames
+mod KnownCells
+mod KnownBodies

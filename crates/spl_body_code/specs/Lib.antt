@@ -1,0 +1,4 @@
+-- In reading order.
+pub mod Frames
+pub mod Cells
+pub mod Bodies
