@@ -2,3 +2,6 @@
 mod KnownFrames
 mod KnownCells
 mod KnownBodies
+pub mod CountLemmas
+pub mod ListLaws
+mod BodyLaws

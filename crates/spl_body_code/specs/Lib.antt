@@ -2,3 +2,4 @@
 pub mod Frames
 pub mod Cells
 pub mod Bodies
+pub mod FewWords

@@ -1,2 +1,6 @@
 //! The code of bodies around that of their statements, as definitions, and the laws of it.
 #![tactic(auto)]
+
+mod laws;
+
+pub use laws::{main_body_has_few_words, procedure_has_few_words, subroutine_has_few_words};

@@ -1,0 +1,18 @@
+//! What holds of the code of every body.
+ghost use Rattle.spl_body_code.specs.FewWords.{ProcedureHasFewWords, SubroutineHasFewWords, MainBodyHasFewWords};
+
+/// The code of a procedure has at most as many words as it weighs without its subroutines, where its statements have at most as many as
+/// they weigh and its local words are within their limits.
+pub fn procedure_has_few_words()
+    ensures { ProcedureHasFewWords }
+{}
+
+/// So has that of a subroutine.
+pub fn subroutine_has_few_words()
+    ensures { SubroutineHasFewWords }
+{}
+
+/// And that of a main body.
+pub fn main_body_has_few_words()
+    ensures { MainBodyHasFewWords }
+{}
