@@ -4,4 +4,5 @@ mod KnownCells
 mod KnownBodies
 pub mod CountLemmas
 pub mod ListLaws
-mod BodyLaws
+pub mod BodyLaws
+pub mod ZeroLaws

@@ -2,4 +2,6 @@
 pub mod Frames
 pub mod Cells
 pub mod Bodies
+pub mod Marked
+pub mod Zeros
 pub mod FewWords

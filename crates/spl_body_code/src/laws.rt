@@ -1,5 +1,11 @@
 //! What holds of the code of every body.
+ghost use Rattle.spl_body_code.specs.Zeros.{LocalWordsAreZero};
 ghost use Rattle.spl_body_code.specs.FewWords.{ProcedureHasFewWords, SubroutineHasFewWords, MainBodyHasFewWords};
+
+/// The local words of a procedure are pushed as zeros, each once.
+pub fn local_words_are_zero()
+    ensures { LocalWordsAreZero }
+{}
 
 /// The code of a procedure has at most as many words as it weighs without its subroutines, where its statements have at most as many as
 /// they weigh and its local words are within their limits.

@@ -3,4 +3,7 @@
 
 mod laws;
 
-pub use laws::{main_body_has_few_words, procedure_has_few_words, subroutine_has_few_words};
+pub use laws::{
+    local_words_are_zero, main_body_has_few_words, procedure_has_few_words,
+    subroutine_has_few_words,
+};
