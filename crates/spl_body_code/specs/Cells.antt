@@ -7,9 +7,9 @@ use Rattle.spl_tree.specs.declared.expressions.Kind.TheVariants as kind
 use Rattle.spl_meaning.specs.Places as p
 use Rattle.spl_meaning.specs.Places.{Array, Cell, Initial, cell_word}
 use Rattle.spl_branch.specs.declared.pieces.Piece.{Piece}
-use Rattle.spl_code.specs.Instructions.{operate, LSL, LRA, STOR}
+use Rattle.spl_code.specs.Instructions.{operate, LSL, STOR}
 use Rattle.spl_code.specs.Constants.{constant, double_constant}
-use Rattle.spl_code.specs.Operands.{mode_of}
+use Rattle.spl_code.specs.Operands.{mode_of, own_address}
 use Rattle.spl_code.specs.Stores.{store}
 
 -- adds the two top words, modulo 65,536
@@ -20,8 +20,7 @@ LADD = operate 0o61
 
 -- pushes the base of the frame as an address; for BYTEs as the address of its word's left byte
 abbrev pub base_pushed : Kind → List Piece
-base_pushed kind.Byte = LRA false false (QPlus 0) ∷ LSL 1 ∷ []
-base_pushed _ = LRA false false (QPlus 0) ∷ []
+base_pushed k = own_address k false (QPlus 0)
 
 -- Pushes the word of an array's cell, which is made from the place of its data: where they have an address it is a constant; where they
 -- stand above the base, it is the base and the cell that they would have if they began so many words above word 0.
