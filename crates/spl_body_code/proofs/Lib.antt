@@ -6,3 +6,4 @@ pub mod CountLemmas
 pub mod ListLaws
 pub mod BodyLaws
 pub mod ZeroLaws
+pub mod JoinLaws

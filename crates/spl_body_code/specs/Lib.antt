@@ -3,5 +3,6 @@ pub mod Frames
 pub mod Cells
 pub mod Bodies
 pub mod Marked
+pub mod Joined
 pub mod Zeros
 pub mod FewWords

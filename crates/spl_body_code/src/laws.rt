@@ -1,4 +1,5 @@
 //! What holds of the code of every body.
+ghost use Rattle.spl_body_code.specs.Joined.{ProceduresAreJoined, SubroutinesAreJoined, MainBodiesAreJoined};
 ghost use Rattle.spl_body_code.specs.Zeros.{LocalWordsAreZero};
 ghost use Rattle.spl_body_code.specs.FewWords.{ProcedureHasFewWords, SubroutineHasFewWords, MainBodyHasFewWords};
 
@@ -21,4 +22,11 @@ pub fn subroutine_has_few_words()
 /// And that of a main body.
 pub fn main_body_has_few_words()
     ensures { MainBodyHasFewWords }
+{}
+
+/// A body's code is that of its definition where its entry, its statements and its way out are appended one behind the other.
+pub fn bodies_are_joined()
+    ensures procedures { ProceduresAreJoined }
+    ensures subroutines { SubroutinesAreJoined }
+    ensures main_bodies { MainBodiesAreJoined }
 {}
