@@ -5,5 +5,6 @@ mod KnownBodies
 pub mod CountLemmas
 pub mod ListLaws
 pub mod BodyLaws
+pub mod CellLaws
 pub mod ZeroLaws
 pub mod JoinLaws

@@ -4,5 +4,6 @@ pub mod Cells
 pub mod Bodies
 pub mod Marked
 pub mod Joined
+pub mod Based
 pub mod Zeros
 pub mod FewWords

@@ -1,7 +1,13 @@
 //! What holds of the code of every body.
+ghost use Rattle.spl_body_code.specs.Based.{CellsMoveWithTheBase};
 ghost use Rattle.spl_body_code.specs.Joined.{ProceduresAreJoined, SubroutinesAreJoined, MainBodiesAreJoined};
 ghost use Rattle.spl_body_code.specs.Zeros.{LocalWordsAreZero};
 ghost use Rattle.spl_body_code.specs.FewWords.{ProcedureHasFewWords, SubroutineHasFewWords, MainBodyHasFewWords};
+
+/// The cell of an array in a frame is that of its data's address, wherever the frame stands.
+pub fn cells_move_with_the_base()
+    ensures { CellsMoveWithTheBase }
+{}
 
 /// The local words of a procedure are pushed as zeros, each once.
 pub fn local_words_are_zero()
