@@ -1,0 +1,4 @@
+-- In reading order.
+pub mod Counts
+pub mod Procedures
+pub mod Routines
