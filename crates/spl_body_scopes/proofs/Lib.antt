@@ -1,0 +1,5 @@
+-- In reading order.
+pub mod PlaceSteps
+pub mod LevelLemmas
+pub mod ScopeLaws
+pub mod FoundLaws
