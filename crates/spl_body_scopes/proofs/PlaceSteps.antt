@@ -62,8 +62,8 @@ parameter_more below gap base old new all list i f words left from at v lt is ga
     let rest = parameter_places below gap (map formal_of (drop (i + 1) list)) in
     let has = shown spot_of old in
     let placed : at ≡ gap + formal_words (formal_of f) + formals_words (map formal_of (drop (i + 1) list)) =
-        sum ∙ ap (λ (m : ℕ). m + left) start ∙ ap (λ (g : ℕ). g + words + left) gaps ∙ ap (λ (w : ℕ). gap + w + left) one
-        ∙ ap (λ (r : ℕ). gap + formal_words (formal_of f) + r) others in
+    sum ∙ ap (λ (m : ℕ). m + left) start ∙ ap (λ (g : ℕ). g + words + left) gaps ∙ ap (λ (w : ℕ). gap + w + left) one
+    ∙ ap (λ (r : ℕ). gap + formal_words (formal_of f) + r) others in
     ap (λ (h : List ℕ → Option Place). behind_table h rest)
     (shown_added spot_of new old (letters f.name) v added ∙ ap (with_name has (letters f.name)) (spot ∙ ap below placed))
     ∙ sym (parameter_step below gap has list i f lt is) ∙ before

@@ -28,6 +28,11 @@ use Rattle.spl_code.specs.Calls.{Scope}
 use Rattle.spl_scopes.specs.Entries.{Owner, main, routine, Entry, routines_behind, module_entries, procedure_index, subroutine_index}
 use Rattle.spl_scopes.specs.Scopes.{Placed, first_reached, placed_units, unit_at, global_places, routine_bodies, outer_body, Which, outer, inner, inner_body, segment_of, scope_with, scope_in}
 use Rattle.spl_body_scopes.specs.Levels.{Level, Spots, globals_from, routine_level, inner_level, through, scope_through}
+use Rattle.spl_body_scopes.specs.declared.places.Base.TheVariants as base
+use Rattle.spl_scopes.specs.Scopes.{Results}
+use Rattle.spl_meaning.specs.Bodies.{own_result, result_place}
+use Rattle.spl_body_scopes.specs.Results.{result_of, heading_result, routine_result, results_through}
+use Rattle.spl_body_scopes.specs.Found.{RoutineResults, InnerResults, MainResults, MainInnerResults}
 use Rattle.spl_body_scopes.specs.Walks.{State, first_state, behind, Left, globals_in, module_scope, inner_heading, inner_headings, WalksBegin, WalksGoOn, RoutineScopes, InnerScopes, MainScopes, MainInnerScopes}
 
 -- ---- lists
@@ -118,7 +123,7 @@ goes_plain p s d ds left same count none =
     let t = with_declaration nothing_declared left.table d in
     let m = left.before + declaration_stops d in
     let own : s.own ≡ s.own + total_words true item_words (items_in (behind_declaration nothing_declared s.names d) d) =
-        sym (add-zero s.own) ∙ ap (λ (is : List Datum). s.own + total_words true item_words is) (sym none) in
+    sym (add-zero s.own) ∙ ap (λ (is : List Datum). s.own + total_words true item_words is) (sym none) in
     record {
       table = t;
       before = m;
@@ -263,11 +268,11 @@ routine_scope p s here h items ss ds left is =
     let globals = globals_in p here in
     let b = body_left p s left.table left.before left.own_arrays h items ss in
     let names : b.here.names ≡ through own.names own.names globals.names =
-        ap (λ (n : Names). λ (x : List ℕ). or_else (n x) (outer_names r x)) (sym (routine_named here left.table left.before h items ss outside s.own))
-        ∙ ap (λ (n : Names). λ (x : List ℕ). or_else (own.names x) (n x)) (sym outside) ∙ sym (twice own.names here) in
+    ap (λ (n : Names). λ (x : List ℕ). or_else (n x) (outer_names r x)) (sym (routine_named here left.table left.before h items ss outside s.own))
+    ∙ ap (λ (n : Names). λ (x : List ℕ). or_else (own.names x) (n x)) (sym outside) ∙ sym (twice own.names here) in
     let places : b.here.places ≡ through own.places own.places globals.places =
-        ap (λ (a : Spots). λ (x : List ℕ). or_else (a x) (find (global_places p) x)) (sym (routine_placed here left.table left.before h items ss s.own outside left.new.0))
-        ∙ ap (λ (a : Spots). λ (x : List ℕ). or_else (own.places x) (a x)) (globals_placed p left.new_globals) ∙ sym (twice own.places globals.places) in
+    ap (λ (a : Spots). λ (x : List ℕ). or_else (a x) (find (global_places p) x)) (sym (routine_placed here left.table left.before h items ss s.own outside left.new.0))
+    ∙ ap (λ (a : Spots). λ (x : List ℕ). or_else (own.places x) (a x)) (globals_placed p left.new_globals) ∙ sym (twice own.places globals.places) in
     ap (λ (q : Option Routine). option_map (scope_with (module_entries p.unit (segment_of q)) o) (outer_body p o)) (routine_next p s h items ss ds left)
     ∙ ap (λ (q : Option Named). option_map (scope_with es o) (option_map (λ (c : Named). c.body) q)) (body_next p s h items ss ds left)
     ∙ ap Some (same_scope es o b.here.names (through own.names own.names globals.names) b.here.places (through own.places own.places globals.places) names places)
@@ -322,11 +327,11 @@ inner_scope p s here h items ss ds j sub left is at =
     let top = inner_level sub in
     let b = body_left p s left.table left.before left.own_arrays h items ss in
     let names : within (parameters (formals_of sub)) b.here.names ≡ through top.names own.names globals.names =
-        ap (λ (n : Names). through top.names n (outer_names r)) (sym (routine_named here left.table left.before h items ss outside s.own))
-        ∙ ap (λ (n : Names). through top.names own.names n) (sym outside) in
+    ap (λ (n : Names). through top.names n (outer_names r)) (sym (routine_named here left.table left.before h items ss outside s.own))
+    ∙ ap (λ (n : Names). through top.names own.names n) (sym outside) in
     let places : (λ x. or_else (top.places x) (b.here.places x)) ≡ through top.places own.places globals.places =
-        ap (λ (a : Spots). through top.places a (find (global_places p))) (sym (routine_placed here left.table left.before h items ss s.own outside left.new.0))
-        ∙ ap (λ (a : Spots). through top.places own.places a) (globals_placed p left.new_globals) in
+    ap (λ (a : Spots). through top.places a (find (global_places p))) (sym (routine_placed here left.table left.before h items ss s.own outside left.new.0))
+    ∙ ap (λ (a : Spots). through top.places own.places a) (globals_placed p left.new_globals) in
     ap (λ (q : Option Routine). option_map (scope_with (module_entries p.unit (segment_of q)) o) (inner_body (outer_body p o) j)) (routine_next p s h items ss ds left)
     ∙ ap (λ (q : Option Named). option_map (scope_with es o) (inner_body (option_map (λ (c : Named). c.body) q) j)) (body_next p s h items ss ds left)
     ∙ inner_found es o b (slice_get (routine_subroutines r) j) sub (heading_there left.before j items sub at)
@@ -358,10 +363,49 @@ main_inner_scope p s j sub left is at =
     let top = inner_level sub in
     let b = main_body (global_places p) p.unit in
     let names : within (parameters (formals_of sub)) b.here.names ≡ through top.names globals.names globals.names =
-        ap (λ (n : Names). λ (x : List ℕ). or_else (top.names x) (n x)) (sym (unit_named p s left) ∙ sym (idle globals.names)) in
+    ap (λ (n : Names). λ (x : List ℕ). or_else (top.names x) (n x)) (sym (unit_named p s left) ∙ sym (idle globals.names)) in
     let places : (λ x. or_else (top.places x) (b.here.places x)) ≡ through top.places globals.places globals.places =
-        ap (λ (a : Spots). λ (x : List ℕ). or_else (top.places x) (a x)) (globals_placed p left.new_globals ∙ sym (idle globals.places)) in
+    ap (λ (a : Spots). λ (x : List ℕ). or_else (top.places x) (a x)) (globals_placed p left.new_globals ∙ sym (idle globals.places)) in
     ap (λ (q : Option Body). option_map (scope_with es main) (inner_body q j)) (main_there p is)
     ∙ inner_found es main b (slice_get (unit_subroutines p.unit) j) sub (heading_there 0 j (declarations p.unit.tree.items) sub at)
     ∙ ap Some (same_scope es main (within (parameters (formals_of sub)) b.here.names) (through top.names globals.names globals.names)
     (λ x. or_else (top.places x) (b.here.places x)) (through top.places globals.places globals.places) names places)
+
+-- ---- results
+
+-- the results in a subroutine with this heading
+abbrev inner_results_in : Body → Heading → Results
+inner_results_in b h x = or_else (heading_result base.Return h x) (b.here.results x)
+
+results_found : (b : Body) (q : Option Subroutine) (sub : Heading) → option_map (λ (s : Subroutine). s.heading) q ≡ Some sub
+    → option_map (λ (c : Body). c.here.results) (option_map (subroutine_body b) q) ≡ Some (inner_results_in b sub)
+results_found b None sub is = cc
+results_found b (Some s) sub is = ap (option_map (inner_results_in b)) is
+
+-- the names of a procedure's list may hide its result
+own_results : (here : Names) (t : Table Sort) (m : ℕ) (h : Heading) (items : Declarations) (ss : List stat.Statement) (own : ℕ)
+    → here ≡ outer_names (made t m h items ss)
+    → own_result (routine_table (made t m h items ss)) h.name h.result (result_place below_base marker_gap (profile_of h))
+    ≡ routine_result (routine_level here own h items).names h
+own_results here t m h items ss own is = ap (λ (n : Names). routine_result n h) (sym (routine_named here t m h items ss is own))
+
+pub routine_results : RoutineResults
+routine_results p s here h items ss ds left is =
+    ap (λ (q : Option Named). option_map (λ (c : Body). c.here.results) (option_map (λ (c : Named). c.body) q)) (body_next p s h items ss ds left)
+    ∙ ap Some (own_results here left.table left.before h items ss s.own (body_names p s here h items ss ds left is))
+
+pub inner_results : InnerResults
+inner_results p s here h items ss ds j sub left is at =
+    let b = body_left p s left.table left.before left.own_arrays h items ss in
+    ap (λ (q : Option Named). option_map (λ (c : Body). c.here.results) (inner_body (option_map (λ (c : Named). c.body) q) j)) (body_next p s h items ss ds left)
+    ∙ results_found b (slice_get (routine_subroutines (made left.table left.before h items ss)) j) sub (heading_there left.before j items sub at)
+    ∙ ap (λ (r : Results). Some (results_through (heading_result base.Return sub) r))
+    (own_results here left.table left.before h items ss s.own (body_names p s here h items ss ds left is))
+
+pub main_results : MainResults
+main_results p is = ap (option_map (λ (c : Body). c.here.results)) (main_there p is)
+
+pub main_inner_results : MainInnerResults
+main_inner_results p j sub is at =
+    ap (λ (q : Option Body). option_map (λ (c : Body). c.here.results) (inner_body q j)) (main_there p is)
+    ∙ results_found (main_body (global_places p) p.unit) (slice_get (unit_subroutines p.unit) j) sub (heading_there 0 j (declarations p.unit.tree.items) sub at)

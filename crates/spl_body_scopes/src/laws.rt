@@ -1,4 +1,5 @@
 //! What holds of the scopes that are found along a unit's declarations, as the contracts of functions that do nothing.
+ghost use Rattle.spl_body_scopes.specs.Found.{RoutineResults, InnerResults, MainResults, MainInnerResults};
 ghost use Rattle.spl_body_scopes.specs.Walks.{WalksBegin, WalksGoOn, RoutineScopes, InnerScopes, MainScopes, MainInnerScopes};
 
 /// Before its first declaration a unit of a program has all of them left, and behind each those behind it.
@@ -18,4 +19,12 @@ pub fn routine_scopes_are_found()
 pub fn main_scopes_are_found()
     ensures main { MainScopes }
     ensures inner { MainInnerScopes }
+{}
+
+/// The results that bodies may assign: in a subroutine its own, and that of the procedure around it.
+pub fn results_are_found()
+    ensures routine { RoutineResults }
+    ensures inner { InnerResults }
+    ensures main { MainResults }
+    ensures main_inner { MainInnerResults }
 {}

@@ -28,7 +28,7 @@ pub enum Base {
 
 impl Base {
     /// So many words above the last parameter.
-    fn gap(self) -> u64
+    pub fn gap(self) -> u64
         ensures { result ≡ gap_of self }
     {
         match self {
@@ -38,7 +38,7 @@ impl Base {
     }
 
     /// The place so many words below it.
-    fn below(self, words: u64) -> Place
+    pub fn below(self, words: u64) -> Place
         ensures { spot_of result ≡ below_in self words }
     {
         match self {

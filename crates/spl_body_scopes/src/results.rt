@@ -37,7 +37,11 @@ fn width(kind: Kind) -> u64
 }
 
 /// The result of a heading, where it has one: it stands below the parameters. An error is want of memory, or as in `plus`.
-fn result_below(alloc: Global, base: Base, heading: &Heading) -> Result<Option<BodyResult>, AllocError>
+fn result_below(
+    alloc: Global,
+    base: Base,
+    heading: &Heading,
+) -> Result<Option<BodyResult>, AllocError>
     ensures { IfOk result (λ found. result_of found ≡ r.heading_result base (heading_tree heading.now)) }
 {
     match heading.result {

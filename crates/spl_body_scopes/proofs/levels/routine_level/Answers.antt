@@ -34,12 +34,12 @@ returns-clause-level c =
     let parameters = c.in_ok-places.ensures ∙ ap (λ (fs : List n.Formal). find (parameter_places below_base marker_gap fs)) ps in
     let t = places_from above_base c.args.own 1 (map named (map datum_of c.deref-3.result.now)) in
     let places =
-        c.in_ok-item_places.ensures
-        ∙ ap (λ (has : Spots). behind_table has t) parameters
-        ∙ find_both (parameter_places below_base marker_gap (formals_of h)) t
-        ∙ ap (λ (xs : List code.Datum). find (parameter_places below_base marker_gap (formals_of h) ++ places_from above_base c.args.own 1 (map named (map datum_of xs))))
-        c.deref-3.ensures.value
-        ∙ ap (λ (xs : List Datum). find (parameter_places below_base marker_gap (formals_of h) ++ places_from above_base c.args.own 1 (map named xs))) items in
+    c.in_ok-item_places.ensures
+    ∙ ap (λ (has : Spots). behind_table has t) parameters
+    ∙ find_both (parameter_places below_base marker_gap (formals_of h)) t
+    ∙ ap (λ (xs : List code.Datum). find (parameter_places below_base marker_gap (formals_of h) ++ places_from above_base c.args.own 1 (map named (map datum_of xs))))
+    c.deref-3.ensures.value
+    ∙ ap (λ (xs : List Datum). find (parameter_places below_base marker_gap (formals_of h) ++ places_from above_base c.args.own 1 (map named xs))) items in
     level_made (find (table_of c.declarations.new.here)) level.names (shown spot_of (find (entries_of c.item_places.new.places))) level.places names places
 
 pub returns-clause-next : goal.returns-clause-next

@@ -20,9 +20,9 @@ returns c =
     let ds = declarations (map declaration c.args.list.now) in
     let items = c.deref.result.now in
     let places =
-        c.in_ok-item_places.ensures
-        ∙ behind_empty spot_of (entries_of c.new-places.result) (places_from data_word 0 c.args.primary (map named (map datum_of items))) c.new-places.ensures
-        ∙ ap (λ (xs : List code.Datum). find (places_from data_word 0 c.args.primary (map named (map datum_of xs)))) c.deref.ensures.value
-        ∙ ap (λ (xs : List Datum). find (places_from data_word 0 c.args.primary (map named xs))) c.in_ok-items.ensures in
+    c.in_ok-item_places.ensures
+    ∙ behind_empty spot_of (entries_of c.new-places.result) (places_from data_word 0 c.args.primary (map named (map datum_of items))) c.new-places.ensures
+    ∙ ap (λ (xs : List code.Datum). find (places_from data_word 0 c.args.primary (map named (map datum_of xs)))) c.deref.ensures.value
+    ∙ ap (λ (xs : List Datum). find (places_from data_word 0 c.args.primary (map named xs))) c.in_ok-items.ensures in
     level_made (find (table_of c.nothing.result)) nothing_declared (shown spot_of (find (entries_of c.item_places.new.places))) (globals_from c.args.primary ds)
     c.nothing.ensures places
