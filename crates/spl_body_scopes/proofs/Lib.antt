@@ -3,3 +3,4 @@ pub mod PlaceSteps
 pub mod LevelLemmas
 pub mod ScopeLaws
 pub mod FoundLaws
+pub mod UnitLaws

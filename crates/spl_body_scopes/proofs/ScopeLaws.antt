@@ -2,7 +2,7 @@
 -- 1. a unit has all its declarations left at first, and behind each those behind it     (begins, goes_on)
 -- 2. so the next procedure is the first of those that are left                           (first_left)
 -- 3. and what is seen through its levels are its names and places                        (routine_scope, inner_scope, main_scope)
-use Rattle.std.proofs.Common.{ℕ, zero, suc, ◌≡◌, ◌+◌, arith, add-zero, Bool, true, false, List, [], ◌∷◌, ◌++◌, map, drop, Option, Some, None, refl, sym, ap, subst, ◌∙◌}
+use Rattle.std.proofs.Common.{ℕ, zero, suc, ◌≡◌, ◌+◌, arith, add-zero, add_assoc, Bool, true, false, List, [], ◌∷◌, ◌++◌, map, drop, Option, Some, None, refl, sym, ap, subst, ◌∙◌}
 use Rattle.std.proofs.lemmas.Option.{slice_get-map}
 use Rattle.std.proofs.lemmas.List.{map-append}
 use Rattle.std.specs.Prelude.{option_map, if◌then◌else◌}
@@ -33,17 +33,17 @@ use Rattle.spl_scopes.specs.Scopes.{Results}
 use Rattle.spl_meaning.specs.Bodies.{own_result, result_place}
 use Rattle.spl_body_scopes.specs.Results.{result_of, heading_result, routine_result, results_through}
 use Rattle.spl_body_scopes.specs.Found.{RoutineResults, InnerResults, MainResults, MainInnerResults}
-use Rattle.spl_body_scopes.specs.Walks.{State, first_state, behind, Left, globals_in, module_scope, inner_heading, inner_headings, WalksBegin, WalksGoOn, RoutineScopes, InnerScopes, MainScopes, MainInnerScopes}
+use Rattle.spl_body_scopes.specs.Walks.{State, first_state, behind, routines_own, Left, globals_in, module_scope, inner_heading, inner_headings, WalksBegin, WalksGoOn, RoutineScopes, InnerScopes, MainScopes, MainInnerScopes}
 
 -- ---- lists
 
-drop_more : {A : Type 0} (n : ℕ) (xs : List A) (y : A) (ys : List A) → drop n xs ≡ y ∷ ys → drop (suc n) xs ≡ ys
+pub drop_more : {A : Type 0} (n : ℕ) (xs : List A) (y : A) (ys : List A) → drop n xs ≡ y ∷ ys → drop (suc n) xs ≡ ys
 drop_more zero [] y ys is = cc
 drop_more (suc n) [] y ys is = cc
 drop_more zero (x ∷ xs) y ys is = ap (drop 1) is
 drop_more (suc n) (x ∷ xs) y ys is = drop_more n xs y ys is
 
-first_at : {A : Type 0} (n : ℕ) (xs : List A) (y : A) (ys : List A) → drop n xs ≡ y ∷ ys → slice_get xs n ≡ Some y
+pub first_at : {A : Type 0} (n : ℕ) (xs : List A) (y : A) (ys : List A) → drop n xs ≡ y ∷ ys → slice_get xs n ≡ Some y
 first_at zero [] y ys is = cc
 first_at (suc n) [] y ys is = cc
 first_at zero (x ∷ xs) y ys is = ap (λ zs. slice_get zs 0) is
@@ -53,7 +53,7 @@ each_first : {A : Type 0} (P : A → Type 0) (xs ys : List A) → Each P (xs ++ 
 each_first P [] ys all = tt
 each_first P (x ∷ xs) ys all = (all.0, each_first P xs ys all.1)
 
-each_second : {A : Type 0} (P : A → Type 0) (xs ys : List A) → Each P (xs ++ ys) → Each P ys
+pub each_second : {A : Type 0} (P : A → Type 0) (xs ys : List A) → Each P (xs ++ ys) → Each P ys
 each_second P [] ys all = all
 each_second P (x ∷ xs) ys all = each_second P xs ys all.1
 
@@ -87,6 +87,7 @@ begins us n p new at =
       routines = refl;
       bodies = refl;
       new = both.1;
+      total = refl;
       new_globals = both.0;
     }
 
@@ -136,6 +137,8 @@ goes_plain p s d ds left same count none =
           ∙ ap (λ (rs : List Routine). named_bodies (global_places p) s.own left.own_arrays rs) same
           ∙ ap (λ (o : ℕ). named_bodies (global_places p) o left.own_arrays (routines_among t m ds)) own;
       new = subst (λ (rs : List Routine). Each NewInRoutine rs) same left.new;
+      total =
+          ap (λ (o : ℕ). o + routines_own (routines_among t m ds)) (sym own) ∙ ap (λ (rs : List Routine). s.own + routines_own rs) (sym same) ∙ left.total;
       new_globals = left.new_globals;
     }
 
@@ -167,6 +170,9 @@ goes_on p s (decl.Declaration.procedure h items ss) ds left =
           (named_bodies g (s.own + list_words true (routine_table r)) arrays rest) left.bodies
           ∙ ap (λ (w : ℕ). named_bodies g (s.own + w) arrays rest) (sym (own_words s.names left.table left.before h items ss left.names left.new.0));
       new = left.new.1;
+      total =
+          ap (λ (w : ℕ). s.own + w + routines_own rest) (own_words s.names left.table left.before h items ss left.names left.new.0)
+          ∙ add_assoc s.own (list_words true (routine_table r)) (routines_own rest) ∙ left.total;
       new_globals = left.new_globals;
     }
 

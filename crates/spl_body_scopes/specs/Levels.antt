@@ -1,6 +1,6 @@
 -- Levels of names: a unit's list, a procedure's, a subroutine's parameters. Each has names with what they stand for, and the places of those that
 -- have words.
-use Rattle.std.specs.Prelude.{ℕ, ◌++◌, List, map, Option}
+use Rattle.std.specs.Prelude.{ℕ, Bool, if◌then◌else◌, [], ◌++◌, List, map, Option}
 use Rattle.spl_tree.specs.DeclarationTrees.{Heading, Declarations}
 use Rattle.spl_meaning.specs.Names.{Names, Table, find, or_else, nothing_declared, parameters, formals_of}
 use Rattle.spl_meaning.specs.Places.{Place, data_word, above_base, below_base, below_return, places_from}
@@ -9,7 +9,7 @@ use Rattle.spl_found.specs.OwnNames.{behind_declarations}
 use Rattle.spl_sorts.specs.Tables.{table_of}
 use Rattle.spl_places.specs.NameMaps.{entries_of, shown}
 use Rattle.spl_places.specs.Spots.{spot_of}
-use Rattle.spl_places.specs.ListedData.{list_data}
+use Rattle.spl_places.specs.ListedData.{Datum, list_data}
 use Rattle.spl_places.specs.Held.{named}
 use Rattle.spl_areas.specs.Gathered.{items_under}
 use Rattle.spl_code.specs.Calls.{Scope}
@@ -32,6 +32,14 @@ level_of l = record { names = find (table_of l.names); places = shown spot_of (f
 -- the places of a unit's globals, the first of which stands there
 abbrev pub globals_from : ℕ → Declarations → Spots
 globals_from primary ds = find (places_from data_word 0 primary (map named (list_data nothing_declared nothing_declared ds)))
+
+-- no names, and the places of these items, the first of which stands there
+abbrev pub level_with : ℕ → List Datum → Level
+level_with primary items = record { names = nothing_declared; places = find (places_from data_word 0 primary (map named items)) }
+
+-- the globals among a unit's items: a subprogram has none
+abbrev pub globals_among : Bool → List Datum → List Datum
+globals_among subprogram items = if subprogram then [] else items
 
 -- before a unit's first declaration: no names, and the places of all its globals
 abbrev pub unit_level : ℕ → Declarations → Level

@@ -4,3 +4,4 @@ pub mod Levels
 pub mod Results
 pub mod Walks
 pub mod Found
+pub mod Units

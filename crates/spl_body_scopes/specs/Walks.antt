@@ -5,8 +5,8 @@ use Rattle.spl_tree.specs.DeclarationTrees as decl
 use Rattle.spl_tree.specs.DeclarationTrees.{Heading, Declaration, Declarations, declarations}
 use Rattle.spl_tree.specs.StatementTrees as stat
 use Rattle.spl_meaning.specs.Names.{Names, Sort, Table, find, nothing_declared}
-use Rattle.spl_meaning.specs.Tables.{Source, routines_of, routines_among, unit_table, with_declarations}
-use Rattle.spl_meaning.specs.Places.{item_words}
+use Rattle.spl_meaning.specs.Tables.{Source, Routine, routine_table, routines_of, routines_among, unit_table, with_declarations}
+use Rattle.spl_meaning.specs.Places.{item_words, list_words, sum}
 use Rattle.spl_meaning.specs.Bodies.{named_bodies}
 use Rattle.spl_found.specs.OwnNames.{behind_declaration}
 use Rattle.spl_places.specs.Counters.{total_words}
@@ -33,6 +33,10 @@ behind s d =
     let names = behind_declaration nothing_declared s.names d in
     record { count = routines_behind s.count d; names = names; own = s.own + total_words true item_words (items_in names d) }
 
+-- the words of the OWN items of procedures
+abbrev pub routines_own : List Routine → ℕ
+routines_own rs = sum (λ r. list_words true (routine_table r)) rs
+
 -- the declarations that a unit has left in a state: they make the rest of its list, of its procedures and of their bodies
 pub record Left (p : Placed) (s : State) (ds : Declarations) : Type 0 where
   pub table : Table Sort
@@ -43,6 +47,7 @@ pub record Left (p : Placed) (s : State) (ds : Declarations) : Type 0 where
   pub routines : drop s.count (routines_of p.unit) ≡ routines_among table before ds
   pub bodies : drop s.count (routine_bodies p) ≡ named_bodies (global_places p) s.own own_arrays (routines_among table before ds)
   pub new : Each NewInRoutine (routines_among table before ds)
+  pub total : s.own + routines_own (routines_among table before ds) ≡ p.at.own + routines_own (routines_of p.unit)
   pub new_globals : NewInUnit p.unit
 
 -- a unit's own level with these names: the places are those of all its globals

@@ -1,6 +1,14 @@
 //! What holds of the scopes that are found along a unit's declarations, as the contracts of functions that do nothing.
 ghost use Rattle.spl_body_scopes.specs.Found.{RoutineResults, InnerResults, MainResults, MainInnerResults};
+ghost use Rattle.spl_body_scopes.specs.Units.{UnitsBegin, UnitsEnter, UnitsGoOn};
 ghost use Rattle.spl_body_scopes.specs.Walks.{WalksBegin, WalksGoOn, RoutineScopes, InnerScopes, MainScopes, MainInnerScopes};
+
+/// A program has all units left at first, and behind each those behind it, the data of which stand behind its own.
+pub fn programs_are_walked()
+    ensures begin { UnitsBegin }
+    ensures enter { UnitsEnter }
+    ensures go_on { UnitsGoOn }
+{}
 
 /// Before its first declaration a unit of a program has all of them left, and behind each those behind it.
 pub fn units_are_walked()

@@ -1,5 +1,5 @@
 //! Levels of names with their places, and scopes of three levels.
-ghost use Rattle.std.specs.Prelude.{◌≡◌, ◌++◌, ◌+◌, OnOk, IfOk, map, true};
+ghost use Rattle.std.specs.Prelude.{◌≡◌, ◌++◌, ◌+◌, OnOk, IfOk, map, true, false};
 ghost use Rattle.spl_tree.specs.DeclarationTrees as decl;
 ghost use Rattle.spl_tree.specs.Spells as view;
 ghost use Rattle.spl_tree.specs.Spells.{heading_tree};
@@ -10,6 +10,8 @@ ghost use Rattle.spl_sorts.specs.Tables.{table_of};
 ghost use Rattle.spl_places.specs.ListedData.{datum_of, list_data};
 ghost use Rattle.spl_places.specs.NameMaps.{entries_of};
 ghost use Rattle.spl_places.specs.Counters.{total_words};
+ghost use Rattle.spl_places.specs.Programs.{unit_items};
+ghost use Rattle.spl_sound.specs.Spelled.{source_of};
 ghost use Rattle.spl_areas.specs.Gathered.{items_under};
 ghost use Rattle.spl_gen_expr.specs.Scopes.{scope_of};
 ghost use Rattle.spl_body_scopes.specs.Levels as l;
@@ -22,7 +24,7 @@ use spl_gen_expr::{Entries, Places, Scope};
 use spl_lists::{formals, parameters};
 use spl_places::{Area, Datum, NameMap, Part, Place, declarations, declare_all, total};
 use spl_sorts::{Formal, Names, Table};
-use spl_tree::{Decl, Heading};
+use spl_tree::{Decl, Heading, SplUnit};
 use std::alloc::{AllocError, Global};
 
 /// The first local item stands so many words above the last word of a marker.
@@ -55,16 +57,39 @@ fn unit_items(alloc: Global, list: &[Decl]) -> Result<Vec<Datum>, AllocError>
 
 /// The level of a unit before its first declaration, the first global of which has that address: it has no names yet, and
 /// the places of all globals.
-pub fn unit_level(alloc: Global, primary: u64, list: &[Decl]) -> Result<Level, AllocError>
-    ensures { IfOk result (λ level. level_of level ≡ l.unit_level primary (decl.declarations (map view.declaration list.now))) }
+fn level_with(alloc: Global, primary: u64, items: &[Datum]) -> Result<Level, AllocError>
+    ensures { IfOk result (λ level. level_of level ≡ l.level_with primary (map datum_of items.now)) }
 {
-    let items = unit_items(alloc, list)?;
     let mut places = NameMap::new(alloc);
-    item_places(&mut places, Area::Globals, 0, primary, &items)?;
+    item_places(&mut places, Area::Globals, 0, primary, items)?;
     Ok(Level {
         names: nothing(alloc),
         places,
     })
+}
+
+/// Where the first global of the next unit stands. A subprogram has none.
+fn behind_globals(primary: u64, subprogram: bool, items: &[Datum]) -> Result<u64, AllocError>
+    ensures { IfOk result (λ next. next ≡ primary + total_words false p.item_words (l.globals_among subprogram (map datum_of items.now))) }
+{
+    if subprogram {
+        Ok(primary)
+    } else {
+        let next = plus(primary, total(Part::Items, false, items)?)?;
+        Ok(next)
+    }
+}
+
+/// The level of a unit before its first declaration, the first global of which has that address: it has no names yet, and
+/// the places of all globals. And where the first global of the next unit stands.
+pub fn unit_level(alloc: Global, primary: u64, unit: &SplUnit) -> Result<(Level, u64), AllocError>
+    ensures level { IfOk result (λ made. level_of made.0 ≡ l.unit_level primary (decl.declarations (source_of unit.now).tree.items)) }
+    ensures next { IfOk result (λ made. made.1 ≡ primary + total_words false p.item_words (unit_items (source_of unit.now))) }
+{
+    let items = unit_items(alloc, &unit.items)?;
+    let level = level_with(alloc, primary, &items)?;
+    let next = behind_globals(primary, unit.subprogram, &items)?;
+    Ok((level, next))
 }
 
 /// Declares what a declaration of a unit does.

@@ -7,7 +7,8 @@ mod places;
 mod results;
 
 pub use laws::{
-    main_scopes_are_found, results_are_found, routine_scopes_are_found, units_are_walked,
+    main_scopes_are_found, programs_are_walked, results_are_found, routine_scopes_are_found,
+    units_are_walked,
 };
 pub use levels::{Level, declare, inner_level, routine_level, scope, unit_level};
 pub use results::{BodyResult, Results, inner_result, routine_result};
