@@ -1,5 +1,5 @@
 -- Levels by their names and their places.
-use Rattle.std.proofs.Common.{ℕ, ◌≡◌, Bool, true, false, List, [], ◌∷◌, ◌++◌, map, Option, Some, None, refl, ap, ◌∙◌}
+use Rattle.std.proofs.Common.{ℕ, ◌≡◌, Bool, true, false, List, [], ◌∷◌, ◌++◌, map, Some, refl, ap, ◌∙◌}
 use Rattle.std.specs.Prelude.{if◌then◌else◌}
 use Rattle.spl_tree.specs.DeclarationTrees.{Heading, Declarations}
 use Rattle.spl_meaning.specs.Names.{Names, Table, Formal, find, or_else, same_name, parameters, formals_of}

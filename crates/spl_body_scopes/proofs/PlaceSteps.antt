@@ -1,7 +1,6 @@
 -- Loops over parameters and over items: what names have behind those from one on.
-use Rattle.std.proofs.Common.{ℕ, ◌≡◌, ◌<◌, ◌≤◌, ◌+◌, ◌-◌, arith, List, [], ◌∷◌, map, drop, length, get_or, Option, refl, sym, ap, ◌∙◌}
+use Rattle.std.proofs.Common.{ℕ, ◌≡◌, ◌<◌, ◌≤◌, ◌+◌, ◌-◌, arith, List, map, drop, length, get_or, Option, sym, ap, ◌∙◌}
 use Rattle.spl_tree.specs.Views.{letters}
-use Rattle.spl_meaning.specs.Names.{find}
 use Rattle.spl_meaning.specs.Places.{Place}
 use Rattle.spl_meaning.specs.Pending.{formal_words, formals_words}
 use Rattle.spl_meaning.specs.Bodies.{parameter_places}

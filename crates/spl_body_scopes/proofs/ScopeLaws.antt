@@ -2,7 +2,7 @@
 -- 1. a unit has all its declarations left at first, and behind each those behind it     (begins, goes_on)
 -- 2. so the next procedure is the first of those that are left                           (first_left)
 -- 3. and what is seen through its levels are its names and places                        (routine_scope, inner_scope, main_scope)
-use Rattle.std.proofs.Common.{ℕ, zero, suc, ◌≡◌, ◌+◌, arith, add-zero, add_assoc, Bool, true, false, List, [], ◌∷◌, ◌++◌, map, drop, Option, Some, None, refl, sym, ap, subst, ◌∙◌}
+use Rattle.std.proofs.Common.{ℕ, zero, suc, ◌≡◌, ◌+◌, add-zero, add_assoc, Bool, true, false, List, [], ◌∷◌, ◌++◌, map, drop, Option, Some, None, refl, sym, ap, subst, ◌∙◌}
 use Rattle.std.proofs.lemmas.Option.{slice_get-map}
 use Rattle.std.proofs.lemmas.List.{map-append}
 use Rattle.std.specs.Prelude.{option_map, if◌then◌else◌}
@@ -12,28 +12,28 @@ use Rattle.spl_tree.specs.DeclarationTrees.{Heading, Declaration, Declarations, 
 use Rattle.spl_tree.specs.StatementTrees as stat
 use Rattle.spl_meaning.specs.Stops.{declaration_stops}
 use Rattle.spl_meaning.specs.Names.{Names, Sort, Table, find, or_else, within, nothing_declared, parameters, formals_of, profile_of}
-use Rattle.spl_meaning.specs.Tables.{Source, Routine, Subroutine, routines_of, routines_among, routine_in, routine_table, routine_names, outer_names, routine_subroutines, subroutine_in, subroutines_among, unit_subroutines, unit_table, with_declaration, with_declarations}
+use Rattle.spl_meaning.specs.Tables.{Source, Routine, Subroutine, routines_of, routines_among, routine_table, outer_names, routine_subroutines, subroutine_in, subroutines_among, unit_subroutines, unit_table, with_declaration}
 use Rattle.spl_meaning.specs.Places.{Place, data_word, above_base, below_base, below_return, item_words, list_words, list_array_words, places_from}
 use Rattle.spl_meaning.specs.Bodies.{Body, Named, Reached, reached_behind, marker_gap, parameter_places, named_bodies, procedure_body, subroutine_body, main_body, all_routines}
 use Rattle.spl_found.specs.OwnNames.{behind_declaration, behind_declarations}
 use Rattle.spl_found.proofs.OwnNames.{find_declaration, find_declarations}
 use Rattle.spl_places.specs.ListedData.{Datum, list_data}
 use Rattle.spl_places.specs.Counters.{total_words}
-use Rattle.spl_places.specs.Held.{held, named}
-use Rattle.spl_places.specs.Programs.{routine_items, Each, NewInUnit, NewInRoutine, NewInAll}
+use Rattle.spl_places.specs.Held.{named}
+use Rattle.spl_places.specs.Programs.{routine_items, Each, NewInUnit, NewInRoutine}
 use Rattle.spl_places.proofs.HeldLaws.{held_declarations}
 use Rattle.spl_places.proofs.ProgramLaws.{routine_held, item_words_held, places_held}
 use Rattle.spl_areas.specs.Gathered.{items_under, items_in}
 use Rattle.spl_code.specs.Calls.{Scope}
 use Rattle.spl_scopes.specs.Entries.{Owner, main, routine, Entry, routines_behind, module_entries, procedure_index, subroutine_index}
-use Rattle.spl_scopes.specs.Scopes.{Placed, first_reached, placed_units, unit_at, global_places, routine_bodies, outer_body, Which, outer, inner, inner_body, segment_of, scope_with, scope_in}
-use Rattle.spl_body_scopes.specs.Levels.{Level, Spots, globals_from, routine_level, inner_level, through, scope_through}
+use Rattle.spl_scopes.specs.Scopes.{Placed, first_reached, placed_units, global_places, routine_bodies, outer_body, inner_body, segment_of, scope_with}
+use Rattle.spl_body_scopes.specs.Levels.{Spots, globals_from, routine_level, inner_level, through}
 use Rattle.spl_body_scopes.specs.declared.places.Base.TheVariants as base
 use Rattle.spl_scopes.specs.Scopes.{Results}
 use Rattle.spl_meaning.specs.Bodies.{own_result, result_place}
-use Rattle.spl_body_scopes.specs.Results.{result_of, heading_result, routine_result, results_through}
+use Rattle.spl_body_scopes.specs.Results.{heading_result, routine_result, results_through}
 use Rattle.spl_body_scopes.specs.Found.{RoutineResults, InnerResults, MainResults, MainInnerResults}
-use Rattle.spl_body_scopes.specs.Walks.{State, first_state, behind, routines_own, Left, globals_in, module_scope, inner_heading, inner_headings, WalksBegin, WalksGoOn, RoutineScopes, InnerScopes, MainScopes, MainInnerScopes}
+use Rattle.spl_body_scopes.specs.Walks.{State, behind, routines_own, Left, globals_in, inner_heading, inner_headings, WalksBegin, WalksGoOn, RoutineScopes, InnerScopes, MainScopes, MainInnerScopes}
 
 -- ---- lists
 

@@ -1,15 +1,12 @@
 -- A unit's data begin where those of the units before it end.
-use Rattle.std.proofs.Common.{ℕ, suc, ◌≡◌, ◌+◌, add-zero, false, List, ◌∷◌, Some, refl, sym, ap, ◌∙◌}
-use Rattle.spl_tree.specs.DeclarationTrees as decl
-use Rattle.spl_meaning.specs.Tables.{Source, routines_of}
-use Rattle.spl_meaning.specs.Places.{item_words, list_words}
+use Rattle.std.proofs.Common.{ℕ, ◌+◌, add-zero, false, refl, sym, ap, ◌∙◌}
+use Rattle.spl_meaning.specs.Tables.{routines_of}
+use Rattle.spl_meaning.specs.Places.{list_words}
 use Rattle.spl_meaning.specs.Bodies.{reached_behind, own_table, all_routines}
-use Rattle.spl_places.specs.Counters.{total_words}
 use Rattle.spl_places.specs.Programs.{unit_items, NewInRoutine}
 use Rattle.spl_places.proofs.ProgramLaws.{unit_held, item_words_held}
-use Rattle.spl_scopes.specs.Scopes.{Placed, first_reached, placed_units}
-use Rattle.spl_body_scopes.specs.Walks.{State, Left, routines_own}
-use Rattle.spl_body_scopes.specs.Units.{UnitsLeft, UnitsBegin, UnitsEnter, UnitsGoOn}
+use Rattle.spl_scopes.specs.Scopes.{first_reached, placed_units}
+use Rattle.spl_body_scopes.specs.Units.{UnitsBegin, UnitsEnter, UnitsGoOn}
 use Rattle.spl_body_scopes.proofs.ScopeLaws.{drop_more, first_at, each_second}
 
 pub units_begin : UnitsBegin

@@ -2,7 +2,7 @@
 -- have words.
 use Rattle.std.specs.Prelude.{ℕ, Bool, if◌then◌else◌, [], ◌++◌, List, map, Option}
 use Rattle.spl_tree.specs.DeclarationTrees.{Heading, Declarations}
-use Rattle.spl_meaning.specs.Names.{Names, Table, find, or_else, nothing_declared, parameters, formals_of}
+use Rattle.spl_meaning.specs.Names.{Names, find, or_else, nothing_declared, parameters, formals_of}
 use Rattle.spl_meaning.specs.Places.{Place, data_word, above_base, below_base, below_return, places_from}
 use Rattle.spl_meaning.specs.Bodies.{marker_gap, parameter_places}
 use Rattle.spl_found.specs.OwnNames.{behind_declarations}

@@ -1,5 +1,5 @@
 -- The results that may be assigned in bodies, by name.
-use Rattle.std.specs.Prelude.{ℕ, if◌then◌else◌, List, Option, Some, None, is_some}
+use Rattle.std.specs.Prelude.{if◌then◌else◌, Option, Some, None, is_some}
 use Rattle.spl_tree.specs.declared.expressions.Kind.{Kind}
 use Rattle.spl_tree.specs.DeclarationTrees.{Heading}
 use Rattle.spl_tree.specs.Views.{letters}

@@ -6,7 +6,7 @@ use Rattle.spl_meaning.specs.Places.{item_words}
 use Rattle.spl_meaning.specs.Bodies.{Reached, all_routines, global_words}
 use Rattle.spl_places.specs.Counters.{total_words}
 use Rattle.spl_places.specs.Programs.{unit_items, Each, NewInUnit, NewInRoutine, NewInAll}
-use Rattle.spl_scopes.specs.Scopes.{Placed, first_reached, placed_units, unit_at}
+use Rattle.spl_scopes.specs.Scopes.{first_reached, placed_units, unit_at}
 use Rattle.spl_body_scopes.specs.Walks.{State, Left}
 
 -- the units that a program has left behind n of them, where the next global and the next OWN item stand at these addresses

@@ -1,5 +1,5 @@
 -- No names, and the places of all items.
-use Rattle.std.proofs.Common.{◌≡◌, map, ◌∙◌}
+use Rattle.std.proofs.Common.{map, ◌∙◌}
 use Rattle.spl_meaning.specs.Names.{find, nothing_declared}
 use Rattle.spl_meaning.specs.Places.{places_from, data_word}
 use Rattle.spl_sorts.specs.Tables.{table_of}

@@ -1,22 +1,21 @@
 -- The parameters are the first names of the list, and their places stand before those of the items.
-use Rattle.std.proofs.Common.{ℕ, List, ◌≡◌, ◌+◌, ◌++◌, true, map, sym, ap, ◌∙◌}
+use Rattle.std.proofs.Common.{ℕ, List, ◌+◌, ◌++◌, true, map, ap, ◌∙◌}
 use Rattle.spl_tree.specs.DeclarationTrees.{declarations}
 use Rattle.spl_tree.specs.Spells.{declaration, heading_tree}
 use Rattle.spl_meaning.specs.Names as n
 use Rattle.spl_meaning.specs.Names.{Names, Table, find, parameters, formals_of}
-use Rattle.spl_meaning.specs.Places.{Place, above_base, below_base, item_words, places_from}
+use Rattle.spl_meaning.specs.Places.{above_base, below_base, item_words, places_from}
 use Rattle.spl_meaning.specs.Bodies.{marker_gap, parameter_places}
 use Rattle.spl_found.specs.OwnNames.{behind_declarations}
 use Rattle.spl_sorts.specs.declared.profiles.Formal.{Formal}
 use Rattle.spl_sorts.specs.Profiles.{formal_of}
 use Rattle.spl_sorts.specs.Tables.{table_of}
 use Rattle.spl_places.specs.declared.data.Datum as code
-use Rattle.spl_places.specs.ListedData.{Datum, datum_of, list_data}
+use Rattle.spl_places.specs.ListedData.{Datum, datum_of}
 use Rattle.spl_places.specs.Counters.{total_words}
 use Rattle.spl_places.specs.NameMaps.{entries_of, shown, behind_table}
 use Rattle.spl_places.specs.Held.{named}
 use Rattle.spl_places.specs.Spots.{spot_of}
-use Rattle.spl_areas.specs.Gathered.{items_under}
 use Rattle.spl_body_scopes.specs.Levels.{Spots, routine_level}
 use Rattle.spl_body_scopes.proofs.LevelLemmas.{level_made, find_both, first_named, items_listed}
 use Rattle.spl_body_scopes.proofs.levels.routine_level.Goals as goal
