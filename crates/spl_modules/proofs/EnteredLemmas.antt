@@ -1,9 +1,10 @@
 -- Modules in a list by the numbers of their segments: one more that is empty, and one with an entry more.
-use Rattle.std.proofs.Common.{ℕ, zero, suc, ◌≡◌, ◌<◌, arith, Bool, true, false, nat_eq, List, [], ◌∷◌, ◌++◌, map, length, get_or, slice_set, refl, sym, ap, subst, ◌∙◌, inl, inr, ◌⊎◌}
+use Rattle.std.proofs.Common.{ℕ, zero, suc, ◌≡◌, ◌<◌, ◌≤◌, arith, Bool, true, false, nat_eq, List, [], ◌∷◌, ◌++◌, map, length, get_or, slice_set, refl, sym, ap, subst, ◌∙◌, inl, inr, ◌⊎◌, Option, Some, None}
 use Rattle.std.proofs.lemmas.Bool.Decides.{eqb_tells}
 use Rattle.std.specs.Prelude.{if◌then◌else◌}
 use Rattle.spl_meaning.specs.Names.{find}
 use Rattle.spl_places.specs.NameMaps.{entries_of}
+use Rattle.spl_branch.specs.declared.buffer.Entry as code
 use Rattle.spl_modules.specs.declared.modules.ModuleEntries.{ModuleEntries}
 use Rattle.spl_modules.specs.Made.{Made, made_of}
 use Rattle.spl_modules.specs.Entered.{Indexes, Entered, made_at, procedures_at, entered_of, and_made, and_procedure, with_entry}
@@ -109,3 +110,32 @@ pub entered_in : (old ms : List ModuleEntries) (g i : ℕ) (m new : ModuleEntrie
 entered_in old ms g i m new x callable at lt is same entries procedures =
     entered_set ms i m new x callable (omega (arith, lt, at)) is entries procedures
     ∙ ap (λ (t : Entered). with_entry t x i callable) same ∙ ap (λ (h : ℕ). with_entry (entered_of old) x h callable) at
+
+-- ---- a segment that has no module
+
+pub made_past : (ms : List ModuleEntries) (g : ℕ) → length ms ≤ g → made_at ms g ≡ []
+made_past [] g le = refl
+made_past (n ∷ ms) zero le = absurd (omega (arith, le))
+made_past (n ∷ ms) (suc g) le = made_past ms g (omega (arith, le))
+
+pub procedures_past : (ms : List ModuleEntries) (g : ℕ) → length ms ≤ g → procedures_at ms g ≡ find []
+procedures_past [] g le = refl
+procedures_past (n ∷ ms) zero le = absurd (omega (arith, le))
+procedures_past (n ∷ ms) (suc g) le = procedures_past ms g (omega (arith, le))
+
+-- ---- a module by the number of its segment
+
+pub made_found : (ms : List ModuleEntries) (g i n : ℕ) (m : ModuleEntries) (es : List code.Entry) → i ≡ g → n ≡ length ms → i < n → m ≡ get_or ms i m
+    → es ≡ m.entries.items → map made_of es ≡ made_at ms g
+made_found ms g i n m es at many lt is same =
+    ap (λ (xs : List code.Entry). map made_of xs) same ∙ sym (made_there ms i m (omega (arith, lt, many)) is) ∙ ap (λ (h : ℕ). made_at ms h) at
+
+pub made_missing : (ms : List ModuleEntries) (g i n : ℕ) → i ≡ g → n ≡ length ms → n ≤ i → [] ≡ made_at ms g
+made_missing ms g i n at many le = sym (made_past ms g (omega (arith, le, at, many)))
+
+pub procedures_found : (ms : List ModuleEntries) (g i n : ℕ) (m : ModuleEntries) → i ≡ g → n ≡ length ms → i < n → m ≡ get_or ms i m
+    → find (entries_of m.procedures) ≡ procedures_at ms g
+procedures_found ms g i n m at many lt is = sym (procedures_there ms i m (omega (arith, lt, many)) is) ∙ ap (λ (h : ℕ). procedures_at ms h) at
+
+pub procedures_missing : (ms : List ModuleEntries) (g i n : ℕ) → i ≡ g → n ≡ length ms → n ≤ i → find [] ≡ procedures_at ms g
+procedures_missing ms g i n at many le = sym (procedures_past ms g (omega (arith, le, at, many)))

@@ -1,5 +1,5 @@
 //! The entries of a unit, along its declarations.
-ghost use Rattle.std.specs.Prelude.{◌≡◌, ◌++◌, ◌∷◌, [], OnOk, IfOk, map, length, true};
+ghost use Rattle.std.specs.Prelude.{◌≡◌, ◌++◌, ◌∷◌, [], OnOk, IfOk, map, option_map, length, true};
 ghost use Rattle.spl_tree.specs.DeclarationTrees as decl;
 ghost use Rattle.spl_tree.specs.Spells as view;
 ghost use Rattle.spl_tree.specs.Spells.{heading_tree};
@@ -9,9 +9,12 @@ ghost use Rattle.spl_places.specs.NameMaps.{entries_of};
 ghost use Rattle.spl_scopes.specs.Entries.{main, inner_entry, inner_entries};
 ghost use Rattle.spl_modules.specs.Entered.{entered_of, behind_entries, and_inner, inner_indexes, with_entry, with_declared};
 ghost use Rattle.spl_modules.specs.UnitModules.{IsUnitModules};
-ghost use Rattle.spl_modules.specs.Walks.{walk_of};
+ghost use Rattle.spl_modules.specs.Walks.{walk_of, indexes_in};
+ghost use Rattle.spl_modules.specs.Made.{made_of};
+ghost use Rattle.std.specs.List.{slice_get};
 
 use crate::modules::{ModuleEntries, enter};
+use spl_branch::Entry;
 use spl_places::NameMap;
 use spl_tree::{Decl, Heading, SplUnit};
 use std::alloc::{AllocError, Global};
@@ -25,6 +28,39 @@ pub struct UnitEntries {
     pub main: NameMap<usize>,
     /// Those of each procedure's subroutines, by its number among the unit's procedures with bodies.
     pub routines: Vec<NameMap<usize>>,
+}
+
+impl UnitEntries {
+    /// The entries of the module that the unit has in a segment.
+    pub fn entries(&self, segment: u16) -> &[Entry]
+        ensures { map made_of result.now ≡ (walk_of self.now).entered.made segment }
+    {
+        let number = usize::from(segment);
+        if number < self.modules.len() {
+            &self.modules[number].entries
+        } else {
+            &[]
+        }
+    }
+
+    /// The indexes of the procedures of that module, where it has entries.
+    pub fn procedures(&self, segment: u16) -> Option<&NameMap<usize>>
+        ensures { indexes_in (option_map (λ m. m.now) result) ≡ (walk_of self.now).entered.procedures segment }
+    {
+        let number = usize::from(segment);
+        if number < self.modules.len() {
+            Some(&self.modules[number].procedures)
+        } else {
+            None
+        }
+    }
+
+    /// The indexes of a procedure's subroutines.
+    pub fn inner(&self, routine: usize) -> Option<&NameMap<usize>>
+        ensures { option_map (λ m. find (entries_of m.now)) result ≡ slice_get (walk_of self.now).routines routine }
+    {
+        self.routines.get(routine)
+    }
 }
 
 /// Takes in a declaration of a body, where it is a subroutine.
