@@ -1,0 +1,4 @@
+-- In reading order.
+pub mod EnteredLemmas
+pub mod ModuleLaws
+pub mod WalkSteps

@@ -1,0 +1,5 @@
+-- In reading order.
+pub mod Made
+pub mod Entered
+pub mod UnitModules
+pub mod Walks

@@ -1,0 +1,5 @@
+-- In reading order.
+mod KnownUnits
+mod KnownScopes
+mod KnownEntries
+pub mod ProgramLaws

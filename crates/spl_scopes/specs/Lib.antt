@@ -1,0 +1,4 @@
+-- In reading order.
+pub mod Entries
+pub mod Scopes
+pub mod ProgramBodies
