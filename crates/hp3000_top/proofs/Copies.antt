@@ -1,6 +1,6 @@
 -- Programs that are equal in all that counts open, run and fit alike, at seats that say the same.
-use Rattle.std.proofs.Common.{◌≡◌, ℕ, zero, suc, ◌+◌, ◌-◌, List, [], ◌∷◌, ◌++◌, map, length, Option, None, Some, refl, sym, ap, ◌∙◌}
-use Rattle.std.specs.Prelude.{slice_get, unwrap_or, nat_lt, if◌then◌else◌}
+use Rattle.std.proofs.Common.{◌≡◌, ℕ, zero, suc, ◌+◌, ◌-◌, List, [], ◌∷◌, ◌++◌, map, length, None, Some, refl, sym, ap, ◌∙◌}
+use Rattle.std.specs.Prelude.{slice_get, nat_lt, if◌then◌else◌}
 use Rattle.hp_program.specs.declared.program.Program.{Program}
 use Rattle.hp_program.specs.Programs.{segments_of}
 use Rattle.hp_flat.specs.Views.{start_of, opened_of}
@@ -13,7 +13,6 @@ use Rattle.mpe_overlay.specs.Codes.{codes_of}
 use Rattle.mpe_session.specs.declared.seat.Seat.{Seat}
 use Rattle.mpe_worlds.specs.Worlds.{Run}
 use Rattle.mpe_worlds.specs.Opening.{opening_run, opening_with, opening_runs, opening, seated_words, largest, memory_needed, nothing_moved}
-use Rattle.mpe_turns.specs.declared.fault.OpenFault.{OpenFault}
 use Rattle.mpe_turns.specs.declared.fault.OpenFault.TheVariants.{StackTooSmall}
 use Rattle.mpe_turns.specs.Opening.{first_of_two, small_stack, small_stack_from, small_memory, refusal}
 use Rattle.hp3000_top.specs.Steps.{IsCopy, AreCopies, none, more}

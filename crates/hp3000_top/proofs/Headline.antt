@@ -1,5 +1,5 @@
 -- Each session of a job that runs stands where the unit of its program, run alone, stands after some number of its steps.
-use Rattle.std.proofs.Common.{◌≡◌, ℕ, zero, suc, ◌+◌, ◌-◌, ◌<◌, ◌≤◌, Bool, true, false, List, [], ◌∷◌, ◌++◌, map, length, replicate, Option, None, Some, refl, sym, ap, subst, ◌∙◌, arith}
+use Rattle.std.proofs.Common.{◌≡◌, ℕ, zero, suc, ◌+◌, ◌<◌, ◌≤◌, Bool, true, false, List, [], ◌∷◌, ◌++◌, map, length, Option, None, Some, refl, sym, ap, subst, ◌∙◌, arith}
 use Rattle.std.specs.Prelude.{slice_get, unwrap_or, nat_lt, if◌then◌else◌, option_map}
 use Rattle.std.proofs.lemmas.Bool.Decides.{nat_tests}
 use Rattle.std.proofs.lemmas.List.{length-map, length-replicate}
@@ -9,7 +9,7 @@ use Rattle.hp_program.specs.Programs.{segments_of}
 use Rattle.hp_flat.specs.Step as flat
 use Rattle.hp_flat.specs.Views.{opened_of}
 use Rattle.hp_session.specs.State.{Machine}
-use Rattle.job_text.specs.Fits.{Each, SeatFits, JobFits}
+use Rattle.job_text.specs.Fits.{Each, SeatFits}
 use Rattle.job_text.specs.Jobs.{JobValue}
 use Rattle.job_text.specs.States.{TextValue, SeatValue}
 use Rattle.job_text.specs.Views.{seat_value}
@@ -20,17 +20,15 @@ use Rattle.mpe_session.specs.declared.seat.Seat.{Seat}
 use Rattle.mpe_worlds.specs.Alone.{EachGoesOn, GoesOn}
 use Rattle.mpe_worlds.specs.Worlds.{Run, World, segments_at}
 use Rattle.mpe_worlds.specs.Opening.{opening_run, opening_with, opening_runs, opening}
-use Rattle.mpe_worlds.specs.Dispatch.{after}
 use Rattle.mpe_turns.specs.declared.fault.OpenFault.{OpenFault}
 use Rattle.mpe_turns.specs.declared.fault.OpenFault.TheVariants.{StackTooSmall}
-use Rattle.mpe_turns.specs.Opening.{first_of_two, small_stack, small_stack_from, small_memory, refusal}
+use Rattle.mpe_turns.specs.Opening.{first_of_two, small_stack, small_stack_from, small_memory}
 use Rattle.thin_jobs.specs.ThinUnits as u
-use Rattle.thin_meaning.specs.ThinMeaning.{alone}
 use Rattle.thin_carries.specs.Carries.{Carries, flat_point}
 use Rattle.thin_carries.proofs.Opening.{carries}
 use Rattle.hp3000_top.specs.Programs.{IsThin, IsMade, AreMade}
 use Rattle.hp3000_top.specs.Programs as p
-use Rattle.hp3000_top.specs.Causes.{IsJob, Runs}
+use Rattle.hp3000_top.specs.Causes.{Runs}
 use Rattle.hp3000_top.specs.Answers.{seat_of, IsAsAlone, EachIsAsAlone}
 use Rattle.hp3000_top.proofs.ClosedJobs.{kept}
 

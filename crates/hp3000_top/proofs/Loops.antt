@@ -2,13 +2,12 @@
 use Rattle.std.proofs.Common.{ℕ, zero, suc, ◌≡◌, ◌+◌, ◌<◌, ◌≤◌, List, [], ◌∷◌, ◌++◌, map, length, drop, take, get_or, add-one, Some, Result, Ok, Err, refl, ap, sym, subst, ◌∙◌, arith}
 use Rattle.std.specs.Prelude.{slice_get, IfErr, IsErrAnd}
 use Rattle.std.proofs.Math.Seq.{take-suc, drop-cons}
-use Rattle.std.proofs.lemmas.List.{length-map, map_push, take-append-drop, map-append}
+use Rattle.std.proofs.lemmas.List.{map_push, take-append-drop, map-append}
 use Rattle.hp_program.specs.declared.program.Program.{Program}
-use Rattle.hp_program.specs.Programs.{segments_of}
 use Rattle.job_text.specs.declared.job.Text.{Text}
-use Rattle.job_text.specs.Fits.{Each, ProgramFits, SeatFits, JobFits}
+use Rattle.job_text.specs.Fits.{Each, ProgramFits, JobFits}
 use Rattle.job_text.specs.Jobs.{JobValue}
-use Rattle.job_text.specs.States.{TextValue, SeatValue}
+use Rattle.job_text.specs.States.{TextValue}
 use Rattle.job_text.specs.Views.{text_value}
 use Rattle.hp3000_top.specs.declared.unmade.Unmade.{Unmade}
 use Rattle.hp3000_top.specs.declared.unmade.Unmade.TheVariants as unmade

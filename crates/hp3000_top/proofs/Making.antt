@@ -1,5 +1,5 @@
 -- What is made of a program's texts.
-use Rattle.std.proofs.Common.{ℕ, ◌≡◌, ◌≤◌, Bool, true, false, List, [], ◌∷◌, map, length, Option, None, Some, Ok, Err, refl, ap, sym, subst, ◌∙◌}
+use Rattle.std.proofs.Common.{ℕ, ◌≡◌, ◌≤◌, false, List, [], ◌∷◌, map, length, Option, None, Some, Ok, Err, refl, ap, sym, subst, ◌∙◌}
 use Rattle.std.specs.Prelude.{slice_get}
 use Rattle.hp_program.specs.declared.program.Program.{Program}
 use Rattle.job_text.specs.Fits.{Each}
@@ -16,7 +16,7 @@ use Rattle.thin_jobs.specs.ThinUnits as u
 use Rattle.thin_jobs.specs.ThinShapes.{thin_in, thin_of}
 use Rattle.thin_jobs.specs.declared.unread.Unread.TheVariants as unread
 use Rattle.thin_compiler.specs.ThinCode.{is_in_bounds}
-use Rattle.hp3000_top.specs.Programs.{IsThin, IsMade, IsUnbuilt, IsRefused, faulty, unbuilt, fault_line}
+use Rattle.hp3000_top.specs.Programs.{IsThin, IsMade, IsUnbuilt, IsRefused, faulty, fault_line}
 use Rattle.hp3000_top.specs.Steps.{IsTold, thin_among, MakesThin}
 use Rattle.hp3000_top.proofs.Loops.{each_slice}
 

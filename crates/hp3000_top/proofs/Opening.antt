@@ -1,17 +1,13 @@
 -- What the monitor answers, of the programs that were made.
-use Rattle.std.proofs.Common.{ℕ, ◌≡◌, ◌≢◌, ◌<◌, ◌≤◌, List, [], ◌∷◌, map, length, Vec, Global, Option, None, Some, Result, Ok, Err, refl, ap, sym, subst, ◌∙◌, arith}
-use Rattle.std.specs.Prelude.{slice_get, IfOk, IfSome, MatchResult}
+use Rattle.std.proofs.Common.{ℕ, ◌≡◌, ◌≢◌, ◌≤◌, List, length, Vec, Global, Option, None, Some, Result, Ok, Err, refl, ap, sym, ◌∙◌, arith}
+use Rattle.std.specs.Prelude.{slice_get, IfSome}
 use Rattle.std.proofs.lemmas.List.{length-map}
 use Rattle.hp_program.specs.declared.program.Program.{Program}
 use Rattle.job_text.specs.declared.job.Job.{Job}
-use Rattle.job_text.specs.declared.job.Text.{Text}
-use Rattle.job_text.specs.Fits.{Each, SeatFits, JobFits}
-use Rattle.job_text.specs.Jobs.{JobValue}
-use Rattle.job_text.specs.States.{SeatValue}
+use Rattle.job_text.specs.Fits.{SeatFits, JobFits}
 use Rattle.job_text.specs.Views.{text_value, seat_value, job_value}
 use Rattle.mpe_overlay.specs.Codes.{codes_of}
 use Rattle.mpe_session.specs.declared.seat.Seat.{Seat}
-use Rattle.mpe_worlds.specs.Worlds.{World}
 use Rattle.mpe_worlds.specs.Opening.{opening}
 use Rattle.mpe_worlds.specs.Dispatch.{after}
 use Rattle.mpe_turns.specs.declared.fault.OpenFault.{OpenFault}

@@ -1,87 +1,233 @@
--- The clauses of the top call, from what is answered of the bytes that were read.
-use Rattle.std.proofs.Common.{◌≡◌, ℕ, ◌≤◌, Bool, false, List, length, Option, None, Some, Result, Ok, Err, refl, sym, ap, subst, ◌∙◌, arith}
-use Rattle.std.specs.Prelude.{OnOk, IfSome}
+-- The clauses of the top call, from what is answered of the bytes that were read, and how that was taken.
+use Rattle.std.proofs.Common.{◌≡◌, ℕ, Bool, true, false, List, Option, None, Some, Result, Ok, Err, refl, sym, subst, inl, inr, ◌∙◌}
+use Rattle.std.specs.Prelude.{OnOk, OnErr, IfSome, ◌⊎◌}
 use Rattle.std.specs.Result.{is_err}
 use Rattle.std.specs.Io.KnownBytes.{Appends}
-use Rattle.hp_outside.specs.Whole.{ReadsToEnd}
+use Rattle.hp_outside.specs.Whole.{ReadsToEnd, AppendsPrefix}
+use Rattle.hp_outside.specs.Faults.{Rose, HasCause}
 use Rattle.hp_outside.specs.declared.streams.Failed.{Failed}
 use Rattle.hp_program.specs.declared.program.Program.{Program}
 use Rattle.job_text.specs.Jobs.{JobValue}
 use Rattle.job_runs.specs.Reported.{names_of, report_on}
-use Rattle.mpe_turns.specs.declared.monitor.Monitor.{Monitor}
+use Rattle.mpe_worlds.specs.Worlds.{World}
 use Rattle.mpe_turns.specs.Monitors.{world_of}
+use Rattle.hp3000_top.specs.declared.answer.Answer.{Answer}
+use Rattle.hp3000_top.specs.declared.answer.Answer.TheVariants.{Report, Crowded, File, Listing, Refusal}
+use Rattle.hp3000_top.specs.declared.exit.Exit.{Exit}
+use Rattle.hp3000_top.specs.declared.exit.Exit.TheVariants as e
 use Rattle.hp3000_top.specs.declared.ran.Ran.{Ran}
-use Rattle.hp3000_top.specs.declared.ran.Ran.TheVariants.{Plain}
-use Rattle.hp3000_top.specs.Causes.{Cause, Runs}
-use Rattle.hp3000_top.specs.Answers.{Refuses, DeliversJob, Delivers, ReportsAsAlone, AreAsAlone, IsBuilt, IsFaulty, IsCrowded}
-use Rattle.hp3000_top.proofs.Unique.{cause_same, runs_no_cause}
+use Rattle.hp3000_top.specs.declared.verbs.Verb.{Verb}
+use Rattle.hp3000_top.specs.declared.verbs.Verb.TheVariants as verb
+use Rattle.hp3000_top.specs.Causes.{Runs, IsPrepared, CauseOf, ComesTo}
+use Rattle.hp3000_top.specs.Causes as c
+use Rattle.hp3000_top.specs.Answers.{Read, Refuses, BreaksOff, HasRun, DeliversOf, Delivers, ReportsAsAlone, AreAsAlone, IsBuiltOf, IsBuilt, IsDone, IsFaulty, IsRefusedBy, IsCrowded, MadeAt, RanAt}
+use Rattle.hp3000_top.specs.Steps.{IsAnswered, IsTaken, text_of, exit_of, made_by, ran_by}
+use Rattle.hp3000_top.specs.Steps as s
+use Rattle.hp3000_top.proofs.Unique.{cause_of_same, built_no_cause}
 use Rattle.hp3000_top.proofs.Headline.{each_is_as_alone}
 
--- what was written where the sink did not fail
-pub written : (r : Result (Unit {0}) Failed) (b : Bool) (old new : Option (List ℕ)) (bytes text : List ℕ) → bytes ≡ text → OnOk r (Appends old new bytes) → b ≡ is_err r → b ≡ false
-    → Appends old new text
-written (Ok x) b old new bytes text e h i f = subst (λ (text : List ℕ). Appends old new text) e h
-written (Err x) b old new bytes text e h i f = cc
+-- ---- what was written
 
--- what is answered by a report
-abbrev pub Reported : List ℕ → List Program → Monitor → List ℕ → Type 0
-Reported bytes made m text = (job : JobValue) × Runs bytes job made (world_of m) × (text ≡ report_on (names_of job.programs) job.stats (world_of m))
+pub taken_whole : (a : Answer) (r : Result (Unit {0}) Failed) (b : Bool) (old new : Option (List ℕ)) (bytes : List ℕ) (faults : Type 0) (m0 m1 : List Program) (r0 r1 : Option Ran) (x : Exit)
+    → bytes ≡ text_of a → OnOk r (Appends old new bytes) → b ≡ is_err r → b ≡ false → x ≡ exit_of a → m1 ≡ made_by a m0 → r1 ≡ ran_by a r0
+    → IsTaken a old new faults m0 m1 r0 r1 x
+taken_whole a (Ok k) b old new bytes faults m0 m1 r0 r1 x t h i f q m r = s.IsTaken.whole q (subst (λ (t : List ℕ). Appends old new t) t h) m r
+taken_whole a (Err k) b old new bytes faults m0 m1 r0 r1 x t h i f q m r = cc
 
-delivered : (bytes : List ℕ) (made : List Program) (m : Monitor) (text : List ℕ) (old new : Option (List ℕ)) → Reported bytes made m text → Appends old new text
-    → DeliversJob bytes made (Some (Plain m)) old new
-delivered bytes made m text old new k a = record {
-  job = k.0;
-  world = world_of m;
-  runs = k.1;
-  has_run = refl;
-  appends = subst (λ (t : List ℕ). Appends old new t) k.2 a;
+pub taken_cut : (a : Answer) (r : Result (Unit {0}) Failed) (b : Bool) (old new : Option (List ℕ)) (bytes : List ℕ) (before now : ℕ) (m0 m1 : List Program) (r0 r1 : Option Ran) (x : Exit)
+    → bytes ≡ text_of a → OnErr r (AppendsPrefix old new bytes) → HasCause before now r → b ≡ is_err r → b ≡ true → x ≡ e.WriteFault → m1 ≡ m0 → r1 ≡ r0
+    → IsTaken a old new (Rose before now) m0 m1 r0 r1 x
+taken_cut a (Err k) b old new bytes before now m0 m1 r0 r1 x t h j i f q m r = s.IsTaken.cut q (subst (λ (t : List ℕ). AppendsPrefix old new t) t h) j.failed m r
+taken_cut a (Ok k) b old new bytes before now m0 m1 r0 r1 x t h j i f q m r = cc
+
+-- an answer has this text
+comes_to : (v : Verb) (bytes : List ℕ) (a : Answer) → IsAnswered bytes v a → ComesTo bytes v (text_of a)
+comes_to v bytes a (s.IsAnswered.report {made = made} {monitor = m} job k t) = subst (ComesTo bytes verb.Run) (sym t) (c.ComesTo.report job made.items (world_of m) k)
+comes_to v bytes a (s.IsAnswered.crowded k d) = c.ComesTo.line k
+comes_to v bytes a (s.IsAnswered.file job p k m f) = c.ComesTo.file job p k f
+comes_to v bytes a (s.IsAnswered.listing p k t) = subst (ComesTo bytes verb.List) (sym t) (c.ComesTo.listing p k)
+comes_to v bytes a (s.IsAnswered.refuses k d) = c.ComesTo.line k
+
+-- what an answer ends with
+never_cut : (a : Answer) → exit_of a ≡ e.WriteFault → ⊥
+never_cut (Report made monitor text) h = cc
+never_cut (Crowded made line) h = cc
+never_cut (File made text) h = cc
+never_cut (Listing text) h = cc
+never_cut (Refusal line) h = cc
+
+-- ---- each clause
+
+pub fault_so : (a : Answer) (old new : Option (List ℕ)) (faults : Type 0) (m0 m1 : List Program) (r0 r1 : Option Ran) (x : Exit)
+    → IsTaken a old new faults m0 m1 r0 r1 x → x ≡ e.WriteFault → faults
+fault_so a old new faults m0 m1 r0 r1 x (s.IsTaken.cut q t f m d) w = f
+fault_so a old new faults m0 m1 r0 r1 x (s.IsTaken.whole q t m d) w = absurd (never_cut a (sym q ∙ w))
+
+pub broken_so : (v : Verb) (left rest : Option (List ℕ)) (bytes : List ℕ) (a : Answer) (old new : Option (List ℕ)) (faults : Type 0) (m0 m1 : List Program) (r0 r1 : Option Ran) (x : Exit)
+    → ReadsToEnd 1048576 left rest bytes → IsAnswered bytes v a → IsTaken a old new faults m0 m1 r0 r1 x → x ≡ e.WriteFault → BreaksOff (Some v) left old new
+broken_so v left rest bytes a old new faults m0 m1 r0 r1 x r k (s.IsTaken.cut q t f m d) w = (bytes, r.all, (text_of a, comes_to v bytes a k, t))
+broken_so v left rest bytes a old new faults m0 m1 r0 r1 x r k (s.IsTaken.whole q t m d) w = absurd (never_cut a (sym q ∙ w))
+
+-- the line of an answer that ends refused
+line_so : (v : Verb) (bytes : List ℕ) (a : Answer) → IsAnswered bytes v a → exit_of a ≡ e.Refused → CauseOf v bytes (text_of a)
+line_so v bytes a (s.IsAnswered.report job k t) h = cc
+line_so v bytes a (s.IsAnswered.crowded k d) h = k
+line_so v bytes a (s.IsAnswered.file job p k m f) h = cc
+line_so v bytes a (s.IsAnswered.listing p k t) h = cc
+line_so v bytes a (s.IsAnswered.refuses k d) h = k
+
+pub refused_so : (v : Verb) (left rest : Option (List ℕ)) (bytes : List ℕ) (a : Answer) (old new : Option (List ℕ)) (faults : Type 0) (m0 m1 : List Program) (r0 r1 : Option Ran) (x : Exit)
+    → ReadsToEnd 1048576 left rest bytes → IsAnswered bytes v a → IsTaken a old new faults m0 m1 r0 r1 x → x ≡ e.Refused → Refuses (Some v) left old new
+refused_so v left rest bytes a old new faults m0 m1 r0 r1 x r k (s.IsTaken.whole q t m d) w = (bytes, r.all, (text_of a, line_so v bytes a k (sym q ∙ w), t))
+refused_so v left rest bytes a old new faults m0 m1 r0 r1 x r k (s.IsTaken.cut q t f m d) w = let n = sym q ∙ w in cc
+
+delivered : (v : Verb) (bytes : List ℕ) (a : Answer) (old new : Option (List ℕ)) (m0 m1 : List Program) (r0 r1 : Option Ran)
+    → IsAnswered bytes v a → exit_of a ≡ e.Done → Appends old new (text_of a) → m1 ≡ made_by a m0 → r1 ≡ ran_by a r0 → DeliversOf v bytes m1 r1 old new
+delivered v bytes a old new m0 m1 r0 r1 (s.IsAnswered.report {made = made} {monitor = monitor} {text = text} job k t) h p m d = record {
+  job = job;
+  world = world_of monitor;
+  runs = subst (λ (ms : List Program). Runs bytes job ms (world_of monitor)) (sym m) k;
+  has_run = subst (λ (o : Option Ran). HasRun o (world_of monitor)) (sym d) refl;
+  appends = subst (λ (t : List ℕ). Appends old new t) t p;
+}
+delivered v bytes a old new m0 m1 r0 r1 (s.IsAnswered.crowded k c) h p m d = cc
+delivered v bytes a old new m0 m1 r0 r1 (s.IsAnswered.file {made = made} {text = text} job q k n f) h p m d = record {
+  job = job;
+  program = q;
+  is = k;
+  made_is = m ∙ n;
+  file = text.items;
+  is_file = f;
+  appends = p;
+}
+delivered v bytes a old new m0 m1 r0 r1 (s.IsAnswered.listing {text = text} q k t) h p m d = record {
+  program = q;
+  is_file = k;
+  appends = subst (λ (t : List ℕ). Appends old new t) t p;
+}
+delivered v bytes a old new m0 m1 r0 r1 (s.IsAnswered.refuses k c) h p m d = cc
+
+pub done_so : (v : Verb) (left rest : Option (List ℕ)) (bytes : List ℕ) (a : Answer) (old new : Option (List ℕ)) (faults : Type 0) (m0 m1 : List Program) (r0 r1 : Option Ran) (x : Exit)
+    → ReadsToEnd 1048576 left rest bytes → IsAnswered bytes v a → IsTaken a old new faults m0 m1 r0 r1 x → x ≡ e.Done → Delivers (Some v) left m1 r1 old new
+done_so v left rest bytes a old new faults m0 m1 r0 r1 x r k (s.IsTaken.whole q t m d) w =
+    (bytes, r.all, delivered v bytes a old new m0 m1 r0 r1 k (sym q ∙ w) t m d)
+done_so v left rest bytes a old new faults m0 m1 r0 r1 x r k (s.IsTaken.cut q t f m d) w = let n = sym q ∙ w in cc
+
+alone_of : (bytes : List ℕ) (job : JobValue) (made : List Program) (w : World) (text : List ℕ) (old new : Option (List ℕ)) → Runs bytes job made w
+    → text ≡ report_on (names_of job.programs) job.stats w → Appends old new text → ReportsAsAlone bytes made old new
+alone_of bytes job made w text old new k t p = record {
+  job = job;
+  world = w;
+  runs = k;
+  each = each_is_as_alone bytes job made w k;
+  appends = subst (λ (t : List ℕ). Appends old new t) t p;
 }
 
-pub delivers : (left rest : Option (List ℕ)) (bytes : List ℕ) (made : List Program) (m : Monitor) (text : List ℕ) (old new : Option (List ℕ)) → ReadsToEnd 1048576 left rest bytes
-    → Reported bytes made m text → Appends old new text → Delivers left made (Some (Plain m)) old new
-delivers None rest bytes made m text old new r k a = tt
-delivers (Some all) rest bytes made m text old new r k a =
-    subst (λ (bs : List ℕ). DeliversJob bs made (Some (Plain m)) old new) r.all (delivered bytes made m text old new k a)
+reported_alone : (bytes : List ℕ) (job : JobValue) (made m1 : List Program) (w : World) (text : List ℕ) (old new : Option (List ℕ)) → Runs bytes job made w
+    → text ≡ report_on (names_of job.programs) job.stats w → Appends old new text → m1 ≡ made → ReportsAsAlone bytes m1 old new
+reported_alone bytes job made m1 w text old new k t p m =
+    subst (λ (ms : List Program). ReportsAsAlone bytes ms old new) (sym m) (alone_of bytes job made w text old new k t p)
 
-alone : (bytes : List ℕ) (made : List Program) (m : Monitor) (text : List ℕ) (old new : Option (List ℕ)) → Reported bytes made m text → Appends old new text
-    → ReportsAsAlone bytes made old new
-alone bytes made m text old new k a = record {
-  job = k.0;
-  world = world_of m;
-  runs = k.1;
-  each = each_is_as_alone bytes k.0 made (world_of m) k.1;
-  appends = subst (λ (t : List ℕ). Appends old new t) k.2 a;
-}
+alone : (bytes : List ℕ) (a : Answer) (old new : Option (List ℕ)) (m0 m1 : List Program) → IsAnswered bytes verb.Run a → exit_of a ≡ e.Done
+    → Appends old new (text_of a) → m1 ≡ made_by a m0 → ReportsAsAlone bytes m1 old new
+alone bytes a old new m0 m1 (s.IsAnswered.report {made = made} {monitor = monitor} {text = text} job k t) h p m =
+    reported_alone bytes job made.items m1 (world_of monitor) text.items old new k t p m
+alone bytes a old new m0 m1 (s.IsAnswered.crowded k c) h p m = cc
+alone bytes a old new m0 m1 (s.IsAnswered.refuses k c) h p m = cc
 
-pub are_as_alone : (left rest : Option (List ℕ)) (bytes : List ℕ) (made : List Program) (m : Monitor) (text : List ℕ) (old new : Option (List ℕ))
-    → ReadsToEnd 1048576 left rest bytes → Reported bytes made m text → Appends old new text → AreAsAlone left made old new
-are_as_alone None rest bytes made m text old new r k a = tt
-are_as_alone (Some all) rest bytes made m text old new r k a = subst (λ (bs : List ℕ). ReportsAsAlone bs made old new) r.all (alone bytes made m text old new k a)
+-- an answer that ends done was taken whole
+taken_done : (a : Answer) (old new : Option (List ℕ)) (faults : Type 0) (m0 m1 : List Program) (r0 r1 : Option Ran) (x : Exit)
+    → IsTaken a old new faults m0 m1 r0 r1 x → x ≡ e.Done → (exit_of a ≡ e.Done) × Appends old new (text_of a) × (m1 ≡ made_by a m0)
+taken_done a old new faults m0 m1 r0 r1 x (s.IsTaken.whole q t m d) w = (sym q ∙ w, t, m)
+taken_done a old new faults m0 m1 r0 r1 x (s.IsTaken.cut q t f m d) w = let n = sym q ∙ w in cc
 
--- a job that runs is refused by no line
-pub runs_not_faulty : (left rest : Option (List ℕ)) (bytes : List ℕ) (made : List Program) (m : Monitor) (text line : List ℕ) → ReadsToEnd 1048576 left rest bytes
-    → Reported bytes made m text → IsFaulty left line → ⊥
-runs_not_faulty None rest bytes made m text line r k f = f
-runs_not_faulty (Some all) rest bytes made m text line r k f =
-    runs_no_cause bytes line k.0 made (world_of m) k.1 (subst (λ (bs : List ℕ). Cause bs line) (sym r.all) f.1)
+read_so : {P : List ℕ → Type 0} (left : Option (List ℕ)) (bytes : List ℕ) → IfSome left (λ all. bytes ≡ all) → P bytes → Read left P
+read_so left bytes r p = (bytes, r, p)
 
--- ---- a line
+run_headline : (left rest : Option (List ℕ)) (bytes : List ℕ) (a : Answer) (old new : Option (List ℕ)) (faults : Type 0) (m0 m1 : List Program) (r0 r1 : Option Ran) (x : Exit)
+    → ReadsToEnd 1048576 left rest bytes → IsAnswered bytes verb.Run a → IsTaken a old new faults m0 m1 r0 r1 x → x ≡ e.Done
+    → Read left (λ bs. ReportsAsAlone bs m1 old new)
+run_headline left rest bytes a old new faults m0 m1 r0 r1 x r k u w =
+    let d = taken_done a old new faults m0 m1 r0 r1 x u w in
+    read_so {P = λ bs. ReportsAsAlone bs m1 old new} left bytes r.all (alone bytes a old new m0 m1 k d.0 d.1 d.2)
 
-pub refuses : (left rest : Option (List ℕ)) (bytes line : List ℕ) (old new : Option (List ℕ)) → ReadsToEnd 1048576 left rest bytes → Cause bytes line → Appends old new line
-    → Refuses left old new
-refuses None rest bytes line old new r k a = tt
-refuses (Some all) rest bytes line old new r k a = (line, subst (λ (bs : List ℕ). Cause bs line) r.all k, a)
+pub headline_so : (v : Verb) (left rest : Option (List ℕ)) (bytes : List ℕ) (a : Answer) (old new : Option (List ℕ)) (faults : Type 0) (m0 m1 : List Program) (r0 r1 : Option Ran) (x : Exit)
+    → ReadsToEnd 1048576 left rest bytes → IsAnswered bytes v a → IsTaken a old new faults m0 m1 r0 r1 x → x ≡ e.Done → AreAsAlone (Some v) left m1 old new
+headline_so verb.Run left rest bytes a old new faults m0 m1 r0 r1 x r k u w = run_headline left rest bytes a old new faults m0 m1 r0 r1 x r k u w
+headline_so verb.Prep left rest bytes a old new faults m0 m1 r0 r1 x r k u w = tt
+headline_so verb.List left rest bytes a old new faults m0 m1 r0 r1 x r k u w = tt
 
-pub cause_not_built : (left rest : Option (List ℕ)) (bytes line : List ℕ) → ReadsToEnd 1048576 left rest bytes → Cause bytes line → IsBuilt left → ⊥
-cause_not_built None rest bytes line r k b = b
-cause_not_built (Some all) rest bytes line r k b =
-    runs_no_cause all line b.1.0 b.1.1 b.1.2 b.1.3 (subst (λ (bs : List ℕ). Cause bs line) r.all k)
+-- what bytes come to is one thing
+built_done : (v : Verb) (bytes : List ℕ) (a : Answer) → IsAnswered bytes v a → IsBuiltOf v bytes → exit_of a ≡ e.Done
+built_done v bytes a (s.IsAnswered.report job k t) b = refl
+built_done v bytes a (s.IsAnswered.crowded {line = line} k d) b = absurd (built_no_cause v bytes line.items b k)
+built_done v bytes a (s.IsAnswered.file job p k m f) b = refl
+built_done v bytes a (s.IsAnswered.listing p k t) b = refl
+built_done v bytes a (s.IsAnswered.refuses {line = line} k d) b = absurd (built_no_cause v bytes line.items b k)
 
-pub same_line : (left rest : Option (List ℕ)) (bytes line other : List ℕ) → ReadsToEnd 1048576 left rest bytes → Cause bytes line → IsFaulty left other → line ≡ other
-same_line None rest bytes line other r k f = absurd f
-same_line (Some all) rest bytes line other r k f = cause_same all line other (subst (λ (bs : List ℕ). Cause bs line) r.all k) f.1
+pub complete_so : (v : Verb) (left rest : Option (List ℕ)) (bytes : List ℕ) (a : Answer) (old new : Option (List ℕ)) (faults : Type 0) (m0 m1 : List Program) (r0 r1 : Option Ran) (x : Exit)
+    → ReadsToEnd 1048576 left rest bytes → IsAnswered bytes v a → IsTaken a old new faults m0 m1 r0 r1 x → IsBuilt (Some v) left → (faults → ⊥) → IsDone x
+complete_so v None rest bytes a old new faults m0 m1 r0 r1 x r k u b n = absurd b
+complete_so v (Some all) rest bytes a old new faults m0 m1 r0 r1 x r k (s.IsTaken.whole q t m d) b n =
+    subst IsDone (sym (q ∙ built_done v bytes a k (subst (IsBuiltOf v) (sym r.all) b.1))) tt
+complete_so v (Some all) rest bytes a old new faults m0 m1 r0 r1 x r k (s.IsTaken.cut q t f m d) b n = absurd (n f)
 
-pub crowded : (left rest : Option (List ℕ)) (bytes : List ℕ) (made : List Program) → ReadsToEnd 1048576 left rest bytes → IsCrowded bytes made
-    → IfSome left (λ bs. IsCrowded bs made)
-crowded None rest bytes made r k = tt
-crowded (Some all) rest bytes made r k = subst (λ (bs : List ℕ). IsCrowded bs made) r.all k
+-- an answer to bytes that a line refuses is that line
+told_by : (v : Verb) (bytes line : List ℕ) (a : Answer) → IsAnswered bytes v a → CauseOf v bytes line → (exit_of a ≡ e.Refused) × (text_of a ≡ line)
+told_by v bytes line a (s.IsAnswered.report {made = made} {monitor = monitor} job k t) h = absurd (built_no_cause verb.Run bytes line (job, made.items, world_of monitor, k) h)
+told_by v bytes line a (s.IsAnswered.crowded {line = other} k d) h = (refl, cause_of_same verb.Run bytes other.items line k h)
+told_by v bytes line a (s.IsAnswered.file job p k m f) h = absurd (built_no_cause verb.Prep bytes line (job, p, k) h)
+told_by v bytes line a (s.IsAnswered.listing p k t) h = absurd (built_no_cause verb.List bytes line (p, k) h)
+told_by v bytes line a (s.IsAnswered.refuses {line = other} k d) h = (refl, cause_of_same v bytes other.items line k h)
+
+pub faulty_so : (v : Verb) (left rest : Option (List ℕ)) (bytes line : List ℕ) (a : Answer) (old new : Option (List ℕ)) (faults : Type 0) (m0 m1 : List Program) (r0 r1 : Option Ran) (x : Exit)
+    → ReadsToEnd 1048576 left rest bytes → IsAnswered bytes v a → IsTaken a old new faults m0 m1 r0 r1 x → IsFaulty (Some v) left line → (faults → ⊥) → IsRefusedBy x old new line
+faulty_so v None rest bytes line a old new faults m0 m1 r0 r1 x r k u b n = absurd b
+faulty_so v (Some all) rest bytes line a old new faults m0 m1 r0 r1 x r k (s.IsTaken.whole q t m d) b n =
+    let told = told_by v bytes line a k (subst (λ (bs : List ℕ). CauseOf v bs line) (sym r.all) b.1) in
+    subst (λ (x : Exit). IsRefusedBy x old new line) (sym (q ∙ told.0)) (subst (λ (t : List ℕ). Appends old new t) told.1 t)
+faulty_so v (Some all) rest bytes line a old new faults m0 m1 r0 r1 x r k (s.IsTaken.cut q t f m d) b n = absurd (n f)
+
+-- ---- what is made, and left of the run
+
+made_whole : (v : Verb) (left : Option (List ℕ)) (bytes : List ℕ) (a : Answer) (m0 m1 : List Program) → IfSome left (λ all. bytes ≡ all) → IsAnswered bytes v a
+    → m1 ≡ made_by a m0 → MadeAt (exit_of a) (Some v) left m0 m1
+made_whole v left bytes a m0 m1 r (s.IsAnswered.report job k t) m = tt
+made_whole v left bytes a m0 m1 r (s.IsAnswered.crowded {made = made} k d) m = (bytes, r, inl (subst (IsCrowded bytes) (sym m) d))
+made_whole v left bytes a m0 m1 r (s.IsAnswered.file job p k n f) m = tt
+made_whole v left bytes a m0 m1 r (s.IsAnswered.listing p k t) m = m
+made_whole verb.Run left bytes a m0 m1 r (s.IsAnswered.refuses k d) m = (bytes, r, inr (m, d))
+made_whole verb.Prep left bytes a m0 m1 r (s.IsAnswered.refuses k d) m = m
+made_whole verb.List left bytes a m0 m1 r (s.IsAnswered.refuses k d) m = m
+
+pub made_so : (v : Verb) (left rest : Option (List ℕ)) (bytes : List ℕ) (a : Answer) (old new : Option (List ℕ)) (faults : Type 0) (m0 m1 : List Program) (r0 r1 : Option Ran) (x : Exit)
+    → ReadsToEnd 1048576 left rest bytes → IsAnswered bytes v a → IsTaken a old new faults m0 m1 r0 r1 x → MadeAt x (Some v) left m0 m1
+made_so v left rest bytes a old new faults m0 m1 r0 r1 x r k (s.IsTaken.whole q t m d) =
+    subst (λ (x : Exit). MadeAt x (Some v) left m0 m1) (sym q) (made_whole v left bytes a m0 m1 r.all k m)
+made_so v left rest bytes a old new faults m0 m1 r0 r1 x r k (s.IsTaken.cut q t f m d) = subst (λ (x : Exit). MadeAt x (Some v) left m0 m1) (sym q) m
+
+ran_whole : (v : Verb) (bytes : List ℕ) (a : Answer) (r0 r1 : Option Ran) → IsAnswered bytes v a → r1 ≡ ran_by a r0 → RanAt (exit_of a) (Some v) r0 r1
+ran_whole v bytes a r0 r1 (s.IsAnswered.report job k t) d = tt
+ran_whole v bytes a r0 r1 (s.IsAnswered.crowded k c) d = d
+ran_whole v bytes a r0 r1 (s.IsAnswered.file job p k n f) d = d
+ran_whole v bytes a r0 r1 (s.IsAnswered.listing p k t) d = d
+ran_whole v bytes a r0 r1 (s.IsAnswered.refuses k c) d = d
+
+pub ran_so : (v : Verb) (bytes : List ℕ) (a : Answer) (old new : Option (List ℕ)) (faults : Type 0) (m0 m1 : List Program) (r0 r1 : Option Ran) (x : Exit)
+    → IsAnswered bytes v a → IsTaken a old new faults m0 m1 r0 r1 x → RanAt x (Some v) r0 r1
+ran_so v bytes a old new faults m0 m1 r0 r1 x k (s.IsTaken.whole q t m d) = subst (λ (x : Exit). RanAt x (Some v) r0 r1) (sym q) (ran_whole v bytes a r0 r1 k d)
+ran_so v bytes a old new faults m0 m1 r0 r1 x k (s.IsTaken.cut q t f m d) = subst (λ (x : Exit). RanAt x (Some v) r0 r1) (sym q) d
+
+-- ---- how a taken answer ends
+
+pub ends_so : (a : Answer) (old new : Option (List ℕ)) (faults : Type 0) (m0 m1 : List Program) (r0 r1 : Option Ran) (x y : Exit)
+    → IsTaken a old new faults m0 m1 r0 r1 x → x ≡ y → (y ≡ e.Done) ⊎ ((y ≡ e.Refused) ⊎ (y ≡ e.WriteFault))
+ends_so a old new faults m0 m1 r0 r1 x y (s.IsTaken.cut q t f m d) i = inr (inr (sym i ∙ q))
+ends_so a old new faults m0 m1 r0 r1 x y (s.IsTaken.whole q t m d) i = by a (sym i ∙ q)
+  where
+    by : (a : Answer) → y ≡ exit_of a → (y ≡ e.Done) ⊎ ((y ≡ e.Refused) ⊎ (y ≡ e.WriteFault))
+    by (Report made monitor text) h = inl h
+    by (Crowded made line) h = inr (inl h)
+    by (File made text) h = inl h
+    by (Listing text) h = inl h
+    by (Refusal line) h = inr (inl h)

@@ -1,13 +1,14 @@
 -- What the top call answers and writes.
-use Rattle.std.specs.Prelude.{ℕ, ◌≡◌, ◌≢◌, ◌≤◌, Bool, false, List, [], ◌∷◌, length, slice_get, Option, None, Some, IfSome, codes, nat_eq, ◌⊎◌}
+use Rattle.std.specs.Prelude.{ℕ, ◌≡◌, ◌≤◌, List, [], ◌∷◌, length, slice_get, Option, None, Some, IfSome, ◌⊎◌}
 use Rattle.std.specs.Io.KnownBytes.{Appends, IsAtEnd}
-use lib.Pointwise.{pointwise}
+use Rattle.hp_outside.specs.Whole.{AppendsPrefix}
 use Rattle.job_text.specs.Jobs.{JobValue}
 use Rattle.job_text.specs.States.{TextValue, SeatValue}
+use Rattle.job_report.specs.Listings.{listing_of}
 use Rattle.job_runs.specs.Reported.{names_of, report_on}
 use Rattle.hp_program.specs.declared.program.Program.{Program}
+use Rattle.mpe_progfile.specs.Files.{IsFile}
 use Rattle.mpe_worlds.specs.Worlds.{Run, World}
-use Rattle.mpe_turns.specs.declared.monitor.Monitor.{Monitor}
 use Rattle.mpe_turns.specs.declared.fault.OpenFault.TheVariants.{MemoryTooSmall}
 use Rattle.mpe_turns.specs.Opening.{refusal}
 use Rattle.mpe_turns.specs.Monitors.{world_of}
@@ -19,13 +20,10 @@ use Rattle.hp3000_top.specs.declared.exit.Exit.{Exit}
 use Rattle.hp3000_top.specs.declared.exit.Exit.TheVariants as e
 use Rattle.hp3000_top.specs.declared.ran.Ran.{Ran}
 use Rattle.hp3000_top.specs.declared.ran.Ran.TheVariants.{Plain}
+use Rattle.hp3000_top.specs.declared.verbs.Verb.{Verb}
+use Rattle.hp3000_top.specs.declared.verbs.Verb.TheVariants as verb
 use Rattle.hp3000_top.specs.Programs.{IsThin}
-use Rattle.hp3000_top.specs.Causes.{IsJob, Cause, Runs, open_line}
-
--- the one word of the verb that is built
-abbrev pub is_run : List (List ℕ) → Bool
-is_run (w ∷ []) = pointwise nat_eq w (codes "run")
-is_run _ = false
+use Rattle.hp3000_top.specs.Causes.{IsJob, Runs, IsPrepared, CauseOf, ComesTo}
 
 -- the input was read to its end, and has at most so many bytes
 abbrev pub IsWhole : ℕ → Option (List ℕ) → Option (List ℕ) → Type 0
@@ -38,9 +36,21 @@ IsSilent e.Refused = ⊥
 IsSilent e.WriteFault = ⊥
 IsSilent _ = Unit {0}
 
--- one line was appended to what was written, and the bytes that were left are refused by it
-abbrev pub Refuses : Option (List ℕ) → Option (List ℕ) → Option (List ℕ) → Type 0
-Refuses left old new = IfSome left (λ bytes. (line : List ℕ) × Cause bytes line × Appends old new line)
+-- This holds of the bytes that were read: those that were left, where the input tells them.
+abbrev pub Read : Option (List ℕ) → (List ℕ → Type 0) → Type 0
+Read left P = (bytes : List ℕ) × IfSome left (λ all. bytes ≡ all) × P bytes
+
+-- ---- refused
+
+-- one line was appended to what was written, and the bytes that were read are refused by it
+abbrev pub Refuses : Option Verb → Option (List ℕ) → Option (List ℕ) → Option (List ℕ) → Type 0
+Refuses None left old new = ⊥
+Refuses (Some v) left old new = Read left (λ bytes. (line : List ℕ) × CauseOf v bytes line × Appends old new line)
+
+-- a part of what the bytes that were read come to was appended, from its front on
+abbrev pub BreaksOff : Option Verb → Option (List ℕ) → Option (List ℕ) → Option (List ℕ) → Type 0
+BreaksOff None left old new = ⊥
+BreaksOff (Some v) left old new = Read left (λ bytes. (text : List ℕ) × ComesTo bytes v text × AppendsPrefix old new text)
 
 -- ---- done
 
@@ -57,8 +67,31 @@ pub record DeliversJob (bytes : List ℕ) (made : List Program) (ran : Option Ra
   pub has_run : HasRun ran world
   pub appends : Appends old new (report_on (names_of job.programs) job.stats world)
 
-abbrev pub Delivers : Option (List ℕ) → List Program → Option Ran → Option (List ℕ) → Option (List ℕ) → Type 0
-Delivers left made ran old new = IfSome left (λ bytes. DeliversJob bytes made ran old new)
+-- the file of the program that is made of the job was appended
+pub record DeliversFile (bytes : List ℕ) (made : List Program) (old new : Option (List ℕ)) : Type 0 where
+  pub job : JobValue
+  pub program : Program
+  pub is : IsPrepared bytes job program
+  pub made_is : made ≡ program ∷ []
+  pub file : List ℕ
+  pub is_file : IsFile program file
+  pub appends : Appends old new file
+
+-- the listing of the program whose file the bytes are was appended
+pub record DeliversListing (bytes : List ℕ) (old new : Option (List ℕ)) : Type 0 where
+  pub program : Program
+  pub is_file : IsFile program bytes
+  pub appends : Appends old new (listing_of program)
+
+abbrev pub DeliversOf : Verb → List ℕ → List Program → Option Ran → Option (List ℕ) → Option (List ℕ) → Type 0
+DeliversOf verb.Run bytes made ran old new = DeliversJob bytes made ran old new
+DeliversOf verb.Prep bytes made ran old new = DeliversFile bytes made old new
+DeliversOf verb.List bytes made ran old new = DeliversListing bytes old new
+
+-- what the verb asks for of the bytes that were read was appended
+abbrev pub Delivers : Option Verb → Option (List ℕ) → List Program → Option Ran → Option (List ℕ) → Option (List ℕ) → Type 0
+Delivers None left made ran old new = ⊥
+Delivers (Some v) left made ran old new = Read left (λ bytes. DeliversOf v bytes made ran old new)
 
 -- ---- the headline
 
@@ -84,15 +117,23 @@ pub record ReportsAsAlone (bytes : List ℕ) (made : List Program) (old new : Op
   pub each : EachIsAsAlone job world.runs
   pub appends : Appends old new (report_on (names_of job.programs) job.stats world)
 
-abbrev pub AreAsAlone : Option (List ℕ) → List Program → Option (List ℕ) → Option (List ℕ) → Type 0
-AreAsAlone left made old new = IfSome left (λ bytes. ReportsAsAlone bytes made old new)
+-- of a job that is run
+abbrev pub AreAsAlone : Option Verb → Option (List ℕ) → List Program → Option (List ℕ) → Option (List ℕ) → Type 0
+AreAsAlone (Some verb.Run) left made old new = Read left (λ bytes. ReportsAsAlone bytes made old new)
+AreAsAlone _ left made old new = Unit {0}
 
 -- ---- when each answer has to come
 
--- the bytes that are left, at most 1,048,576, are a job whose programs can be made and whose sessions open
-abbrev pub IsBuilt : Option (List ℕ) → Type 0
-IsBuilt None = ⊥
-IsBuilt (Some bytes) = (length bytes ≤ 1048576) × ((job : JobValue) × (made : List Program) × (w : World) × Runs bytes job made w)
+-- the bytes are a job whose programs can be made and whose sessions open; or whose one program can be made; or a program's file
+abbrev pub IsBuiltOf : Verb → List ℕ → Type 0
+IsBuiltOf verb.Run bytes = (job : JobValue) × (made : List Program) × (w : World) × Runs bytes job made w
+IsBuiltOf verb.Prep bytes = (job : JobValue) × (p : Program) × IsPrepared bytes job p
+IsBuiltOf verb.List bytes = (p : Program) × IsFile p bytes
+
+-- the bytes that are left, at most 1,048,576, are so
+abbrev pub IsBuilt : Option Verb → Option (List ℕ) → Type 0
+IsBuilt (Some v) (Some bytes) = (length bytes ≤ 1048576) × IsBuiltOf v bytes
+IsBuilt _ _ = ⊥
 
 -- done, unless memory is wanting
 abbrev pub IsDone : Exit → Type 0
@@ -101,9 +142,9 @@ IsDone e.NoMemory = Unit {0}
 IsDone _ = ⊥
 
 -- the bytes that are left, at most 1,048,576, are refused by this line
-abbrev pub IsFaulty : Option (List ℕ) → List ℕ → Type 0
-IsFaulty None line = ⊥
-IsFaulty (Some bytes) line = (length bytes ≤ 1048576) × Cause bytes line
+abbrev pub IsFaulty : Option Verb → Option (List ℕ) → List ℕ → Type 0
+IsFaulty (Some v) (Some bytes) line = (length bytes ≤ 1048576) × CauseOf v bytes line
+IsFaulty _ _ line = ⊥
 
 -- this line was appended, unless memory is wanting
 abbrev pub IsRefusedBy : Exit → Option (List ℕ) → Option (List ℕ) → List ℕ → Type 0
@@ -111,7 +152,7 @@ IsRefusedBy e.Refused old new line = Appends old new line
 IsRefusedBy e.NoMemory old new line = Unit {0}
 IsRefusedBy _ old new line = ⊥
 
--- ---- what is made
+-- ---- what is made, and left of the run
 
 -- the programs of a job that the memory is too small for
 pub record IsCrowded (bytes : List ℕ) (made : List Program) : Type 0 where
@@ -122,8 +163,19 @@ pub record IsCrowded (bytes : List ℕ) (made : List Program) : Type 0 where
   pub given : ℕ
   pub refused : refusal job.memory seats made ≡ Some (MemoryTooSmall need given)
 
--- at a refusal the programs are those of a job that the memory is too small for, or as before
-abbrev pub MadeAt : Exit → Option (List ℕ) → List Program → List Program → Type 0
-MadeAt e.Done left old new = Unit {0}
-MadeAt e.Refused left old new = (new ≡ old) ⊎ IfSome left (λ bytes. IsCrowded bytes new)
-MadeAt _ left old new = new ≡ old
+-- the programs of a job that the memory is too small for; as before where the bytes are no such job
+abbrev pub MadeOf : List ℕ → List Program → List Program → Type 0
+MadeOf bytes old new = IsCrowded bytes new ⊎ ((new ≡ old) × ((made : List Program) → IsCrowded bytes made → ⊥))
+
+-- What is done by `run` and `prep` has its programs; a job to be run that is refused has them where the memory is too small. Else they are
+-- as before.
+abbrev pub MadeAt : Exit → Option Verb → Option (List ℕ) → List Program → List Program → Type 0
+MadeAt e.Done (Some verb.Run) left old new = Unit {0}
+MadeAt e.Done (Some verb.Prep) left old new = Unit {0}
+MadeAt e.Refused (Some verb.Run) left old new = Read left (λ bytes. MadeOf bytes old new)
+MadeAt _ _ left old new = new ≡ old
+
+-- what is done by `run` leaves its monitor; else what is left is as before
+abbrev pub RanAt : Exit → Option Verb → Option Ran → Option Ran → Type 0
+RanAt e.Done (Some verb.Run) old new = Unit {0}
+RanAt _ _ old new = new ≡ old

@@ -1,9 +1,16 @@
--- What an input comes to as a job to be run: a line that tells why it is refused, or the world in which its turns leave its sessions.
-use Rattle.std.specs.Prelude.{ℕ, ◌≡◌, false, List, [], map, None, Some}
-use Rattle.job_report.specs.Refusals.{job_refused, stack_refused, memory_refused}
+-- What an input comes to, by the verb: a line that tells why it is refused; or what is made of it.
+use Rattle.std.specs.Prelude.{ℕ, ◌≡◌, true, false, List, [], ◌∷◌, map, None, Some, Err}
+use Rattle.job_report.specs.declared.refusals.FileRefusal.TheVariants as wrong
+use Rattle.job_report.specs.Refusals.{job_refused, stack_refused, memory_refused, file_refused}
+use Rattle.job_report.specs.Listings.{listing_of}
 use Rattle.job_text.specs.Jobs.{JobValue, JobIs, JobBreaks}
 use Rattle.job_text.specs.Views.{seat_value}
+use Rattle.job_runs.specs.Reported.{names_of, report_on}
 use Rattle.hp_program.specs.declared.program.Program.{Program}
+use Rattle.mpe_progfile.specs.declared.faults.FileFault.{FileFault}
+use Rattle.mpe_progfile.specs.declared.faults.FileFault.TheVariants as file_fault
+use Rattle.mpe_progfile.specs.Files.{IsFile}
+use Rattle.mpe_progfile.specs.Reading.{read_file}
 use Rattle.mpe_session.specs.declared.seat.Seat.{Seat}
 use Rattle.mpe_overlay.specs.Codes.{codes_of}
 use Rattle.mpe_worlds.specs.Worlds.{World}
@@ -12,7 +19,11 @@ use Rattle.mpe_worlds.specs.Dispatch.{after}
 use Rattle.mpe_turns.specs.declared.fault.OpenFault.{OpenFault}
 use Rattle.mpe_turns.specs.declared.fault.OpenFault.TheVariants.{StackTooSmall, MemoryTooSmall, NoMemory}
 use Rattle.mpe_turns.specs.Opening.{refusal}
+use Rattle.hp3000_top.specs.declared.verbs.Verb.{Verb}
+use Rattle.hp3000_top.specs.declared.verbs.Verb.TheVariants as verb
 use Rattle.hp3000_top.specs.Programs.{AreMade, FirstRefused}
+
+-- ---- a job to be run
 
 -- the line for sessions that don't open; want of memory has none
 abbrev pub open_line : OpenFault → List ℕ
@@ -26,7 +37,7 @@ pub record IsJob (bytes : List ℕ) (job : JobValue) (made : List Program) (seat
   pub are_made : AreMade job.programs made
   pub are_seats : map seat_value seats ≡ job.sessions
 
--- The bytes are refused by this line: a line of the job breaks a rule; a program is refused, of several the first; or the sessions
+-- As a job to be run the bytes are refused by this line: a line of the job breaks a rule; a program is refused, of several the first; or the sessions
 -- don't open.
 pub data Cause (bytes : List ℕ) : List ℕ → Type 0 where
   lines : {l r : ℕ} → JobBreaks bytes false l r → Cause bytes (job_refused l r)
@@ -40,3 +51,46 @@ pub record Runs (bytes : List ℕ) (job : JobValue) (made : List Program) (w : W
   pub is : IsJob bytes job made seats
   pub opens : refusal job.memory seats made ≡ None
   pub world : w ≡ after (codes_of made) job.quantum job.turns (opening job.memory seats made)
+
+-- ---- a job to be prepared
+
+-- The bytes are the text of this job, which has one program, and this is made of it.
+pub record IsPrepared (bytes : List ℕ) (job : JobValue) (p : Program) : Type 0 where
+  pub is : JobIs bytes true job
+  pub is_made : AreMade job.programs (p ∷ [])
+
+-- As a job to be prepared the bytes are refused by this line: a line of the job breaks a rule, or its program is refused.
+pub data Unprepared (bytes : List ℕ) : List ℕ → Type 0 where
+  broken : {l r : ℕ} → JobBreaks bytes true l r → Unprepared bytes (job_refused l r)
+  unmade : {line : List ℕ} (job : JobValue) → JobIs bytes true job → FirstRefused job.programs line → Unprepared bytes line
+
+-- ---- a program file
+
+-- the line for a fault of a program file, at its byte; want of memory has none
+abbrev pub file_line : FileFault → List ℕ
+file_line (file_fault.Truncated byte) = file_refused wrong.Truncated byte
+file_line (file_fault.BadHead byte) = file_refused wrong.Head byte
+file_line (file_fault.BadSegment byte) = file_refused wrong.Segment byte
+file_line (file_fault.Trailing byte) = file_refused wrong.Trailing byte
+file_line (file_fault.BadLabel byte) = file_refused wrong.Label byte
+file_line file_fault.NoMemory = []
+
+-- as a program file the bytes are refused by this line, which tells their first fault
+pub data Unlisted (bytes : List ℕ) : List ℕ → Type 0 where
+  fault : {f : FileFault} → read_file bytes ≡ Err f → Unlisted bytes (file_line f)
+
+-- ---- by the verb
+
+-- the bytes are refused by this line
+abbrev pub CauseOf : Verb → List ℕ → List ℕ → Type 0
+CauseOf verb.Run bytes line = Cause bytes line
+CauseOf verb.Prep bytes line = Unprepared bytes line
+CauseOf verb.List bytes line = Unlisted bytes line
+
+-- The bytes come to this text: the report of the world in which a job's turns leave its sessions; the file of the program that is made;
+-- the listing of the program whose file they are; or the line that refuses them.
+pub data ComesTo (bytes : List ℕ) : Verb → List ℕ → Type 0 where
+  report : (job : JobValue) (made : List Program) (w : World) → Runs bytes job made w → ComesTo bytes verb.Run (report_on (names_of job.programs) job.stats w)
+  file : {text : List ℕ} (job : JobValue) (p : Program) → IsPrepared bytes job p → IsFile p text → ComesTo bytes verb.Prep text
+  listing : (p : Program) → IsFile p bytes → ComesTo bytes verb.List (listing_of p)
+  line : {v : Verb} {text : List ℕ} → CauseOf v bytes text → ComesTo bytes v text

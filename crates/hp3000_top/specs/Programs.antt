@@ -4,7 +4,6 @@ use Rattle.job_report.specs.declared.refusals.UnitRefusal.TheVariants as wrong
 use Rattle.job_report.specs.Refusals.{unit_refused}
 use Rattle.job_text.specs.States.{TextValue}
 use Rattle.hp_program.specs.declared.program.Program.{Program}
-use Rattle.hp_program.specs.Programs.{segments_of}
 use Rattle.spl_meaning.specs.Tables.{Source}
 use Rattle.spl_program.specs.declared.faults.ProgramFault.{ProgramFault}
 use Rattle.spl_program.specs.declared.faults.ProgramFault.TheVariants as why

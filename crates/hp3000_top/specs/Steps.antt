@@ -1,20 +1,27 @@
 -- What the parts of the top call answer.
-use Rattle.std.specs.Prelude.{ℕ, ◌≡◌, true, false, List, [], ◌∷◌, Option, None, Some, Result, Ok, Err}
-use Rattle.job_report.specs.Refusals.{stack_refused, memory_refused}
+use Rattle.std.specs.Prelude.{ℕ, ◌≡◌, true, false, List, [], ◌∷◌, Option, None, Some, Result, Ok, Err, Vec}
+use Rattle.std.specs.Global.{Global}
+use Rattle.std.specs.Io.KnownBytes.{Appends}
+use Rattle.hp_outside.specs.Whole.{AppendsPrefix}
+use Rattle.job_report.specs.Listings.{listing_of}
+use Rattle.job_report.specs.Refusals.{job_refused, memory_refused}
+use Rattle.job_text.specs.declared.faults.JobFault.{JobFault}
+use Rattle.job_text.specs.declared.faults.JobFault.TheVariants as job_fault
 use Rattle.job_text.specs.Jobs.{JobValue}
 use Rattle.job_text.specs.States.{TextValue}
-use Rattle.job_text.specs.Views.{job_value}
-use Rattle.job_text.specs.declared.job.Job.{Job}
 use Rattle.job_runs.specs.Reported.{names_of, report_on}
 use Rattle.hp_program.specs.declared.program.Program.{Program}
 use Rattle.hp_program.specs.Programs.{segments_of}
 use Rattle.mpe_overlay.specs.Codes.{codes_of}
 use Rattle.mpe_session.specs.declared.seat.Seat.{Seat}
-use Rattle.mpe_worlds.specs.Worlds.{World}
 use Rattle.mpe_worlds.specs.Opening.{opening}
 use Rattle.mpe_worlds.specs.Dispatch.{after}
 use Rattle.mpe_turns.specs.declared.fault.OpenFault.{OpenFault}
-use Rattle.mpe_turns.specs.declared.fault.OpenFault.TheVariants.{MemoryTooSmall}
+use Rattle.mpe_turns.specs.declared.fault.OpenFault.TheVariants.{StackTooSmall, MemoryTooSmall}
+use Rattle.mpe_progfile.specs.declared.faults.FileFault.{FileFault}
+use Rattle.mpe_progfile.specs.declared.faults.FileFault.TheVariants as file_fault
+use Rattle.mpe_progfile.specs.Files.{IsFile}
+use Rattle.mpe_turns.specs.declared.monitor.Monitor.{Monitor}
 use Rattle.mpe_turns.specs.Monitors.{world_of}
 use Rattle.mpe_turns.specs.Opening.{refusal}
 use Rattle.spl_program.specs.declared.faults.ProgramFault.{ProgramFault}
@@ -29,9 +36,15 @@ use Rattle.thin_compiler.specs.ProgramViews.{IsMadeOf}
 use Rattle.hp3000_top.specs.declared.unmade.Unmade.{Unmade}
 use Rattle.hp3000_top.specs.declared.unmade.Unmade.TheVariants as unmade
 use Rattle.hp3000_top.specs.declared.answer.Answer.{Answer}
-use Rattle.hp3000_top.specs.declared.answer.Answer.TheVariants.{Report, Refusal, Crowded}
+use Rattle.hp3000_top.specs.declared.answer.Answer.TheVariants.{Report, Crowded, File, Listing, Refusal}
+use Rattle.hp3000_top.specs.declared.exit.Exit.{Exit}
+use Rattle.hp3000_top.specs.declared.exit.Exit.TheVariants as e
+use Rattle.hp3000_top.specs.declared.ran.Ran.{Ran}
+use Rattle.hp3000_top.specs.declared.ran.Ran.TheVariants.{Plain}
+use Rattle.hp3000_top.specs.declared.verbs.Verb.{Verb}
+use Rattle.hp3000_top.specs.declared.verbs.Verb.TheVariants as verb
 use Rattle.hp3000_top.specs.Programs.{IsRefused, FirstRefused}
-use Rattle.hp3000_top.specs.Causes.{Cause, Runs, open_line}
+use Rattle.hp3000_top.specs.Causes.{Cause, Runs, IsPrepared, CauseOf, open_line}
 use Rattle.hp3000_top.specs.Answers.{IsCrowded}
 
 -- ---- programs
@@ -76,22 +89,90 @@ pub data AreCopies : List Program → List Program → Type 0 where
 
 -- ---- sessions
 
+-- the stack of a session is too small
+abbrev pub IsOfStack : OpenFault → Type 0
+IsOfStack (StackTooSmall session need given) = Unit {0}
+IsOfStack _ = ⊥
+
 -- the sessions of a job open and its turns are taken; or they don't open, and the line tells why
 abbrev pub Answers : JobValue → List Seat → List Program → Answer → Type 0
 Answers job seats programs (Report made monitor text) =
     (made.items ≡ programs) × (refusal job.memory seats programs ≡ None)
     × (world_of monitor ≡ after (codes_of programs) job.quantum job.turns (opening job.memory seats programs))
     × (text.items ≡ report_on (names_of job.programs) job.stats (world_of monitor))
-Answers job seats programs (Refusal line) = (f : OpenFault) × (refusal job.memory seats programs ≡ Some f) × (line.items ≡ open_line f)
+Answers job seats programs (Refusal line) =
+    (f : OpenFault) × (refusal job.memory seats programs ≡ Some f) × (line.items ≡ open_line f) × IsOfStack f
 Answers job seats programs (Crowded made line) =
     (made.items ≡ programs)
     × ((need : ℕ) × (given : ℕ) × (refusal job.memory seats programs ≡ Some (MemoryTooSmall need given)) × (line.items ≡ memory_refused need given))
+Answers job seats programs (File made text) = ⊥
+Answers job seats programs (Listing text) = ⊥
 
 -- ---- the input
 
+-- the line for the first faulty line of a job
+abbrev pub TellsJob : JobFault → List ℕ → Type 0
+TellsJob (job_fault.Rule l r) line = line ≡ job_refused l r
+TellsJob job_fault.NoMemory line = ⊥
+
+-- a fault that has a line
+abbrev pub IsFaultOfFile : FileFault → Type 0
+IsFaultOfFile file_fault.NoMemory = ⊥
+IsFaultOfFile _ = Unit {0}
+
+-- the answer is the file of the only one of these programs
+abbrev pub IsFileOf : List Program → Answer → Type 0
+IsFileOf programs (File made text) = (p : Program) × (programs ≡ p ∷ []) × (made.items ≡ programs) × IsFile p text.items
+IsFileOf programs _ = ⊥
+
+-- no job that the memory is too small for
+abbrev pub IsRoomy : Verb → List ℕ → Type 0
+IsRoomy verb.Run bytes = (made : List Program) → IsCrowded bytes made → ⊥
+IsRoomy _ bytes = Unit {0}
+
 -- what the bytes come to is what is answered
-abbrev pub IsAnswered : List ℕ → Answer → Type 0
-IsAnswered bytes (Report made monitor text) =
-    (job : JobValue) × Runs bytes job made.items (world_of monitor) × (text.items ≡ report_on (names_of job.programs) job.stats (world_of monitor))
-IsAnswered bytes (Refusal line) = Cause bytes line.items
-IsAnswered bytes (Crowded made line) = Cause bytes line.items × IsCrowded bytes made.items
+pub data IsAnswered (bytes : List ℕ) : Verb → Answer → Type 0 where
+  report : {made : Vec Program Global} {monitor : Monitor} {text : Vec ℕ Global} (job : JobValue) → Runs bytes job made.items (world_of monitor)
+      → text.items ≡ report_on (names_of job.programs) job.stats (world_of monitor) → IsAnswered bytes verb.Run (Report made monitor text)
+  crowded : {made : Vec Program Global} {line : Vec ℕ Global} → Cause bytes line.items → IsCrowded bytes made.items → IsAnswered bytes verb.Run (Crowded made line)
+  file : {made : Vec Program Global} {text : Vec ℕ Global} (job : JobValue) (p : Program) → IsPrepared bytes job p → made.items ≡ p ∷ [] → IsFile p text.items
+      → IsAnswered bytes verb.Prep (File made text)
+  listing : {text : Vec ℕ Global} (p : Program) → IsFile p bytes → text.items ≡ listing_of p → IsAnswered bytes verb.List (Listing text)
+  refuses : {v : Verb} {line : Vec ℕ Global} → CauseOf v bytes line.items → IsRoomy v bytes → IsAnswered bytes v (Refusal line)
+
+-- ---- the output
+
+-- the bytes of an answer
+abbrev pub text_of : Answer → List ℕ
+text_of (Report made monitor text) = text.items
+text_of (Crowded made line) = line.items
+text_of (File made text) = text.items
+text_of (Listing text) = text.items
+text_of (Refusal line) = line.items
+
+-- how an answer ends
+abbrev pub exit_of : Answer → Exit
+exit_of (Report made monitor text) = e.Done
+exit_of (Crowded made line) = e.Refused
+exit_of (File made text) = e.Done
+exit_of (Listing text) = e.Done
+exit_of (Refusal line) = e.Refused
+
+-- the programs behind an answer
+abbrev pub made_by : Answer → List Program → List Program
+made_by (Report made monitor text) old = made.items
+made_by (Crowded made line) old = made.items
+made_by (File made text) old = made.items
+made_by _ old = old
+
+-- what is left of a run behind an answer
+abbrev pub ran_by : Answer → Option Ran → Option Ran
+ran_by (Report made monitor text) old = Some (Plain monitor)
+ran_by _ old = old
+
+-- an answer was written whole; or the sink failed, and all is as before but for a part of the text
+pub data IsTaken (a : Answer) (old new : Option (List ℕ)) (faults : Type 0) (made_old made_new : List Program) (ran_old ran_new : Option Ran) (x : Exit) : Type 0 where
+  whole : x ≡ exit_of a → Appends old new (text_of a) → made_new ≡ made_by a made_old → ran_new ≡ ran_by a ran_old
+      → IsTaken a old new faults made_old made_new ran_old ran_new x
+  cut : x ≡ e.WriteFault → AppendsPrefix old new (text_of a) → faults → made_new ≡ made_old → ran_new ≡ ran_old
+      → IsTaken a old new faults made_old made_new ran_old ran_new x

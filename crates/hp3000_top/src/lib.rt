@@ -11,6 +11,7 @@ mod running;
 mod tests;
 mod top;
 mod unmade;
+mod verbs;
 
 pub use exit::Exit;
 pub use ran::Ran;

@@ -39,11 +39,16 @@ fn call(
     Ok((exit, input, output, made.len()))
 }
 
-/// What `run` writes of an input, with ample room.
-fn run(alloc: Global, bytes: &[u8]) -> Result<(Exit, Vec<u8>), Fail> {
+/// What a verb writes of an input, with ample room.
+fn ask(alloc: Global, verb: &str, bytes: &[u8]) -> Result<(Exit, Vec<u8>), Fail> {
     let output = MemorySink::make(alloc, 4096, Vec::new(alloc))?;
-    let (exit, _, output, _) = call(alloc, &["run"], source(alloc, bytes, &[])?, output)?;
+    let (exit, _, output, _) = call(alloc, &[verb], source(alloc, bytes, &[])?, output)?;
     Ok((exit, Vec::from_slice(alloc, &output.bytes)?))
+}
+
+/// What `run` writes of an input.
+fn run(alloc: Global, bytes: &[u8]) -> Result<(Exit, Vec<u8>), Fail> {
+    ask(alloc, "run", bytes)
 }
 
 #[test]
@@ -83,7 +88,7 @@ fn words_that_are_no_verb_read_and_write_nothing(rt: HostRuntime) -> Result<(), 
         &["run", "x"],
         &["RUN"],
         &["gen", "70000"],
-        &["prep"],
+        &["list", "prep"],
         &[""],
         &[],
     ];
@@ -408,5 +413,55 @@ fn limits_at_their_edges(rt: HostRuntime) -> Result<(), Fail> {
         let (exit, _) = run(alloc, &job)?;
         assert_eq!(rt; exit == Exit::Done, done);
     }
+    Ok(())
+}
+
+/// The file of a program of one segment, which calls TERMINATE.
+const FILE: &[u8] =
+    b"MPEP\x00\x01\x00\x01\x00\x00\x00\x01\x00\x00\x00\x04\x30\x02\x87\xff\x00\x00\x00\x02";
+
+const LISTING: &[u8] =
+    b"PROGRAM VERSION 1 SEGMENTS 1 MAIN 0 ENTRY 1 DATA 0\nSEGMENT 0 WORDS 4 ENTRIES 2\n000000 030002 PCAL\nENTRY 1 LOCAL 000000\nENTRY 2 GATE TERMINATE\n";
+
+#[test]
+fn files_are_listed(rt: HostRuntime) -> Result<(), Fail> {
+    let alloc = rt.alloc();
+    let output = MemorySink::make(alloc, 4096, Vec::new(alloc))?;
+    let (exit, _, output, made) = call(alloc, &["list"], source(alloc, FILE, &[])?, output)?;
+    assert_eq!(rt; output.bytes.as_slice(), LISTING);
+    assert_eq!(rt; (exit, made), (Exit::Done, 0));
+    for end in 0..FILE.len() {
+        let (exit, text) = ask(alloc, "list", &FILE[..end])?;
+        let line = format!(in alloc; "REFUSED FILE TRUNCATED {end}\n")?;
+        assert_eq!(rt; text.as_slice(), line.as_bytes());
+        assert_eq!(rt; exit, Exit::Refused);
+    }
+    let mut file = Vec::from_slice(alloc, FILE)?;
+    file.push(0)?;
+    let (_, text) = ask(alloc, "list", &file)?;
+    assert_eq!(rt; text.as_slice(), b"REFUSED FILE TRAILING 24\n".as_slice());
+    // the second entry's label names a gate that there is not
+    let mut file = Vec::from_slice(alloc, &FILE[..18])?;
+    file.extend_from_slice(b"\x89\xff\x00\x00\x00\x02")?;
+    let (_, text) = ask(alloc, "list", &file)?;
+    assert_eq!(rt; text.as_slice(), b"REFUSED FILE LABEL 18\n".as_slice());
+    Ok(())
+}
+
+#[test]
+fn programs_are_prepared(rt: HostRuntime) -> Result<(), Fail> {
+    let alloc = rt.alloc();
+    let job: &[u8] =
+        b"!JOB\n!PROGRAM A\n!UNIT\nBEGIN INTEGER I; INTRINSIC TERMINATE; TERMINATE END.\n!EOJ\n";
+    let output = MemorySink::make(alloc, 4096, Vec::new(alloc))?;
+    let (exit, _, output, made) = call(alloc, &["prep"], source(alloc, job, &[])?, output)?;
+    assert_eq!(rt; (exit, made), (Exit::Done, 1));
+    let (exit, _) = ask(alloc, "list", &output.bytes)?;
+    assert_eq!(rt; exit, Exit::Done);
+    // a job to be prepared has no session, and one to be run has one
+    let (_, text) = ask(alloc, "prep", FIRST)?;
+    assert_eq!(rt; text.as_slice(), b"REFUSED JOB LINE 7 RULE 11\n".as_slice());
+    let (_, text) = run(alloc, job)?;
+    assert_eq!(rt; text.as_slice(), b"REFUSED JOB LINE 5 RULE 11\n".as_slice());
     Ok(())
 }

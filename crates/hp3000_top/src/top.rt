@@ -1,13 +1,16 @@
 //! The top call.
-ghost use Rattle.std.specs.Prelude.{◌≡◌, ◌≢◌, ◌↔◌, ◌⊎◌, ℕ, List, map, true, false, string_bytes};
+ghost use Rattle.std.specs.Prelude.{◌≡◌, ◌↔◌, ◌⊎◌, ℕ, List, None, map, string_bytes};
 ghost use Rattle.hp_outside.specs.Faults.{Rose};
 ghost use Rattle.hp_outside.specs.Whole.{IsLongerThan};
-ghost use Rattle.hp3000_top.specs.Answers.{is_run, IsWhole, IsSilent, Delivers, Refuses, AreAsAlone, IsBuilt, IsDone, IsFaulty, IsRefusedBy, MadeAt};
+ghost use Rattle.hp3000_top.specs.Verbs.{asked};
+ghost use Rattle.hp3000_top.specs.Answers.{IsWhole, IsSilent, Delivers, Refuses, BreaksOff, AreAsAlone, IsBuilt, IsDone, IsFaulty, IsRefusedBy, MadeAt, RanAt};
+ghost use Rattle.hp3000_top.specs.Steps.{IsTaken};
 
 use crate::answer::Answer;
 use crate::answering::answer_of;
 use crate::exit::Exit;
 use crate::ran::Ran;
+use crate::verbs::verb_of;
 use hp_outside::{ReadAll, Sink, Source, read_all, write_all};
 use hp_program::Program;
 use std::alloc::Global;
@@ -15,23 +18,56 @@ use std::alloc::Global;
 /// The greatest number of bytes of an input.
 const LIMIT: usize = 1_048_576;
 
-/// The words are those of the verb `run`.
-fn runs(words: &[String]) -> bool
-    ensures { result ≡ is_run (map (λ w. string_bytes w) words.now) }
+/// Writes an answer whole, and hands over what is left of it; or leaves all as it was, where the sink fails.
+fn deliver<O: Sink>(
+    answer: Answer,
+    output: &mut O,
+    made: &mut Vec<Program>,
+    ran: &mut Option<Ran>,
+) -> Exit
+    ensures { IsTaken answer (O.written output.old) (O.written output.new) (Rose (O.faults output.old) (O.faults output.new)) made.old.items made.new.items ran.old ran.new result }
 {
-    match words {
-        [word] => word.as_str() == "run",
-        _ => false,
+    if write_all(output, answer.text()).is_err() {
+        return Exit::WriteFault;
+    }
+    match answer {
+        Answer::Report {
+            made: programs,
+            monitor,
+            text: _text,
+        } => {
+            *made = programs;
+            *ran = Some(Ran::Plain(monitor));
+            Exit::Done
+        }
+        Answer::Crowded {
+            made: programs,
+            line: _line,
+        } => {
+            *made = programs;
+            Exit::Refused
+        }
+        Answer::File {
+            made: programs,
+            text: _text,
+        } => {
+            *made = programs;
+            Exit::Done
+        }
+        Answer::Listing { text: _text } => Exit::Done,
+        Answer::Refusal { line: _line } => Exit::Refused,
     }
 }
 
 /// Does what the words of the command line say: reads the input, and writes the output whole, or as far as the sink takes
 /// it.
 ///
-/// `words` are the words after the program's name. `run` takes a job of at most 1,048,576 bytes. At `Done` the list `made` holds
-/// the programs of the job, one for each program text in its order, and `ran` the monitor as the last turn left it; at a
-/// refusal for want of the job's memory `made` holds them too. At every other answer both are as before. Want of memory of this
-/// machine may come in place of any later answer, and then nothing was written.
+/// `words` are the words after the program's name: `run` takes a job and writes its report, `prep` a job of one program and no
+/// session and writes the program's file, `list` such a file and writes its listing. An input has at most 1,048,576 bytes. At
+/// `Done` with `run` or `prep` the list `made` holds the programs of the job, one for each program text in its order; at a
+/// refusal for want of the job's memory it holds them too. At `Done` with `run` the monitor, as the last turn left it, is in
+/// `ran`. At every other answer both are as before. Want of memory of this machine may come in place of any later answer, and
+/// then nothing was written.
 pub fn hp3000_main<I: Source, O: Sink>(
     alloc: Global,
     words: &Vec<String>,
@@ -41,7 +77,7 @@ pub fn hp3000_main<I: Source, O: Sink>(
     ran: &mut Option<Ran>,
 ) -> Exit
     // Each answer, and when it comes.
-    ensures usage { (result ≡ Exit.Usage) ↔ (is_run (map (λ w. string_bytes w) words.now.items) ≡ false) }
+    ensures usage { (result ≡ Exit.Usage) ↔ (asked (map (λ w. string_bytes w) words.now.items) ≡ None) }
     ensures read_fault { result ≡ Exit.ReadFault → Rose (I.faults input.old) (I.faults input.new) }
     ensures too_long { result ≡ Exit.InputTooLong → IsLongerThan 1048576 (I.left input.old) }
     ensures write_fault { result ≡ Exit.WriteFault → Rose (O.faults output.old) (O.faults output.new) }
@@ -52,59 +88,31 @@ pub fn hp3000_main<I: Source, O: Sink>(
 
     // What was written.
     ensures silent { IsSilent result → output.new ≡ output.old }
-    ensures refused { result ≡ Exit.Refused → Refuses (I.left input.old) (O.written output.old) (O.written output.new) }
-    ensures done { result ≡ Exit.Done → Delivers (I.left input.old) made.new.items ran.new (O.written output.old) (O.written output.new) }
+    ensures broken { result ≡ Exit.WriteFault → BreaksOff (asked (map (λ w. string_bytes w) words.now.items)) (I.left input.old) (O.written output.old) (O.written output.new) }
+    ensures refused { result ≡ Exit.Refused → Refuses (asked (map (λ w. string_bytes w) words.now.items)) (I.left input.old) (O.written output.old) (O.written output.new) }
+    ensures done { result ≡ Exit.Done → Delivers (asked (map (λ w. string_bytes w) words.now.items)) (I.left input.old) made.new.items ran.new (O.written output.old) (O.written output.new) }
 
     // The headline: each session has printed and ended exactly as its source, run alone, has at some step. And when it is done, or
     // refused.
-    ensures headline { result ≡ Exit.Done → AreAsAlone (I.left input.old) made.new.items (O.written output.old) (O.written output.new) }
-    ensures complete { is_run (map (λ w. string_bytes w) words.now.items) ≡ true → IsBuilt (I.left input.old) → (Rose (I.faults input.old) (I.faults input.new) → ⊥) → (Rose (O.faults output.old) (O.faults output.new) → ⊥) → IsDone result }
-    ensures faulty { is_run (map (λ w. string_bytes w) words.now.items) ≡ true → (line : List ℕ) → IsFaulty (I.left input.old) line → (Rose (I.faults input.old) (I.faults input.new) → ⊥) → (Rose (O.faults output.old) (O.faults output.new) → ⊥) → IsRefusedBy result (O.written output.old) (O.written output.new) line }
+    ensures headline { result ≡ Exit.Done → AreAsAlone (asked (map (λ w. string_bytes w) words.now.items)) (I.left input.old) made.new.items (O.written output.old) (O.written output.new) }
+    ensures complete { IsBuilt (asked (map (λ w. string_bytes w) words.now.items)) (I.left input.old) → (Rose (I.faults input.old) (I.faults input.new) → ⊥) → (Rose (O.faults output.old) (O.faults output.new) → ⊥) → IsDone result }
+    ensures faulty { (line : List ℕ) → IsFaulty (asked (map (λ w. string_bytes w) words.now.items)) (I.left input.old) line → (Rose (I.faults input.old) (I.faults input.new) → ⊥) → (Rose (O.faults output.old) (O.faults output.new) → ⊥) → IsRefusedBy result (O.written output.old) (O.written output.new) line }
 
     // What is made, and left of the run.
-    ensures programs { MadeAt result (I.left input.old) made.old.items made.new.items }
-    ensures kept { result ≢ Exit.Done → ran.new ≡ ran.old }
+    ensures programs { MadeAt result (asked (map (λ w. string_bytes w) words.now.items)) (I.left input.old) made.old.items made.new.items }
+    ensures kept { RanAt result (asked (map (λ w. string_bytes w) words.now.items)) ran.old ran.new }
 {
-    if !runs(words) {
+    let Some(verb) = verb_of(words) else {
         return Exit::Usage;
-    }
+    };
     let bytes = match read_all(alloc, input, LIMIT) {
         Ok(bytes) => bytes,
         Err(ReadAll::ReadFault) => return Exit::ReadFault,
         Err(ReadAll::TooLong) => return Exit::InputTooLong,
         Err(ReadAll::NoMemory) => return Exit::NoMemory,
     };
-    let Ok(answer) = answer_of(alloc, &bytes) else {
+    let Ok(answer) = answer_of(alloc, verb, &bytes) else {
         return Exit::NoMemory;
     };
-    match answer {
-        Answer::Report {
-            made: programs,
-            monitor,
-            text,
-        } => {
-            if write_all(output, &text).is_err() {
-                return Exit::WriteFault;
-            }
-            *made = programs;
-            *ran = Some(Ran::Plain(monitor));
-            Exit::Done
-        }
-        Answer::Refusal { line } => {
-            if write_all(output, &line).is_err() {
-                return Exit::WriteFault;
-            }
-            Exit::Refused
-        }
-        Answer::Crowded {
-            made: programs,
-            line,
-        } => {
-            if write_all(output, &line).is_err() {
-                return Exit::WriteFault;
-            }
-            *made = programs;
-            Exit::Refused
-        }
-    }
+    deliver(answer, output, made, ran)
 }

@@ -248,11 +248,11 @@ between_at_most low high n h = grind (arith, nat_tests, h)
 between_at_least : (low high n : ℕ) → is_between low high n ≡ true → low ≤ n
 between_at_least low high n h = grind (arith, nat_tests, h)
 
-and_first : (a b : Bool) → (a && b) ≡ true → a ≡ true
+pub and_first : (a b : Bool) → (a && b) ≡ true → a ≡ true
 and_first true b h = refl
 and_first false b h = cc
 
-and_second : (a b : Bool) → (a && b) ≡ true → b ≡ true
+pub and_second : (a b : Bool) → (a && b) ≡ true → b ≡ true
 and_second true b h = h
 and_second false b h = cc
 
@@ -359,7 +359,7 @@ part_at place.Start line = outside line (is_command line) (is_blank_line line)
 
 -- ---- 3. what all of them say
 
-going : {A : Type 0} (n : ℕ) (o : Option ℕ) (rest : Result A Fault) (t : A) → going_on n o rest ≡ Ok t → (o ≡ None) × (rest ≡ Ok t)
+pub going : {A : Type 0} (n : ℕ) (o : Option ℕ) (rest : Result A Fault) (t : A) → going_on n o rest ≡ Ok t → (o ≡ None) × (rest ≡ Ok t)
 going n None rest t e = (refl, e)
 going n (Some r) rest t e = cc
 
@@ -424,7 +424,7 @@ job_fits_by bytes prep (Ok t) job e h =
 job_fits_by bytes prep (Err f) job e h = cc
 
 -- a text that is this job is read as it
-job_read : (bytes : List ℕ) (prep : Bool) (job : JobValue) → JobIs bytes prep job → (r : Result JobValue Fault) → verdict prep bytes ≡ r → r ≡ Ok job
+pub job_read : (bytes : List ℕ) (prep : Bool) (job : JobValue) → JobIs bytes prep job → (r : Result JobValue Fault) → verdict prep bytes ≡ r → r ≡ Ok job
 job_read bytes prep job is (Ok other) e = ap Ok (jobs_are_unique bytes prep other job (job_is bytes prep other e) is)
 job_read bytes prep job is (Err f) e = absurd (jobs_break_nothing bytes prep job f.line f.rule is (job_breaks bytes prep f e))
 

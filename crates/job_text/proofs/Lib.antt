@@ -4,4 +4,5 @@ pub mod ReadingLemmas
 pub mod JobLaws
 pub mod AnswerLemmas
 pub mod FitLemmas
+pub mod PrepLemmas
 pub mod KnownJobs

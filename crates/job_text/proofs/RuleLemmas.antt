@@ -3,7 +3,7 @@ use Rattle.std.proofs.Common.{◌≡◌, ℕ, zero, suc, ◌+◌, ◌<◌, ◌�
 use Rattle.std.specs.Prelude.{slice_get}
 use Rattle.job_lines.specs.Says.{Said}
 use Rattle.job_text.specs.States.{State}
-use Rattle.job_text.specs.Rules.{first_failing, kept, broken, is_in_limits, is_well_named, has_room, names_program, has_seat}
+use Rattle.job_text.specs.Rules.{first_failing, kept, broken, is_in_limits, is_well_named, has_room, names_program, has_seat, fits_its_use, closes}
 use Rattle.job_lines.proofs.ListLemmas.{fronted, dropped}
 
 -- a test that is passed
@@ -47,5 +47,13 @@ program_kept prep s said h = all_pass 1 (kept prep s said) 7 (names_program s sa
 pub seat_kept : (prep : Bool) (s : State) (said : Said) → broken prep s said ≡ None → has_seat s said ≡ true
 unfolding broken
 seat_kept prep s said h = all_pass 1 (kept prep s said) 8 (has_seat s said) h refl
+
+pub use_kept : (prep : Bool) (s : State) (said : Said) → broken prep s said ≡ None → fits_its_use prep s said ≡ true
+unfolding broken
+use_kept prep s said h = all_pass 1 (kept prep s said) 10 (fits_its_use prep s said) h refl
+
+pub close_kept : (prep : Bool) (s : State) (said : Said) → broken prep s said ≡ None → closes s said ≡ true
+unfolding broken
+close_kept prep s said h = all_pass 1 (kept prep s said) 12 (closes s said) h refl
 
 pub ruleset kept_rules = (limits_kept, named_kept, room_kept)

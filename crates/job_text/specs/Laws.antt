@@ -1,5 +1,5 @@
 -- The laws of job texts.
-use Rattle.std.specs.Prelude.{◌≡◌, ℕ, ◌⊎◌, Bool, List, length}
+use Rattle.std.specs.Prelude.{◌≡◌, ℕ, ◌⊎◌, Bool, true, List, [], length}
 use Rattle.job_text.specs.Jobs.{JobValue, JobIs, JobBreaks}
 use Rattle.job_text.specs.Fits.{JobFits}
 
@@ -22,3 +22,7 @@ FaultsAreUnique = (bytes : List ℕ) (prep : Bool) (l r m q : ℕ) → JobBreaks
 -- every job keeps within its limits
 abbrev pub JobsFit : Type 0
 JobsFit = (bytes : List ℕ) (prep : Bool) (job : JobValue) → JobIs bytes prep job → JobFits (length bytes) job
+
+-- a job to be prepared has one program, and no session
+abbrev pub PreparedJobsAreSingle : Type 0
+PreparedJobsAreSingle = (bytes : List ℕ) (job : JobValue) → JobIs bytes true job → (length job.programs ≡ 1) × (job.sessions ≡ [])

@@ -1,5 +1,5 @@
 //! Laws of job texts, each as the contract of a function that does nothing.
-ghost use Rattle.job_text.specs.Laws.{TextsAreRead, JobsBreakNothing, JobsAreUnique, FaultsAreUnique, JobsFit};
+ghost use Rattle.job_text.specs.Laws.{TextsAreRead, JobsBreakNothing, JobsAreUnique, FaultsAreUnique, JobsFit, PreparedJobsAreSingle};
 
 /// Each text is a job, or breaks a rule first at a line.
 pub fn texts_are_read()
@@ -24,4 +24,9 @@ pub fn faults_are_unique()
 /// A job keeps within its limits.
 pub fn jobs_fit()
     ensures { JobsFit }
+{}
+
+/// A job to be prepared has one program, and no session.
+pub fn prepared_jobs_are_single()
+    ensures { PreparedJobsAreSingle }
 {}

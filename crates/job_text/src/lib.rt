@@ -14,5 +14,8 @@ mod tests;
 
 pub use faults::JobFault;
 pub use job::{Job, Text};
-pub use laws::{faults_are_unique, jobs_are_unique, jobs_break_nothing, jobs_fit, texts_are_read};
+pub use laws::{
+    faults_are_unique, jobs_are_unique, jobs_break_nothing, jobs_fit, prepared_jobs_are_single,
+    texts_are_read,
+};
 pub use reader::read_job;

@@ -6,7 +6,7 @@ use Rattle.job_text.specs.Views.{text_value}
 use Rattle.spl_sound.specs.Spelled.{source_of}
 use Rattle.spl_program.specs.Programs.{texts_of, IsProgram}
 use Rattle.thin_jobs.specs.declared.unread.Unread.{Unread}
-use Rattle.hp3000_top.specs.Programs.{IsRefused, unbuilt, later_line}
+use Rattle.hp3000_top.specs.Programs.{IsRefused, unbuilt}
 use Rattle.hp3000_top.specs.Steps.{thin_among, MakesThin}
 use Rattle.hp3000_top.proofs.Making.{short_so, refused_so, made_so, unbuilt_so}
 use Rattle.hp3000_top.proofs.programs.program_of.Goals as goal

@@ -1,11 +1,10 @@
 -- The monitor runs copies of the programs that were made.
-use Rattle.std.proofs.Common.{List, Err, map, length, Vec, Global, refl, sym, ap, subst, ◌∙◌, ◌≡◌, ◌≢◌, None, Some}
+use Rattle.std.proofs.Common.{List, map, length, Vec, Global, refl, sym, ap, subst, ◌∙◌, ◌≡◌, ◌≢◌, None, Some}
 use Rattle.hp_program.specs.declared.program.Program.{Program}
 use Rattle.job_text.specs.declared.job.Text.{Text}
 use Rattle.job_text.specs.Views.{text_value}
 use Rattle.job_runs.specs.Reported.{names_of, report_on}
-use Rattle.mpe_turns.specs.declared.fault.OpenFault.{OpenFault}
-use Rattle.mpe_turns.specs.declared.fault.OpenFault.TheVariants.{StackTooSmall, MemoryTooSmall, NoMemory}
+use Rattle.mpe_turns.specs.declared.fault.OpenFault.TheVariants.{StackTooSmall, NoMemory}
 use Rattle.mpe_turns.specs.Monitors.{world_of}
 use Rattle.mpe_turns.specs.Opening.{refusal}
 use Rattle.hp3000_top.specs.Steps.{AreCopies}
@@ -50,6 +49,7 @@ returns-in-Err-StackTooSmall c =
       refused_of c.args.job c.args.made.items c.in_ok-copies.copies.items c.in-Err-StackTooSmall.field-0 copied small c.in-Err-StackTooSmall.ensures.refused
           c.in-Err-StackTooSmall.ensures.opened ∙ ap Some c.in-Err-StackTooSmall.field-0-is,
       c.in_ok-line-in-Err-StackTooSmall.ensures,
+      tt,
     )
 
 pub returns-in-Err-MemoryTooSmall : goal.returns-in-Err-MemoryTooSmall

@@ -1,67 +1,71 @@
--- What is answered of the bytes that were read is what they come to.
-use Rattle.std.proofs.Common.{◌≡◌, ◌∙◌, ℕ, List, sym, ap, subst, refl}
-use Rattle.std.specs.Io.KnownBytes.{Appends}
-use Rattle.hp3000_top.specs.declared.answer.Answer.{Answer}
-use Rattle.hp3000_top.specs.declared.answer.Answer.TheVariants.{Report, Refusal, Crowded}
-use Rattle.hp3000_top.specs.Causes.{Cause}
+-- The clauses of the top call, of an answer that was taken.
+use Rattle.std.proofs.Common.{◌≡◌, ◌∙◌, ℕ, List, Option, Some, map, string_bytes, sym, ap, subst}
+use Rattle.std.specs.Global.{Global}
+use Rattle.std.proofs.Common as std
+use Rattle.hp3000_top.specs.declared.verbs.Verb.{Verb}
+use Rattle.hp3000_top.specs.Verbs.{asked}
+use Rattle.hp3000_top.specs.Answers.{BreaksOff, Refuses, Delivers, AreAsAlone, IsBuilt, IsFaulty, MadeAt}
 use Rattle.hp3000_top.specs.Steps.{IsAnswered}
-use Rattle.hp3000_top.proofs.TopLemmas.{Reported, written, are_as_alone, runs_not_faulty, cause_not_built, same_line}
+use Rattle.hp3000_top.proofs.TopLemmas.{broken_so, refused_so, done_so, headline_so, complete_so, faulty_so, made_so}
 use Rattle.hp3000_top.proofs.top.hp3000_main.Goals as goal
 
-pub returns-in-Report-clause-headline : goal.returns-in-Report-clause-headline
-returns-in-Report-clause-headline g c =
-    let bytes = c.in-Ok.bytes.items in
-    let made = c.in-Report.programs.items in
-    let text = c.in-Report.text.items in
-    let told : Reported bytes made c.in-Report.monitor text =
-    subst (λ (a : Answer). IsAnswered bytes a) c.in-Report.is (subst (λ (bs : List ℕ). IsAnswered bs c.in-Ok-answer_of.answer) c.deref-2.ensures.value c.in-Ok-answer_of.ensures) in
-    let out : Appends (g.O.Sink.written c.args.output.now) (g.O.Sink.written c.write_all.new.sink) text =
-    written c.write_all.result c.is_err.result _ _ c.deref-in-Report.result.now text c.deref-in-Report.ensures.value c.write_all.ensures.ok c.is_err.ensures.value c.if-is_err.false in
-    λ k. are_as_alone _ _ bytes made c.in-Report.monitor text _ _ c.in-Ok.ensures.ok told out
+-- the words ask for the verb
+asked_so : (words now : List (std.String Global)) (v : Verb) → Some v ≡ asked (map (λ w. string_bytes w) words) → words ≡ now
+    → Some v ≡ asked (map (λ w. string_bytes w) now)
+asked_so words now v e is = e ∙ ap (λ (ws : List (std.String Global)). asked (map (λ w. string_bytes w) ws)) is
 
-pub returns-in-Report-clause-faulty : goal.returns-in-Report-clause-faulty
-returns-in-Report-clause-faulty g c =
-    let bytes = c.in-Ok.bytes.items in
-    let made = c.in-Report.programs.items in
-    let text = c.in-Report.text.items in
-    let told : Reported bytes made c.in-Report.monitor text =
-    subst (λ (a : Answer). IsAnswered bytes a) c.in-Report.is (subst (λ (bs : List ℕ). IsAnswered bs c.in-Ok-answer_of.answer) c.deref-2.ensures.value c.in-Ok-answer_of.ensures) in
-    λ r line b i o. runs_not_faulty _ _ bytes made c.in-Report.monitor text line c.in-Ok.ensures.ok told b
+pub returns-clause-broken : goal.returns-clause-broken
+returns-clause-broken g c =
+    let told : IsAnswered c.in-Ok.bytes.items c.in-Some.verb c.in-Ok-answer_of.answer =
+    subst (λ (bs : List ℕ). IsAnswered bs c.in-Some.verb c.in-Ok-answer_of.answer) c.deref-2.ensures.value c.in-Ok-answer_of.ensures in
+    let verb_is = asked_so c.deref.result.now c.args.words.now.items c.in-Some.verb c.in-Some.ensures c.deref.ensures.value in
+    λ w. subst (λ (v : Option Verb). BreaksOff v (g.I.Source.left c.args.input.now) (g.O.Sink.written c.args.output.now) (g.O.Sink.written c.deliver.new.output)) verb_is
+    (broken_so c.in-Some.verb _ _ c.in-Ok.bytes.items c.in-Ok-answer_of.answer _ _ _ _ _ _ _ _ c.in-Ok.ensures.ok told c.deliver.ensures w)
 
-pub returns-in-Refusal-clause-complete : goal.returns-in-Refusal-clause-complete
-returns-in-Refusal-clause-complete g c =
-    let bytes = c.in-Ok.bytes.items in
-    let told : Cause bytes c.in-Refusal.line.items =
-    subst (λ (a : Answer). IsAnswered bytes a) c.in-Refusal.is (subst (λ (bs : List ℕ). IsAnswered bs c.in-Ok-answer_of.answer) c.deref-2.ensures.value c.in-Ok-answer_of.ensures) in
-    λ r b i o. cause_not_built _ _ bytes c.in-Refusal.line.items c.in-Ok.ensures.ok told b
+pub returns-clause-refused : goal.returns-clause-refused
+returns-clause-refused g c =
+    let told : IsAnswered c.in-Ok.bytes.items c.in-Some.verb c.in-Ok-answer_of.answer =
+    subst (λ (bs : List ℕ). IsAnswered bs c.in-Some.verb c.in-Ok-answer_of.answer) c.deref-2.ensures.value c.in-Ok-answer_of.ensures in
+    let verb_is = asked_so c.deref.result.now c.args.words.now.items c.in-Some.verb c.in-Some.ensures c.deref.ensures.value in
+    λ w. subst (λ (v : Option Verb). Refuses v (g.I.Source.left c.args.input.now) (g.O.Sink.written c.args.output.now) (g.O.Sink.written c.deliver.new.output)) verb_is
+    (refused_so c.in-Some.verb _ _ c.in-Ok.bytes.items c.in-Ok-answer_of.answer _ _ _ _ _ _ _ _ c.in-Ok.ensures.ok told c.deliver.ensures w)
 
-pub returns-in-Refusal-clause-faulty : goal.returns-in-Refusal-clause-faulty
-returns-in-Refusal-clause-faulty g c =
-    let bytes = c.in-Ok.bytes.items in
-    let text = c.in-Refusal.line.items in
-    let told : Cause bytes text =
-    subst (λ (a : Answer). IsAnswered bytes a) c.in-Refusal.is (subst (λ (bs : List ℕ). IsAnswered bs c.in-Ok-answer_of.answer) c.deref-2.ensures.value c.in-Ok-answer_of.ensures) in
-    let out : Appends (g.O.Sink.written c.args.output.now) (g.O.Sink.written c.write_all-in-Refusal.new.sink) text =
-    written c.write_all-in-Refusal.result c.is_err-in-Refusal.result _ _ c.deref-in-Refusal.result.now text c.deref-in-Refusal.ensures.value c.write_all-in-Refusal.ensures.ok
-    c.is_err-in-Refusal.ensures.value c.if-is_err-2.false in
-    λ r line b i o. subst (Appends (g.O.Sink.written c.args.output.now) (g.O.Sink.written c.write_all-in-Refusal.new.sink))
-    (same_line _ _ bytes text line c.in-Ok.ensures.ok told b) out
+pub returns-clause-done : goal.returns-clause-done
+returns-clause-done g c =
+    let told : IsAnswered c.in-Ok.bytes.items c.in-Some.verb c.in-Ok-answer_of.answer =
+    subst (λ (bs : List ℕ). IsAnswered bs c.in-Some.verb c.in-Ok-answer_of.answer) c.deref-2.ensures.value c.in-Ok-answer_of.ensures in
+    let verb_is = asked_so c.deref.result.now c.args.words.now.items c.in-Some.verb c.in-Some.ensures c.deref.ensures.value in
+    λ w. subst (λ (v : Option Verb). Delivers v (g.I.Source.left c.args.input.now) c.deliver.new.made.items c.deliver.new.ran (g.O.Sink.written c.args.output.now) (g.O.Sink.written c.deliver.new.output)) verb_is
+    (done_so c.in-Some.verb _ _ c.in-Ok.bytes.items c.in-Ok-answer_of.answer _ _ _ _ _ _ _ _ c.in-Ok.ensures.ok told c.deliver.ensures w)
+
+pub returns-clause-headline : goal.returns-clause-headline
+returns-clause-headline g c =
+    let told : IsAnswered c.in-Ok.bytes.items c.in-Some.verb c.in-Ok-answer_of.answer =
+    subst (λ (bs : List ℕ). IsAnswered bs c.in-Some.verb c.in-Ok-answer_of.answer) c.deref-2.ensures.value c.in-Ok-answer_of.ensures in
+    let verb_is = asked_so c.deref.result.now c.args.words.now.items c.in-Some.verb c.in-Some.ensures c.deref.ensures.value in
+    λ w. subst (λ (v : Option Verb). AreAsAlone v (g.I.Source.left c.args.input.now) c.deliver.new.made.items (g.O.Sink.written c.args.output.now) (g.O.Sink.written c.deliver.new.output)) verb_is
+    (headline_so c.in-Some.verb _ _ c.in-Ok.bytes.items c.in-Ok-answer_of.answer _ _ _ _ _ _ _ _ c.in-Ok.ensures.ok told c.deliver.ensures w)
 
 pub returns-clause-complete : goal.returns-clause-complete
 returns-clause-complete g c =
-    let bytes = c.in-Ok.bytes.items in
-    let told : IsAnswered bytes (Crowded c.in-Crowded.programs c.in-Crowded.line) =
-    subst (λ (a : Answer). IsAnswered bytes a) c.in-Crowded.is (subst (λ (bs : List ℕ). IsAnswered bs c.in-Ok-answer_of.answer) c.deref-2.ensures.value c.in-Ok-answer_of.ensures) in
-    λ r b i o. cause_not_built _ _ bytes c.in-Crowded.line.items c.in-Ok.ensures.ok told.0 b
+    let told : IsAnswered c.in-Ok.bytes.items c.in-Some.verb c.in-Ok-answer_of.answer =
+    subst (λ (bs : List ℕ). IsAnswered bs c.in-Some.verb c.in-Ok-answer_of.answer) c.deref-2.ensures.value c.in-Ok-answer_of.ensures in
+    let verb_is = asked_so c.deref.result.now c.args.words.now.items c.in-Some.verb c.in-Some.ensures c.deref.ensures.value in
+    λ b i o. complete_so c.in-Some.verb _ _ c.in-Ok.bytes.items c.in-Ok-answer_of.answer _ _ _ _ _ _ _ _ c.in-Ok.ensures.ok told c.deliver.ensures
+    (subst (λ (v : Option Verb). IsBuilt v (g.I.Source.left c.args.input.now)) (sym verb_is) b) o
 
 pub returns-clause-faulty : goal.returns-clause-faulty
 returns-clause-faulty g c =
-    let bytes = c.in-Ok.bytes.items in
-    let text = c.in-Crowded.line.items in
-    let told : IsAnswered bytes (Crowded c.in-Crowded.programs c.in-Crowded.line) =
-    subst (λ (a : Answer). IsAnswered bytes a) c.in-Crowded.is (subst (λ (bs : List ℕ). IsAnswered bs c.in-Ok-answer_of.answer) c.deref-2.ensures.value c.in-Ok-answer_of.ensures) in
-    let out : Appends (g.O.Sink.written c.args.output.now) (g.O.Sink.written c.write_all-in-Crowded.new.sink) text =
-    written c.write_all-in-Crowded.result c.is_err-in-Crowded.result _ _ c.deref-in-Crowded.result.now text c.deref-in-Crowded.ensures.value c.write_all-in-Crowded.ensures.ok
-    c.is_err-in-Crowded.ensures.value c.if-is_err-3.false in
-    λ r line b i o. subst (Appends (g.O.Sink.written c.args.output.now) (g.O.Sink.written c.write_all-in-Crowded.new.sink))
-    (same_line _ _ bytes text line c.in-Ok.ensures.ok told.0 b) out
+    let told : IsAnswered c.in-Ok.bytes.items c.in-Some.verb c.in-Ok-answer_of.answer =
+    subst (λ (bs : List ℕ). IsAnswered bs c.in-Some.verb c.in-Ok-answer_of.answer) c.deref-2.ensures.value c.in-Ok-answer_of.ensures in
+    let verb_is = asked_so c.deref.result.now c.args.words.now.items c.in-Some.verb c.in-Some.ensures c.deref.ensures.value in
+    λ line b i o. faulty_so c.in-Some.verb _ _ c.in-Ok.bytes.items line c.in-Ok-answer_of.answer _ _ _ _ _ _ _ _ c.in-Ok.ensures.ok told c.deliver.ensures
+    (subst (λ (v : Option Verb). IsFaulty v (g.I.Source.left c.args.input.now) line) (sym verb_is) b) o
+
+pub returns-clause-programs : goal.returns-clause-programs
+returns-clause-programs g c =
+    let told : IsAnswered c.in-Ok.bytes.items c.in-Some.verb c.in-Ok-answer_of.answer =
+    subst (λ (bs : List ℕ). IsAnswered bs c.in-Some.verb c.in-Ok-answer_of.answer) c.deref-2.ensures.value c.in-Ok-answer_of.ensures in
+    let verb_is = asked_so c.deref.result.now c.args.words.now.items c.in-Some.verb c.in-Some.ensures c.deref.ensures.value in
+    subst (λ (v : Option Verb). MadeAt c.deliver.result v (g.I.Source.left c.args.input.now) c.args.made.now.items c.deliver.new.made.items) verb_is
+    (made_so c.in-Some.verb _ _ c.in-Ok.bytes.items c.in-Ok-answer_of.answer _ _ _ _ _ _ _ _ c.in-Ok.ensures.ok told c.deliver.ensures)
