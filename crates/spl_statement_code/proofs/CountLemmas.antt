@@ -166,9 +166,13 @@ few_in_reference c (tree.Tree.field e start size at) k = omega arith
 few_in_reference c (tree.Tree.transfer to e at) k = omega arith
 few_in_reference c (tree.Tree.bytes op a b count at) k = omega arith
 
+few_in_name : (c : Scope) (x : List ℕ) (i : Bool) (s n k : ℕ) (b : Bool)
+    → count_of (if b then at_place (c.places x) (λ place. field_stored (assigned_access (c.names x)) s n i k place) else []) ≤ 9
+few_in_name c x i s n k true = few_at 9 (c.places x) _ (λ place. few_field_stored (assigned_access (c.names x)) s n i k place)
+few_in_name c x i s n k false = omega arith
+
 few_in_field : (c : Scope) (r : Tree) (s n k : ℕ) → count_of (field_of_reference_stored c r s n k) ≤ 9
-few_in_field c (tree.Tree.named x es at) s n k =
-    few_at 9 (c.places x) _ (λ place. few_field_stored (assigned_access (c.names x)) s n (is_indexed es) k place)
+few_in_field c (tree.Tree.named x es at) s n k = few_in_name c x (is_indexed es) s n k _
 few_in_field c (tree.Tree.number v) s n k = omega arith
 few_in_field c (tree.Tree.wide v) s n k = omega arith
 few_in_field c (tree.Tree.text bytes) s n k = omega arith

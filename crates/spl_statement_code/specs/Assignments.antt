@@ -1,5 +1,5 @@
 -- Assignments: the index of a target, which waits below the value, and what stands behind the value.
-use Rattle.std.specs.Prelude.{ℕ, List, [], Option, Some, None}
+use Rattle.std.specs.Prelude.{ℕ, ◌+◌, ◌&&◌, nat_le, if◌then◌else◌, Bool, List, [], Option, Some, None}
 use Rattle.spl_tree.specs.declared.expressions.Kind.{Kind}
 use Rattle.spl_tree.specs.Trees as tree
 use Rattle.spl_tree.specs.Trees.{Tree, Trees}
@@ -50,10 +50,16 @@ reference_stored c (tree.Tree.named x es at) k =
     at_place (c.places x) (λ place. stored (assigned_access (c.names x)) (is_indexed es) k place)
 reference_stored c _ k = []
 
+-- in a bit field of what a name leads to; the field lies within a word
+abbrev pub field_of_name_stored : Scope → List ℕ → Bool → ℕ → ℕ → ℕ → List Piece
+field_of_name_stored c x indexed start size k =
+    if nat_le 1 size && nat_le (start + size) 16
+    then at_place (c.places x) (λ place. field_stored (assigned_access (c.names x)) start size indexed k place)
+    else []
+
 -- in a bit field of a reference
 abbrev pub field_of_reference_stored : Scope → Tree → ℕ → ℕ → ℕ → List Piece
-field_of_reference_stored c (tree.Tree.named x es at) start size k =
-    at_place (c.places x) (λ place. field_stored (assigned_access (c.names x)) start size (is_indexed es) k place)
+field_of_reference_stored c (tree.Tree.named x es at) start size k = field_of_name_stored c x (is_indexed es) start size k
 field_of_reference_stored c _ start size k = []
 
 -- in a target
