@@ -54,8 +54,8 @@ mutual
       let some = few_statement c s (k + 3) 0 [] inner in
       let a = some_weight c.scope first in
       let b = some_weight c.scope last in
-      spare _ (few_then (few_then (few_then (few_then (few_then (few_one (Begin at)) (few_value c.scope first k)) (few_counter c.scope x k))
-      (few_step c.scope step (k + 1))) (few_value c.scope last (k + 2))) (few_turns (statement c s (k + 3)) (spared (statement_weight s) 12 (statement c s (k + 3)) (λ l ws. few_statement c s (k + 3) l ws inner)))) (omega arith) l ws
+      spare _ (few_then (few_then (few_one (Begin at)) (few_then (few_then (few_then (few_value c.scope first k) (few_counter c.scope x k))
+      (few_step c.scope step (k + 1))) (few_value c.scope last (k + 2)))) (few_turns (statement c s (k + 3)) (spared (statement_weight s) 12 (statement c s (k + 3)) (λ l ws. few_statement c s (k + 3) l ws inner)))) (omega arith) l ws
   few_statement c (stat.Statement.case_of e ss at) k l ws le =
       let some = some_weight c.scope e in
       spare _ (few_then (few_one (Begin at)) (few_fresh _ (λ end.

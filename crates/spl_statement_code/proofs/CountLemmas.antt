@@ -233,7 +233,7 @@ count_literals : (ws : List ℕ) → count_of (map Literal ws) ≡ length ws
 count_literals [] = refl
 count_literals (w ∷ ws) = omega (arith, count_literals ws)
 
-length_words : (bs : List ℕ) → length (as_words bs) ≡ string_words bs
+pub length_words : (bs : List ℕ) → length (as_words bs) ≡ string_words bs
 length_words [] = refl
 length_words (a ∷ []) = refl
 length_words (a ∷ b ∷ bs) = omega (arith, length_words bs)

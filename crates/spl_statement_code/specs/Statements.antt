@@ -78,6 +78,11 @@ abbrev pub step_value : Scope → Trees → ℕ → Part
 step_value c tree.Trees.none k = piece (LDI 1)
 step_value c (tree.Trees.and e es) k = code c e as_value k
 
+-- What stands before the turns of a FOR: the first value is stored, and address, step and limit stay.
+abbrev pub counting : Scope → List ℕ → Tree → Trees → Tree → ℕ → Part
+counting c x first step last k =
+    code c first as_value k ⨟ pieces (counter c x k) ⨟ step_value c step (k + 1) ⨟ code c last as_value (k + 2)
+
 -- The turns of a FOR, behind address, step and limit: a first test leads to the body or past it; behind the body the step is added, and the
 -- test leads back.
 abbrev pub turns : Part → Part
@@ -92,6 +97,10 @@ abbrev pub arm : Part → ℕ → Part
 arm body end =
     with_fresh (λ next.
     piece TEST ⨟ related 0 next ⨟ piece DEL ⨟ body ⨟ piece (BR end) ⨟ piece (Mark next) ⨟ piece (LDI 1) ⨟ piece LSUB)
+
+-- A CASE: behind the arms, none of which was taken, the value is deleted.
+abbrev pub chosen_among : Part → (ℕ → Part) → Part
+chosen_among value arms = with_fresh (λ end. value ⨟ arms end ⨟ piece DEL ⨟ piece (Mark end))
 
 -- ---- calls
 
@@ -125,10 +134,9 @@ abbrev mutual
   statement c (stat.Statement.while_true e s at) k = repeated_while (λ end. code c.scope e (as_test end) k) (statement c s k)
   statement c (stat.Statement.until_true s e at) k = repeated_until (statement c s k) (λ again. code c.scope e (as_test again) k)
   statement c (stat.Statement.for_values x first step last s at) k =
-      piece (Begin at) ⨟ code c.scope first as_value k ⨟ pieces (counter c.scope x k) ⨟ step_value c.scope step (k + 1)
-      ⨟ code c.scope last as_value (k + 2) ⨟ turns (statement c s (k + 3))
+      piece (Begin at) ⨟ counting c.scope x first step last k ⨟ turns (statement c s (k + 3))
   statement c (stat.Statement.case_of e ss at) k =
-      piece (Begin at) ⨟ with_fresh (λ end. code c.scope e as_value k ⨟ arms c ss k end ⨟ piece DEL ⨟ piece (Mark end))
+      piece (Begin at) ⨟ chosen_among (code c.scope e as_value k) (λ end. arms c ss k end)
   statement c (stat.Statement.go_to x at) k = piece (Begin at) ⨟ gone_to (c.landings x) k
   statement c (stat.Statement.return at) k = piece (Begin at) ⨟ jump k c.leave
   statement c (stat.Statement.assign to e at) k = piece (Begin at) ⨟ assigned c.scope to (λ j. code c.scope e as_value j) k
