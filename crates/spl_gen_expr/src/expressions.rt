@@ -483,7 +483,7 @@ fn named_reference(
 /// Appends a name with what stands behind it: a constant, a call, or a variable at its index.
 #[cycle(expressions)]
 #[tactic(auto)]
-fn named(
+pub fn named(
     scope: &Scope<'_>,
     name: &Name,
     args: &[Expr],

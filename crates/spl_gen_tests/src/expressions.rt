@@ -8,7 +8,7 @@ use spl_tree::{At, Expr, Kind, Name, Ref, binary};
 use std::alloc::Global;
 use std::test::Fail;
 
-static PLACE: At = At {
+pub static PLACE: At = At {
     unit: 1,
     line: 1,
     column: 1,
@@ -16,7 +16,7 @@ static PLACE: At = At {
 
 /// The maps of a body in which I is the second local item.
 #[derive(Drop)]
-struct Maps {
+pub struct Maps {
     names: Table,
     none: Table,
     places: NameMap<Place>,
@@ -24,7 +24,7 @@ struct Maps {
     entries: NameMap<usize>,
 }
 
-fn make_maps(alloc: Global) -> Result<Maps, Fail> {
+pub fn make_maps(alloc: Global) -> Result<Maps, Fail> {
     let mut names = Table::new(alloc);
     names.declare(&Name::new(b"I"), Sort::Simple(Kind::Integer, false))?;
     let mut places = NameMap::new(alloc);
@@ -38,7 +38,7 @@ fn make_maps(alloc: Global) -> Result<Maps, Fail> {
     })
 }
 
-fn scope_in(maps: &Maps) -> Scope<'_> {
+pub fn scope_in(maps: &Maps) -> Scope<'_> {
     Scope {
         names: Names {
             inner: &maps.none,
@@ -58,7 +58,7 @@ fn scope_in(maps: &Maps) -> Scope<'_> {
 }
 
 /// A code without pieces.
-fn empty(alloc: Global) -> Code {
+pub fn empty(alloc: Global) -> Code {
     Code {
         segment: Name::new(b"S"),
         pieces: Vec::new(alloc),

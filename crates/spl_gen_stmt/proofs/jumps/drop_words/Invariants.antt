@@ -1,0 +1,9 @@
+-- So many have been appended.
+use Rattle.std.proofs.Common.{replicate}
+use Rattle.spl_code.specs.Parts.{pieces}
+use Rattle.spl_code.specs.Appends.{Appends}
+use Rattle.spl_statement_code.specs.Instructions.{SUBS}
+use Rattle.spl_gen_stmt.proofs.jumps.drop_words.Given as goal
+
+abbrev pub invariant-loop-i : goal.invariant-loop-i
+invariant-loop-i l = Appends (pieces (replicate l.i (SUBS 255))) l.fn.code l.code

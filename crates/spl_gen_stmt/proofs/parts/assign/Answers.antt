@@ -1,0 +1,15 @@
+-- The index, the value and the store.
+use Rattle.spl_tree.specs.Views as view
+use Rattle.spl_code.specs.Code as written
+use Rattle.spl_operations.proofs.PutLemmas.{ok_then}
+use Rattle.spl_gen_expr.specs.Scopes.{scope_of}
+use Rattle.spl_gen_stmt.proofs.PartLemmas.{assigned_done}
+use Rattle.spl_gen_stmt.proofs.parts.assign.Goals as goal
+
+pub returns : goal.returns
+returns c =
+    ok_then c.target_store.result
+    (λ last. assigned_done (scope_of c.args.scope.now) (view.target_tree c.args.to.now)
+    (λ j. written.code (scope_of c.args.scope.now) (view.expression c.args.value.now) written.as_value j) c.args.waiting _ c.in_ok-behind_target.ensures
+    c.in_ok-target_index.ensures c.in_ok-write.ensures.code last)
+    c.target_store.ensures

@@ -1,0 +1,179 @@
+//! Targets of assignments: their indexes, and what stores a value in them.
+ghost use Rattle.std.specs.Prelude.{◌≡◌, ◌+◌, ◌&&◌, nat_le, if◌then◌else◌, option_map, OnOk, IfOk};
+ghost use Rattle.spl_tree.specs.Views as view;
+ghost use Rattle.spl_tree.specs.Views.{letters};
+ghost use Rattle.spl_tree.specs.Trees.{trees};
+ghost use Rattle.spl_meaning.specs.Pending as pending;
+ghost use Rattle.spl_sorts.specs.Sorts.{sort_of};
+ghost use Rattle.spl_code.specs.Parts.{pieces};
+ghost use Rattle.spl_code.specs.Operands.{at_place};
+ghost use Rattle.spl_code.specs.Stores as stores;
+ghost use Rattle.spl_code.specs.Code.{is_indexed};
+ghost use Rattle.spl_code.specs.Appends.{Appends};
+ghost use Rattle.spl_gen_expr.specs.Scopes.{scope_of};
+ghost use Rattle.spl_operations.specs.Views.{access_view};
+ghost use Rattle.spl_statement_code.specs.Assignments as targets;
+
+use crate::fields::{Bits, deposit_at};
+use crate::stores::{store, store_at};
+use spl_branch::Code;
+use spl_depths::plus;
+use spl_gen_expr::{Aim, Scope, small_constant, write};
+use spl_operations::{Access, mode_of};
+use spl_sorts::Sort;
+use spl_tree::{Kind, Name, Ref, Target};
+use std::alloc::AllocError;
+
+/// How what a name stands for on the left of := leads to a word.
+fn assigned_access(sort: Option<&Sort>) -> Access
+    ensures { access_view result ≡ targets.assigned_access (option_map (λ s. sort_of s.now) sort.entry) }
+{
+    match sort {
+        Some(Sort::Procedure(profile) | Sort::Subroutine(profile)) => match profile.result {
+            Some(kind) => Access::Own(kind),
+            None => Access::Nowhere,
+        },
+        _ => Access::of(sort),
+    }
+}
+
+/// Appends the index of a reference, where it has one.
+fn reference_index(
+    scope: &Scope<'_>,
+    r: &Ref,
+    waiting: u64,
+    code: &mut Code,
+) -> Result<(), AllocError>
+    ensures { OnOk result (Appends (targets.reference_index (scope_of scope.now) (view.reference r.now) waiting) code.old code.new) }
+{
+    match &r.index {
+        Some(index) => {
+            let _ = write(scope, index, Aim::Value, waiting, code)?;
+            Ok(())
+        }
+        None => Ok(()),
+    }
+}
+
+/// Appends the index of a target, where it has one.
+pub fn target_index(
+    scope: &Scope<'_>,
+    to: &Target,
+    waiting: u64,
+    code: &mut Code,
+) -> Result<(), AllocError>
+    ensures { OnOk result (Appends (targets.target_index (scope_of scope.now) (view.target_tree to.now) waiting) code.old code.new) }
+{
+    match to {
+        Target::Plain(r) => reference_index(scope, r, waiting, code),
+        Target::Field { of, .. } => reference_index(scope, of, waiting, code),
+        Target::Address(..) => Ok(()),
+    }
+}
+
+/// What waits behind the index of a reference.
+fn behind_index(r: &Ref, waiting: u64) -> Result<u64, AllocError>
+    ensures { IfOk result (λ k. k ≡ pending.behind_index (view.reference r.now) waiting) }
+{
+    match r.index {
+        Some(_) => plus(waiting, 1),
+        None => Ok(waiting),
+    }
+}
+
+/// What waits while the value for a target is worked out.
+pub fn behind_target(to: &Target, waiting: u64) -> Result<u64, AllocError>
+    ensures { IfOk result (λ k. k ≡ pending.waiting (view.target_tree to.now) waiting) }
+{
+    match to {
+        Target::Plain(r) => behind_index(r, waiting),
+        Target::Field { of, .. } => behind_index(of, waiting),
+        Target::Address(..) => Ok(waiting),
+    }
+}
+
+/// Appends the store in a reference.
+fn reference_store(
+    scope: &Scope<'_>,
+    r: &Ref,
+    waiting: u64,
+    code: &mut Code,
+) -> Result<(), AllocError>
+    ensures { OnOk result (Appends (pieces (targets.reference_stored (scope_of scope.now) (view.reference r.now) waiting)) code.old code.new) }
+{
+    match scope.places.find(&r.name) {
+        Some(place) => {
+            let access = assigned_access(scope.names.find(&r.name));
+            store_at(code, access, r.index.is_some(), waiting, place)
+        }
+        None => Ok(()),
+    }
+}
+
+/// Appends the store in a bit field of a name, with its index or not.
+fn field_store(
+    scope: &Scope<'_>,
+    name: &Name,
+    indexed: bool,
+    start: u64,
+    size: u64,
+    waiting: u64,
+    code: &mut Code,
+) -> Result<(), AllocError>
+    ensures { OnOk result (Appends (pieces (targets.field_of_name_stored (scope_of scope.now) (letters name.now) indexed start size waiting)) code.old code.new) }
+{
+    if size < 1 || 16 < size || 16 - size < start {
+        return Ok(());
+    }
+    let bits = Bits { start, size };
+    match scope.places.find(name) {
+        Some(place) => {
+            let access = assigned_access(scope.names.find(name));
+            deposit_at(code, access, bits, indexed, waiting, place)
+        }
+        None => Ok(()),
+    }
+}
+
+/// Appends the store in a pointer's own word.
+fn pointer_store(
+    scope: &Scope<'_>,
+    name: &Name,
+    waiting: u64,
+    code: &mut Code,
+) -> Result<(), AllocError>
+    ensures { OnOk result (Appends (pieces (at_place ((scope_of scope.now).places (letters name.now)) (λ place. stores.pointer_stored waiting place))) code.old code.new) }
+{
+    match scope.places.find(name) {
+        Some(place) => store(code, Kind::Integer, false, false, mode_of(waiting, place)?),
+        None => Ok(()),
+    }
+}
+
+/// Appends the store of the value on top in a target, where so many words waited before its index and the value.
+pub fn target_store(
+    scope: &Scope<'_>,
+    to: &Target,
+    waiting: u64,
+    code: &mut Code,
+) -> Result<(), AllocError>
+    ensures { OnOk result (Appends (pieces (targets.target_stored (scope_of scope.now) (view.target_tree to.now) waiting)) code.old code.new) }
+{
+    match to {
+        Target::Plain(r) => reference_store(scope, r, waiting, code),
+        Target::Field { of, start, length } => {
+            let start = small_constant(&scope.names, start);
+            let size = small_constant(&scope.names, length);
+            field_store(
+                scope,
+                &of.name,
+                of.index.is_some(),
+                start,
+                size,
+                waiting,
+                code,
+            )
+        }
+        Target::Address(name, _) => pointer_store(scope, name, waiting, code),
+    }
+}

@@ -1,0 +1,70 @@
+//! GO TO, RETURN and the places of labels.
+ghost use Rattle.std.specs.Prelude.{◌≡◌, ◌<◌, length, OnOk};
+ghost use Rattle.spl_tree.specs.Views.{letters};
+ghost use Rattle.spl_code.specs.Parts.{pieces};
+ghost use Rattle.spl_code.specs.Appends.{Appends};
+ghost use Rattle.spl_statement_code.specs.Landings as landings;
+ghost use Rattle.spl_statement_code.specs.Landings.{IsMade};
+ghost use Rattle.spl_statement_code.specs.Labels.{AppendsSetting, CanBeSet, mark_of};
+ghost use Rattle.spl_gen_stmt.specs.Contexts.{context_of, landings_of};
+
+use crate::contexts::Context;
+use crate::puts::subtract_words;
+use spl_branch::Code;
+use spl_gen_expr::{lead, set_mark};
+use spl_tree::Name;
+use std::alloc::AllocError;
+
+/// Appends what deletes so many words.
+fn drop_words(code: &mut Code, n: u64) -> Result<(), AllocError>
+    ensures { OnOk result (Appends (pieces (landings.dropped n)) code.old code.new) }
+{
+    if n <= 255 {
+        return subtract_words(code, n as u8);
+    }
+    for i in 0..n / 255 {
+        subtract_words(code, 255)?;
+    }
+    subtract_words(code, (n % 255) as u8)
+}
+
+/// Appends a jump to a mark where so many words fewer wait.
+#[tactic(auto, using(spl_operations::proofs::PutLemmas::joins))]
+pub fn jump(code: &mut Code, surplus: u64, mark: usize) -> Result<(), AllocError>
+    requires { mark < length code.old.marks.items }
+    ensures { OnOk result (Appends (landings.jump surplus mark) code.old code.new) }
+{
+    drop_words(code, surplus)?;
+    lead(code, mark)
+}
+
+/// Appends a jump to a label, where it leads somewhere.
+pub fn go_to(
+    context: &Context<'_>,
+    name: &Name,
+    waiting: u64,
+    code: &mut Code,
+) -> Result<(), AllocError>
+    requires { IsMade (context_of context.now) (length code.old.marks.items) }
+    ensures { OnOk result (Appends (landings.gone_to (landings_of context.now.landings.now (letters name.now)) waiting) code.old code.new) }
+{
+    match context.landings.find(name) {
+        Some(landing) => jump(
+            code,
+            waiting.saturating_sub(u64::from(landing.pending)),
+            landing.mark,
+        ),
+        None => Ok(()),
+    }
+}
+
+/// Sets the mark of a label here, where it leads somewhere.
+pub fn land(context: &Context<'_>, name: &Name, code: &mut Code) -> Result<(), AllocError>
+    requires { CanBeSet code.old.marks.items (mark_of (landings_of context.now.landings.now (letters name.now))) }
+    ensures { OnOk result (AppendsSetting (mark_of (landings_of context.now.landings.now (letters name.now))) (landings.landed (landings_of context.now.landings.now (letters name.now))) code.old code.new) }
+{
+    match context.landings.find(name) {
+        Some(landing) => set_mark(code, landing.mark),
+        None => Ok(()),
+    }
+}
