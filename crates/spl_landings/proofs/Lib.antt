@@ -1,0 +1,2 @@
+pub mod LabelWalks
+pub mod LandingWalks

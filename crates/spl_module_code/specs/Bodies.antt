@@ -1,0 +1,56 @@
+-- The code of a body in its module: its labels, and its statements in the scope that it has there.
+use Rattle.std.specs.Prelude.{ℕ, List, [], ◌∷◌, Option, Some, None, option_map}
+use Rattle.spl_meaning.specs.Names.{Table, find, or_else}
+use Rattle.spl_meaning.specs.Places.{Place}
+use Rattle.spl_meaning.specs.Tables.{Subroutine}
+use Rattle.spl_meaning.specs.Bodies.{Body, Named, subroutine_body}
+use Rattle.spl_code.specs.Parts.{Part, nothing, ◌⨟◌}
+use Rattle.spl_code.specs.Calls.{Scope}
+use Rattle.spl_statement_code.specs.Landings.{Landing, Context}
+use Rattle.spl_statement_code.specs.Statements.{listed}
+use Rattle.spl_body_code.specs.Bodies.{procedure_code, subroutine_code, main_code}
+use Rattle.spl_scopes.specs.Entries.{Owner, main, routine, Entry, procedure_index, subroutine_index}
+use Rattle.spl_scopes.specs.Scopes.{scope_with}
+use Rattle.spl_module_code.specs.LabelsOfBodies.{labels_among, with_landings}
+
+-- where the word stands that a name on the left of := means: a variable's own, or that of a result by the name of what it is the result of
+abbrev pub assigned_place : Body → List ℕ → Option Place
+assigned_place b x = or_else (b.here.places x) (option_map (λ r. r.1) (b.here.results x))
+
+-- the scope of a body's statements, in a module with these entries
+abbrev pub statements_scope : List Entry → Owner → Body → Scope
+statements_scope es o b = record (scope_with es o b) { places = assigned_place b }
+
+-- what they are made with, where the labels have these marks and RETURN leads to that one
+abbrev pub context_of : List Entry → Owner → Body → Table Landing → ℕ → Context
+context_of es o b labels leave = record { scope = statements_scope es o b; landings = find labels; leave = leave }
+
+-- the statements of a body; nothing waits before them
+abbrev pub body_statements : List Entry → Owner → Body → ℕ → Part
+body_statements es o b leave = with_landings (labels_among b.statements 0) (λ labels. listed (context_of es o b labels leave) b.statements 0)
+
+-- code at an entry that there is
+abbrev pub at_entry : Option ℕ → (ℕ → Part) → Part
+at_entry None code = nothing
+at_entry (Some entry) code = code entry
+
+-- a subroutine of a body; the mark of an entry is its index
+abbrev pub subroutine_part : List Entry → Owner → Body → Subroutine → Part
+subroutine_part es o b s =
+    let inner = subroutine_body b s in
+    at_entry (subroutine_index o es s.heading.name) (λ entry. subroutine_code inner entry (body_statements es o inner))
+
+-- subroutines in order
+abbrev pub subroutine_parts : List Entry → Owner → Body → List Subroutine → Part
+subroutine_parts es o b [] = nothing
+subroutine_parts es o b (s ∷ ss) = subroutine_part es o b s ⨟ subroutine_parts es o b ss
+
+-- a procedure of a unit by its number, behind its subroutines
+abbrev pub routine_part : List Entry → ℕ → Named → Part
+routine_part es i b =
+    subroutine_parts es (routine i) b.body b.body.subroutines
+    ⨟ at_entry (procedure_index es b.name) (λ entry. procedure_code b.body entry (body_statements es (routine i) b.body))
+
+-- a main body, at a mark behind those of the entries; no RETURN stands in it
+abbrev pub main_part : List Entry → ℕ → Body → Part
+main_part es mark b = main_code b mark (body_statements es main b mark)

@@ -1,0 +1,4 @@
+-- In reading order.
+pub mod LabelsOfBodies
+pub mod Bodies
+pub mod Modules
