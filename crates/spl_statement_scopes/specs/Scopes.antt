@@ -1,5 +1,5 @@
 -- Whose statements it is that see a scope: those of a procedure, of a subroutine, of a main body, of one of its subroutines.
-use Rattle.std.specs.Prelude.{◌≡◌, ℕ, false, Option, Some, None, option_map}
+use Rattle.std.specs.Prelude.{◌≡◌, ℕ, false, List, Option, Some, None, option_map}
 use Rattle.std.specs.List.{slice_get}
 use Rattle.spl_tree.specs.DeclarationTrees as decl
 use Rattle.spl_tree.specs.DeclarationTrees.{Heading, Declarations, declarations}
