@@ -4,7 +4,7 @@
 --     BEGIN INTEGER J; DOUBLE SUBROUTINE S(D); VALUE D; DOUBLE D; ; LOGICAL SUBROUTINE U(U); VALUE U; LOGICAL U; ;
 --       INTEGER SUBROUTINE W(J); VALUE J; INTEGER J; ; END;
 --   INTEGER SUBROUTINE T(K); VALUE K; INTEGER K; ;
-use Rattle.std.specs.Prelude.{◌≡◌, List, [], ◌∷◌, codes, Option, Some, None, refl}
+use Rattle.std.specs.Prelude.{◌≡◌, [], ◌∷◌, codes, Option, Some, None, refl}
 use Prim.Native.String.{String}
 use Rattle.spl_tree.specs.declared.expressions.Kind.TheVariants as kind
 use Rattle.spl_meaning.specs.Tables.{Source}

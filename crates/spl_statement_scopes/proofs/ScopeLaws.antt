@@ -1,7 +1,7 @@
 -- Three levels, of which the first has the results too, show the scope of the statements of the body whose they are.
 -- 1. the scope of a body's statements is that of the body with the results behind its places     (statements_of)
 -- 2. and so it is seen through the levels                                                        (inner_seen, outer_seen)
-use Rattle.std.proofs.Common.{ℕ, ◌≡◌, false, List, Option, Some, None, refl, sym, ap, ◌∙◌}
+use Rattle.std.proofs.Common.{ℕ, ◌≡◌, List, Option, Some, None, refl, sym, ap, ◌∙◌}
 use Rattle.std.specs.Prelude.{option_map}
 use Rattle.spl_meaning.specs.Names.{Names, or_else}
 use Rattle.spl_meaning.specs.Bodies.{Body}

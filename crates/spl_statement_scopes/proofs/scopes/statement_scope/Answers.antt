@@ -1,8 +1,8 @@
 -- What three levels show is the scope of the statements of the body whose they are.
 use Rattle.std.proofs.Common.{sym, subst}
 use Rattle.spl_code.specs.Calls.{Scope}
-use Rattle.spl_body_scopes.specs.Levels.{Level, level_of}
-use Rattle.spl_body_scopes.specs.Found.{Calls, calls_in}
+use Rattle.spl_body_scopes.specs.Levels.{level_of}
+use Rattle.spl_body_scopes.specs.Found.{calls_in}
 use Rattle.spl_statement_scopes.specs.Scopes.{StatesRoutine, StatesInner, StatesMain, StatesMainInner}
 use Rattle.spl_statement_scopes.proofs.ScopeLaws.{states_routine, states_inner, states_main, states_main_inner}
 use Rattle.spl_statement_scopes.proofs.scopes.statement_scope.Goals as goal
