@@ -29,9 +29,9 @@ twice s = stat.Statement.for_values (codes "I") (tree.Tree.number 1) tree.Trees.
 
 -- A: FOR .. DO BEGIN B: ; FOR .. DO C: END; D: CASE 0 OF BEGIN E: ; F: END
 labels_of_lists :
-  labels_among (statements (label "A" (twice (stat.Statement.block (statements (label "B" stat.Statement.empty ∷ twice (label "C" stat.Statement.empty) ∷ []))))
+    labels_among (statements (label "A" (twice (stat.Statement.block (statements (label "B" stat.Statement.empty ∷ twice (label "C" stat.Statement.empty) ∷ []))))
     ∷ label "D" (stat.Statement.case_of (tree.Tree.number 0) (statements (label "E" stat.Statement.empty ∷ label "F" stat.Statement.empty ∷ [])) nowhere) ∷ [])) 0
-  ≡ record { name = codes "A"; pending = 0 } ∷ record { name = codes "B"; pending = 3 } ∷ record { name = codes "C"; pending = 6 }
+    ≡ record { name = codes "A"; pending = 0 } ∷ record { name = codes "B"; pending = 3 } ∷ record { name = codes "C"; pending = 6 }
     ∷ record { name = codes "D"; pending = 0 } ∷ record { name = codes "E"; pending = 0 } ∷ record { name = codes "F"; pending = 0 } ∷ []
 labels_of_lists = refl
 

@@ -57,12 +57,12 @@ known_inner_parameter = refl
 known_result_around : stands (inner (routine 0) 2) "F" ≡ Some (below_base 5)
 known_result_around = refl
 
--- the parameter U of U hides its result, and the global S that of S
+-- the parameter U of U hides its result; the global S does not hide that of S, which is what its name stands for in F
 known_hidden_by_parameter : stands (inner (routine 0) 1) "U" ≡ Some (below_return 1)
 known_hidden_by_parameter = refl
 
-known_hidden_by_global : stands (inner (routine 0) 0) "S" ≡ Some (data_word 0)
-known_hidden_by_global = refl
+known_before_global : stands (inner (routine 0) 0) "S" ≡ Some (below_return 4)
+known_before_global = refl
 
 -- T, in the main body's list, has a result, which is not seen outside it; nor is that of F
 known_main_inner : stands (inner main 0) "T" ≡ Some (below_return 2)

@@ -1,9 +1,10 @@
 -- Three levels, of which the first has the results too, show the scope of the statements of the body whose they are.
--- 1. the scope of a body's statements is that of the body with the results behind its places     (statements_of)
+-- 1. the scope of a body's statements is that of the body with the results it may assign          (statements_of)
 -- 2. and so it is seen through the levels                                                        (inner_seen, outer_seen)
 use Rattle.std.proofs.Common.{ℕ, ◌≡◌, List, Option, Some, None, refl, sym, ap, ◌∙◌}
 use Rattle.std.specs.Prelude.{option_map}
 use Rattle.spl_meaning.specs.Names.{Names, or_else}
+use Rattle.spl_tree.specs.DeclarationTrees.{Heading}
 use Rattle.spl_meaning.specs.Bodies.{Body}
 use Rattle.spl_code.specs.Calls.{Scope}
 use Rattle.spl_module_code.specs.Bodies.{statements_scope}
@@ -15,15 +16,15 @@ use Rattle.spl_body_scopes.specs.declared.places.Base.TheVariants as base
 use Rattle.spl_body_scopes.specs.Found.{Calls}
 use Rattle.spl_body_scopes.proofs.FoundLaws.{shown_through, shows_routine, shows_inner, shows_main, shows_main_inner}
 use Rattle.spl_body_scopes.proofs.ScopeLaws.{routine_results, inner_results, main_results, main_inner_results}
-use Rattle.spl_statement_scopes.specs.Levels.{behind, no_names, with_results}
+use Rattle.spl_statement_scopes.specs.Levels.{no_names, with_results}
 use Rattle.spl_statement_scopes.specs.Scopes.{statements_in, StatesRoutine, StatesInner, StatesMain, StatesMainInner}
-use Rattle.spl_statement_scopes.proofs.ResultLemmas.{seen_behind}
+use Rattle.spl_statement_scopes.proofs.ResultLemmas.{Gives, before, none_gives, inner_gives, seen_before}
 
 -- ---- 1. a body's statements
 
 -- a scope with results behind its places
 abbrev with_places : Scope → Results → Scope
-with_places s r = record s { places = behind s.places r }
+with_places s r = record s { places = before s.names s.places r }
 
 -- with another scope and other results that are the same
 same_with : (s t : Scope) (q r : Results) → s ≡ t → q ≡ r → with_places s q ≡ with_places t r
@@ -65,18 +66,23 @@ scope_of_parts names places calls = record { names = names; places = places; pro
 same_parts : (n m : Names) (a b : Spots) (calls : Calls) → n ≡ m → a ≡ b → scope_of_parts n a calls ≡ scope_of_parts m b calls
 same_parts n m a b calls names places = ap (λ (k : Names). scope_of_parts k a calls) names ∙ ap (λ (c : Spots). scope_of_parts m c calls) places
 
--- a subroutine's
-inner_seen : (first a b c : Level) (r : Results) (calls : Calls) → first ≡ with_results a b c r
+-- the first level of them with results
+first_seen : (first a b c : Level) (r : Results) (calls : Calls) → Gives a (λ x. or_else (b.names x) (c.names x)) → first ≡ with_results a b c r
     → with_places (shown_through a b c calls) r ≡ shown_through first b c calls
-inner_seen first a b c r calls is =
-    same_parts _ _ _ _ calls refl (sym (seen_behind a b c r)) ∙ ap (λ (l : Level). shown_through l b c calls) (sym is)
+first_seen first a b c r calls gives is =
+    same_parts _ _ _ _ calls refl (sym (seen_before a b c r gives)) ∙ ap (λ (l : Level). shown_through l b c calls) (sym is)
+
+-- a subroutine's
+inner_seen : (first b c : Level) (sub : Heading) (r : Results) (calls : Calls) → first ≡ with_results (inner_level sub) b c r
+    → with_places (shown_through (inner_level sub) b c calls) r ≡ shown_through first b c calls
+inner_seen first b c sub r calls is = first_seen first (inner_level sub) b c r calls (inner_gives sub (λ x. or_else (b.names x) (c.names x))) is
 
 -- a procedure's or a main body's
 outer_seen : (first b c : Level) (r : Results) (calls : Calls) → first ≡ with_results no_names b c r
     → with_places (shown_through b b c calls) r ≡ shown_through first b c calls
 outer_seen first b c r calls is =
-    same_parts _ _ _ _ calls (twice b.names c.names) (ap (λ (p : Spots). behind p r) (twice b.places c.places) ∙ sym (seen_behind no_names b c r))
-    ∙ ap (λ (l : Level). shown_through l b c calls) (sym is)
+    ap (λ (s : Scope). with_places s r) (same_parts _ _ _ _ calls (twice b.names c.names) (twice b.places c.places))
+    ∙ first_seen first no_names b c r calls (none_gives (λ x. or_else (b.names x) (c.names x))) is
 
 pub states_routine : (first b c : Level) (calls : Calls) → StatesRoutine first b c calls (shown_through first b c calls)
 states_routine first b c calls p s here h items ss ds left is one own globals entries =
@@ -92,7 +98,7 @@ states_inner first b c calls p s here h items ss ds j sub left is at one own glo
     statements_of p (inner (routine s.count) j) (shown_through a b c calls) r (shows_inner a b c calls p s here h items ss ds j sub left is at refl own globals entries)
     (inner_results p s here h items ss ds j sub left is at
     ∙ ap (λ (l : Level). Some (results_through (heading_result base.Return sub) (routine_result l.names h))) (sym own))
-    ∙ ap Some (inner_seen first a b c r calls one)
+    ∙ ap Some (inner_seen first b c sub r calls one)
 
 pub states_main : (first b c : Level) (calls : Calls) → StatesMain first b c calls (shown_through first b c calls)
 states_main first b c calls p s left is one own globals entries =
@@ -105,4 +111,4 @@ states_main_inner first b c calls p s j sub left is at one own globals entries =
     let r = results_through (heading_result base.Return sub) (result_of None) in
     let a = inner_level sub in
     statements_of p (inner main j) (shown_through a b c calls) r (shows_main_inner a b c calls p s j sub left is at refl own globals entries)
-    (main_inner_results p j sub is at) ∙ ap Some (inner_seen first a b c r calls one)
+    (main_inner_results p j sub is at) ∙ ap Some (inner_seen first b c sub r calls one)
