@@ -1,6 +1,8 @@
 -- The code of a body in its module: its labels, and its statements in the scope that it has there.
-use Rattle.std.specs.Prelude.{ℕ, List, [], ◌∷◌, Option, Some, None, option_map}
-use Rattle.spl_meaning.specs.Names.{Table, find, or_else}
+use Rattle.std.specs.Prelude.{ℕ, Bool, true, false, if◌then◌else◌, List, [], ◌∷◌, Option, Some, None, option_map}
+use Rattle.spl_tree.specs.declared.expressions.Kind.{Kind}
+use Rattle.spl_meaning.specs.Names as n
+use Rattle.spl_meaning.specs.Names.{Sort, Names, Table, find, or_else}
 use Rattle.spl_meaning.specs.Places.{Place}
 use Rattle.spl_meaning.specs.Tables.{Subroutine}
 use Rattle.spl_meaning.specs.Bodies.{Body, Named, subroutine_body}
@@ -13,9 +15,19 @@ use Rattle.spl_scopes.specs.Entries.{Owner, main, routine, Entry, procedure_inde
 use Rattle.spl_scopes.specs.Scopes.{scope_with}
 use Rattle.spl_module_code.specs.LabelsOfBodies.{labels_among, with_landings}
 
--- where the word stands that a name on the left of := means: a variable's own, or that of a result by the name of what it is the result of
+-- whether a name stands for a procedure or a subroutine
+abbrev pub is_called : Option Sort → Bool
+is_called (Some (n.procedure p)) = true
+is_called (Some (n.subroutine p)) = true
+is_called s = false
+
+-- the results that names mean on the left of :=, where they stand for what gives them
+abbrev pub seen_results : Names → (List ℕ → Option (Kind × Place)) → List ℕ → Option (Kind × Place)
+seen_results names results x = if is_called (names x) then results x else None
+
+-- where the word stands that a name on the left of := means: that of such a result, or a variable's own
 abbrev pub assigned_place : Body → List ℕ → Option Place
-assigned_place b x = or_else (b.here.places x) (option_map (λ r. r.1) (b.here.results x))
+assigned_place b x = or_else (option_map (λ r. r.1) (seen_results b.here.names b.here.results x)) (b.here.places x)
 
 -- the scope of a body's statements, in a module with these entries
 abbrev pub statements_scope : List Entry → Owner → Body → Scope

@@ -1,0 +1,4 @@
+-- In reading order.
+pub mod ResultLemmas
+pub mod ScopeLaws
+pub mod KnownPlaces
