@@ -13,4 +13,4 @@ mod statements;
 mod stores;
 
 pub use contexts::Landing;
-pub use generator::gen_statement;
+pub use generator::{gen_statement, gen_statements};

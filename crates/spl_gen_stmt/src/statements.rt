@@ -107,7 +107,7 @@ pub fn statement(
 /// Appends the statements of a list, one behind the other.
 #[cycle(statements)]
 #[tactic(auto)]
-fn listed(
+pub fn listed(
     context: &Context<'_>,
     list: &[Stmt],
     waiting: u64,

@@ -1,0 +1,17 @@
+-- The statements of a body, as a part of code.
+use Rattle.std.specs.Prelude.{ℕ}
+use Rattle.spl_tree.specs.StatementTrees.{Statements}
+use Rattle.spl_meaning.specs.Names.{Table, find}
+use Rattle.spl_code.specs.Parts.{Part}
+use Rattle.spl_code.specs.Calls.{Scope}
+use Rattle.spl_statement_code.specs.Landings.{Landing, Context}
+use Rattle.spl_statement_code.specs.Statements.{listed}
+use Rattle.spl_module_code.specs.LabelsOfBodies.{labels_among, with_landings}
+
+-- what the statements of a body are made with, where its labels lead as a table has it, and RETURN to a mark
+abbrev pub context_with : Scope → Table Landing → ℕ → Context
+context_with scope labels leave = record { scope = scope; landings = find labels; leave = leave }
+
+-- the statements of a body, behind new marks for its labels; nothing waits before them
+abbrev pub statements_part : Scope → Statements → ℕ → Part
+statements_part scope ss leave = with_landings (labels_among ss 0) (λ labels. listed (context_with scope labels leave) ss 0)
