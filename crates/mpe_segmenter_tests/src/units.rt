@@ -126,14 +126,7 @@ fn put_rest(code: &mut Code, main: bool, fill: u16) -> Result<(), Fail> {
 
 /// The module of a unit.
 fn module_of(alloc: Global, unit: &Unit) -> Result<Module, Fail> {
-    let mut code = Code {
-        segment: name(unit.segment),
-        pieces: Vec::new(alloc),
-        marks: Vec::new(alloc),
-        entries: Vec::new(alloc),
-        wants: Vec::new(alloc),
-        main: None,
-    };
+    let mut code = Code::new(alloc, name(unit.segment), Vec::new(alloc), None);
     put_defines(&mut code, unit)?;
     put_wants(&mut code, unit.wants)?;
     put_rest(&mut code, unit.main, unit.fill)?;

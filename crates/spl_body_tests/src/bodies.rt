@@ -20,14 +20,7 @@ static PLACE: At = At {
 
 /// A code without pieces.
 fn empty(alloc: Global) -> Code {
-    Code {
-        segment: Name::new(b"S"),
-        pieces: Vec::new(alloc),
-        marks: Vec::new(alloc),
-        entries: Vec::new(alloc),
-        wants: Vec::new(alloc),
-        main: None,
-    }
+    Code::new(alloc, Name::new(b"S"), Vec::new(alloc), None)
 }
 
 /// INTEGER PROCEDURE P(N); VALUE N; INTEGER N.

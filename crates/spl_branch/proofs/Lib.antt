@@ -8,6 +8,7 @@ pub mod StandLemmas
 pub mod WalkLemmas
 pub mod ChoiceLemmas
 pub mod StandingLemmas
+pub mod KeyLemmas
 pub mod FixLemmas
 pub mod CodeLaws
 pub mod KnownPieces

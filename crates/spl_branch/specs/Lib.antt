@@ -1,5 +1,6 @@
 -- In reading order.
 pub mod Pieces
+pub mod Keys
 pub mod Codes
 pub mod Branches
 pub mod Stands

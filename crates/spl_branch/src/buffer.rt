@@ -1,13 +1,15 @@
 //! Code as it is generated: a list of pieces with marks.
-ghost use Rattle.std.specs.Prelude.{◌≡◌, true, length};
+ghost use Rattle.std.specs.Prelude.{◌≡◌, true, length, map};
 ghost use Rattle.std.specs.List.{list_all};
 ghost use Rattle.spl_branch.specs.Pieces.{is_formed, is_made, named, InStep};
+ghost use Rattle.spl_branch.specs.Keys.{asked, seen};
 
 use crate::modules::Want;
 use crate::pieces::Piece;
-use crate::wants::find_want;
+use crate::wants::{Key, key_of};
+use indexmap::IndexSet;
 use spl_tree::Name;
-use std::alloc::AllocError;
+use std::alloc::{AllocError, Global};
 
 /// A procedure with a body, or a subroutine, while its code is generated.
 #[derive(Debug, PartialEq, Eq, Drop)]
@@ -33,6 +35,9 @@ pub struct Code {
     pub wants: Vec<Want>,
     /// The mark of the main body's first instruction, where the main body stands here.
     pub main: Option<usize>,
+    /// The names of the wants, by which they are found.
+    pub(crate) names: IndexSet<Key>,
+    ghost keyed: { map seen names.keys ≡ map asked wants.items },
     ghost made: { list_all (λ x. is_made (length marks.items) (named x)) pieces.items ≡ true },
     ghost formed: { list_all is_formed pieces.items ≡ true },
     ghost in_step: { InStep pieces.items marks.items },
@@ -42,6 +47,26 @@ impl Code {
     ghost use Rattle.std.specs.Prelude.{◌≡◌, ◌++◌, ◌∷◌, [], length, OnOk, OnErr, IfOk, true, false};
     ghost use Rattle.spl_branch.specs.Pieces.{is_formed, is_made, named, is_settable, with_mark};
     ghost use Rattle.spl_branch.specs.Codes.{SameFrame, want_place, with_want};
+
+    /// A code without pieces, marks and wants.
+    pub fn new(alloc: Global, segment: Name, entries: Vec<Entry>, main: Option<usize>) -> Code
+        ensures segment { result.segment ≡ segment }
+        ensures pieces { result.pieces.items ≡ [] }
+        ensures marks { result.marks.items ≡ [] }
+        ensures entries { result.entries ≡ entries }
+        ensures wants { result.wants.items ≡ [] }
+        ensures main { result.main ≡ main }
+    {
+        Code {
+            segment,
+            pieces: Vec::new(alloc),
+            marks: Vec::new(alloc),
+            entries,
+            wants: Vec::new(alloc),
+            main,
+            names: IndexSet::new(alloc),
+        }
+    }
 
     /// Makes a mark, which is not set.
     pub fn fresh(&mut self) -> Result<usize, AllocError>
@@ -85,10 +110,14 @@ impl Code {
         ensures marks { self.new.marks ≡ self.old.marks }
         ensures same { SameFrame self.old self.new }
     {
-        if let Some(index) = find_want(self.wants.as_slice(), name.text.as_slice(), gate) {
+        let key = key_of(&name, gate);
+        if let Some(index) = self.names.get_index_of(&key) {
             return Ok(index);
         }
         let index = self.wants.len();
+        // room first, so that the wants and their names grow together
+        self.wants.reserve(1)?;
+        self.names.insert(key)?;
         self.wants.push(Want { name, gate })?;
         Ok(index)
     }

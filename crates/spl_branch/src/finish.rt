@@ -150,6 +150,7 @@ impl Code {
             entries,
             wants,
             main,
+            names: _names,
         } = self;
         match place_marks(alloc, pieces.as_slice(), marks.as_slice())? {
             None => Ok(Module {

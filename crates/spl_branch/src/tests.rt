@@ -115,20 +115,14 @@ fn append(code: &mut Code, shape: Shape) -> Result<(), Fail> {
 
 /// A code with two marks, an entry at the first and the main body at the second.
 fn start(alloc: Global) -> Result<Code, Fail> {
-    let mut code = Code {
-        segment: name(),
-        pieces: Vec::new(alloc),
-        marks: Vec::new(alloc),
-        entries: vec![in alloc;
-            Entry {
-                name: name(),
-                mark: 0,
-                callable: true
-            },
-        ]?,
-        wants: Vec::new(alloc),
-        main: Some(1),
-    };
+    let entries = vec![in alloc;
+        Entry {
+            name: name(),
+            mark: 0,
+            callable: true
+        },
+    ]?;
+    let mut code = Code::new(alloc, name(), entries, Some(1));
     code.fresh()?;
     code.fresh()?;
     Ok(code)

@@ -1,12 +1,23 @@
-//! Names that are wanted, each once.
-ghost use Rattle.std.specs.Prelude.{◌≡◌, position};
-ghost use Rattle.spl_branch.specs.Codes.{same_want};
+//! Names that are wanted, as they are found.
+ghost use Rattle.std.specs.Prelude.{◌≡◌};
+ghost use Rattle.spl_branch.specs.Keys.{seen};
 
-use crate::modules::Want;
+use arrayvec::ArrayVec;
+use spl_tree::Name;
 
-/// The place of a want among others.
-pub fn find_want(wants: &[Want], name: &[u8], gate: bool) -> Option<usize>
-    ensures { result ≡ position (same_want name.now gate) wants.now }
+/// A name that is wanted, and whether it is an intrinsic's.
+#[derive(Debug, PartialEq, Eq, Hash, Drop)]
+pub struct Key {
+    pub name: ArrayVec<u8, 15>,
+    pub gate: bool,
+}
+
+/// The key of a name, an intrinsic's where `gate` is set.
+pub fn key_of(name: &Name, gate: bool) -> Key
+    ensures { seen result ≡ (name.now.text.items, gate) }
 {
-    wants.iter().position(|want| want.name.text.as_slice() == name && want.gate == gate)
+    Key {
+        name: name.copy().text,
+        gate,
+    }
 }

@@ -59,14 +59,7 @@ pub fn scope_in(maps: &Maps) -> Scope<'_> {
 
 /// A code without pieces.
 pub fn empty(alloc: Global) -> Code {
-    Code {
-        segment: Name::new(b"S"),
-        pieces: Vec::new(alloc),
-        marks: Vec::new(alloc),
-        entries: Vec::new(alloc),
-        wants: Vec::new(alloc),
-        main: None,
-    }
+    Code::new(alloc, Name::new(b"S"), Vec::new(alloc), None)
 }
 
 fn variable(alloc: Global) -> Expr {

@@ -1,5 +1,5 @@
 -- The words that are written are those of the pieces, with the marks where they stand.
-use Rattle.std.proofs.Common.{◌≡◌, ◌∙◌, ◌≤◌, ℕ, Some, Bool, true, length, map, slice_index, ap, sym, subst, refl, arith, List}
+use Rattle.std.proofs.Common.{◌≡◌, ◌∙◌, ◌≤◌, ℕ, Some, Bool, length, slice_index, ap, sym, subst, refl, arith, List}
 use Rattle.std.specs.List.{list_all}
 use Rattle.std.proofs.lemmas.List.{length-map}
 use Rattle.spl_branch.specs.declared.modules.Fix.{Fix}

@@ -6,4 +6,4 @@ use Rattle.spl_branch.proofs.buffer.Code.fresh.Goals as goal
 pub invariant_of-self : goal.invariant_of-self
 invariant_of-self c =
     let kept : Kept c.args.self.now.pieces.items c.push.new.self.items = kept_fresh c.args.self.now.pieces.items c.args.self.now.marks.items c.push.new.self.items (is_ok c.push.result) c.push.ensures.items c.args.self.now.made c.args.self.now.in_step in
-    record { made = kept.made; formed = c.args.self.now.formed; in_step = kept.in_step }
+    record { keyed = c.args.self.now.keyed; made = kept.made; formed = c.args.self.now.formed; in_step = kept.in_step }
