@@ -8,8 +8,6 @@ mod groups;
 mod instruction;
 mod labels;
 mod names;
-#[cfg(test)]
-mod tests;
 
 pub use codes::{control, immediate, major, shift, short};
 pub use decoder::decode;

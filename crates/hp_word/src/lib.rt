@@ -23,6 +23,3 @@ pub use logical::{ladd, lcmp, ldiv, lmpy, lsub};
 pub use numbers::{Number, read_number};
 pub use shifts::{Shift, shift_word};
 pub use texts::{decimal_text, octal_text};
-
-#[cfg(test)]
-mod tests;

@@ -9,8 +9,6 @@ mod place;
 mod said;
 mod settings;
 mod sizes;
-#[cfg(test)]
-mod tests;
 
 pub use commands::Command;
 pub use lines::{capitals, next_line, same};

@@ -8,8 +8,6 @@ mod numbers;
 mod point;
 mod refusals;
 mod reports;
-#[cfg(test)]
-mod tests;
 
 pub use listings::listing;
 pub use point::Point;

@@ -9,8 +9,6 @@ mod reader;
 mod reading;
 mod rules;
 mod taking;
-#[cfg(test)]
-mod tests;
 
 pub use faults::JobFault;
 pub use job::{Job, Text};

@@ -5,8 +5,6 @@ mod faults;
 mod file;
 mod laws;
 mod reader;
-#[cfg(test)]
-mod tests;
 mod writer;
 
 pub use faults::FileFault;

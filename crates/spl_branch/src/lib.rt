@@ -8,8 +8,6 @@ mod pieces;
 mod rounds;
 mod spots;
 mod survey;
-#[cfg(test)]
-mod tests;
 mod wants;
 mod words;
 

@@ -9,8 +9,6 @@ mod reserved;
 mod segments;
 mod signs;
 mod state;
-#[cfg(test)]
-mod tests;
 
 pub use lexer::tokens;
 pub use spl_cuts::{LexFault, LexKind};

@@ -3,8 +3,6 @@
 
 mod bytes;
 mod names;
-#[cfg(test)]
-mod tests;
 mod unread;
 
 pub use bytes::name_byte;

@@ -1,7 +1,7 @@
 //! Modules of pieces, with words worked by hand.
-use crate::{Code, Entry, FixKind, Module, Piece, Start};
 use arrayvec::ArrayVec;
 use hp_instr::{Instr, Op, control, has_word, short};
+use spl_branch::{Code, Entry, FixKind, Module, Piece, Start};
 use spl_tree::{At, Name};
 use std::alloc::Global;
 use std::test::Fail;

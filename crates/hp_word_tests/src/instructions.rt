@@ -1,5 +1,5 @@
 //! Words of the manual's page, each operation once, and all words decoded and encoded again.
-use crate::{
+use hp_instr::{
     Group, Instr, Label, Mode, Op, control, decode, encode, group_of, has_word, immediate,
     is_label, is_op, label_word, major, read_label, shift, short,
 };

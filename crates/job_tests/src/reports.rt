@@ -1,9 +1,12 @@
 //! Reports, refusals and listings worked by hand.
 
-use super::*;
 use arrayvec::ArrayVec;
 use hp_program::Program;
 use hp_word::{Ending, Trap};
+use job_report::{
+    FileRefusal, ModulesRefusal, Point, Refusal, UnitRefusal, listing, refusal_line, report,
+    summary,
+};
 use spl_tree::{At, Chars, FaultKind, Name};
 use std::alloc::{AllocError, Global};
 use std::process::Abort;

@@ -1,6 +1,9 @@
 //! Lines and commands worked by hand.
 
-use super::*;
+use job_lines::{
+    Command, LineKind, Place, Said, Setting, Settings, Size, capitals, command_said, kind_at,
+    next_line, program_name, same,
+};
 use std::alloc::Global;
 use std::process::Abort;
 use std::test::Fail;

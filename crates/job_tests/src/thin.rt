@@ -1,7 +1,7 @@
 //! Names worked by hand.
-use super::*;
 use spl_tree::{At, Name};
 use std::test::Fail;
+use thin_jobs::{declared, is_word, name_byte, quit_declared, terminate_declared};
 
 /// An intrinsic, as it is declared.
 fn gate(name: &[u8]) -> (Name, At) {

@@ -1,8 +1,12 @@
 //! Values from outside: worked by a program whose numbers have any size and whose shifts move one bit at a time.
 
-use super::*;
 use Code::{Equal, Greater, Less};
 use Shift::{Asl, Asr, Csl, Csr, Lsl, Lsr};
+use hp_word::{
+    Arith, Code, Number, Quotient, Shift, Wide, add, cmp, dadd, dcmp, decimal_text, deposit, div,
+    dneg, dsub, extract, ladd, lcmp, ldiv, lmpy, lsub, mpy, neg, octal_text, read_number,
+    shift_word, sub,
+};
 
 /// A word's result as the tables have it: value, carry, overflow, code.
 fn parts(r: Arith) -> (u16, bool, bool, Code) {
