@@ -1,0 +1,4 @@
+-- In reading order.
+pub mod DropLaws
+pub mod RoomLaws
+pub mod ArrayLaws
