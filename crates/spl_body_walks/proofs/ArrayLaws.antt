@@ -2,14 +2,13 @@
 -- 1. what is left of a unit, with an address for its next OWN array                 (moved)
 -- 2. behind a declaration that is no procedure it is the same                       (goes_plain)
 -- 3. behind a procedure it is moved by its OWN arrays' words                        (goes_routine)
-use Rattle.std.proofs.Common.{ℕ, suc, ◌≡◌, ◌+◌, add-zero, add_assoc, true, false, List, [], ◌∷◌, drop, Some, refl, sym, ap, subst, ◌∙◌}
-use Rattle.std.specs.List.{slice_get}
+use Rattle.std.proofs.Common.{ℕ, ◌≡◌, ◌+◌, add-zero, add_assoc, true, false, List, [], drop, refl, sym, ap, ◌∙◌}
 use Rattle.spl_tree.specs.DeclarationTrees as decl
 use Rattle.spl_tree.specs.DeclarationTrees.{Heading, Declaration, Declarations, declarations}
 use Rattle.spl_tree.specs.StatementTrees as stat
 use Rattle.spl_meaning.specs.Stops.{declaration_stops}
-use Rattle.spl_meaning.specs.Names.{Names, Sort, Table, find, nothing_declared, parameters, formals_of}
-use Rattle.spl_meaning.specs.Tables.{Source, Routine, routine_table, routines_of, routines_among, outer_names, with_declaration}
+use Rattle.spl_meaning.specs.Names.{Names, Sort, Table, find, nothing_declared}
+use Rattle.spl_meaning.specs.Tables.{Routine, routine_table, routines_of, routines_among, with_declaration}
 use Rattle.spl_meaning.specs.Places.{item_words, array_words, list_words, list_array_words}
 use Rattle.spl_meaning.specs.Bodies.{Named, reached_behind, own_table, all_routines, named_bodies, procedure_body}
 use Rattle.spl_found.specs.OwnNames.{behind_declaration}
@@ -24,7 +23,7 @@ use Rattle.spl_body_scopes.specs.Walks.{State, first_state, behind, Left}
 use Rattle.spl_body_scopes.proofs.ScopeLaws.{each_second, begins, goes_on}
 use Rattle.spl_body_scopes.proofs.UnitLaws.{units_enter}
 use Rattle.spl_body_walks.specs.Walks.{routine_here}
-use Rattle.spl_body_walks.specs.Arrays.{routines_arrays, ArraysLeft, UnitsArraysLeft, arrays_behind, UnitsArraysBegin, ArraysBegin, ArraysGoOn, UnitsArraysGoOn, BodiesFound}
+use Rattle.spl_body_walks.specs.Arrays.{routines_arrays, ArraysLeft, arrays_behind, UnitsArraysBegin, ArraysBegin, ArraysGoOn, UnitsArraysGoOn, BodiesFound}
 use Rattle.spl_body_walks.proofs.DropLaws.{drop_more, first_at}
 
 -- ---- 1. what is left of a unit, where the bodies that are left have their OWN arrays from an address on

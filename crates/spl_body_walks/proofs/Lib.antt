@@ -2,3 +2,4 @@
 pub mod DropLaws
 pub mod RoomLaws
 pub mod ArrayLaws
+pub mod CursorWalks

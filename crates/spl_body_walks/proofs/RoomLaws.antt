@@ -3,7 +3,7 @@
 -- 2. the rooms of a unit: its main body's, its procedures', its main body's subroutines'    (enters)
 -- 3. behind a declaration both indexes stand behind its rooms                               (goes_on)
 -- 4. what stands at them is the first of what is left                                       (first_routine, inner_room)
-use Rattle.std.proofs.Common.{ℕ, zero, suc, ◌≡◌, ◌+◌, ◌≤◌, Bool, true, false, if◌then◌else◌, List, [], ◌∷◌, ◌++◌, length, map, drop, Option, Some, None, refl, sym, ap, subst, ◌∙◌, arith}
+use Rattle.std.proofs.Common.{ℕ, suc, ◌≡◌, ◌+◌, ◌≤◌, Bool, true, false, if◌then◌else◌, List, [], ◌∷◌, ◌++◌, length, drop, Some, refl, sym, ap, subst, ◌∙◌, arith}
 use Rattle.std.proofs.lemmas.List.{append_assoc, length-map}
 use Rattle.std.specs.List.{slice_get}
 use Rattle.std.proofs.lemmas.Option.{slice_get-map}
@@ -17,9 +17,7 @@ use Rattle.spl_meaning.specs.Tables.{Source, Routine, Subroutine, with_declarati
 use Rattle.spl_meaning.specs.Limits.{joined}
 use Rattle.spl_rooms.specs.declared.room_type.Room.{Room}
 use Rattle.spl_rooms.specs.Rooms.{room_within, routine_room, routine_rooms, main_room, rooms_of}
-use Rattle.spl_scopes.specs.Entries.{routines_behind}
-use Rattle.spl_module_code.specs.Modules.{inner_behind}
-use Rattle.spl_body_walks.specs.Cursors.{behind_main, inner_count, rooms_behind, rooms_behind_all}
+use Rattle.spl_body_walks.specs.Cursors.{behind_main, inner_count, rooms_behind_all}
 use Rattle.spl_body_walks.specs.Walks.{UnitRooms, inner_rooms, RoomsLeft, routine_here, RoomsBegin, RoomsEnter, RoomsGoOn, RoomsLeave, MainRooms, RoutineRooms, NextRoutineRooms, InnerRooms, MainInnerRooms}
 use Rattle.spl_body_walks.proofs.DropLaws.{drop_more, first_at, fits_first, drop_behind, fits_behind, got_behind, drop_at}
 

@@ -11,7 +11,7 @@ use Rattle.spl_meaning.specs.Bodies.{global_words, primary_words, global_array_w
 use Rattle.spl_places.specs.Counters.{total_words}
 use Rattle.spl_places.specs.Programs.{unit_items, NewInAll}
 use Rattle.spl_areas.specs.Gathered.{items_in}
-use Rattle.spl_scopes.specs.Scopes.{Placed, unit_at, global_places, routine_bodies}
+use Rattle.spl_scopes.specs.Scopes.{Placed, global_places, routine_bodies}
 use Rattle.spl_body_scopes.specs.Walks.{State, first_state, behind, Left}
 use Rattle.spl_body_scopes.specs.Units.{UnitsLeft}
 use Rattle.spl_body_walks.specs.Walks.{routine_here}

@@ -1,6 +1,6 @@
 -- A walk along units and their declarations, and the rooms that it finds. It has two indexes in the list of rooms: that of the next procedure's,
 -- and that of the next subroutine's of the main body.
-use Rattle.std.specs.Prelude.{◌≡◌, ℕ, suc, ◌+◌, ◌≤◌, false, List, [], ◌∷◌, ◌++◌, drop, length, map, Some}
+use Rattle.std.specs.Prelude.{◌≡◌, ℕ, suc, ◌+◌, ◌≤◌, false, List, ◌∷◌, ◌++◌, drop, length, map, Some}
 use Rattle.std.specs.List.{slice_get}
 use Rattle.spl_tree.specs.DeclarationTrees as decl
 use Rattle.spl_tree.specs.DeclarationTrees.{Heading, Declaration, Declarations, declarations}

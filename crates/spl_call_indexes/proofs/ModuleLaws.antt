@@ -19,7 +19,7 @@ use Rattle.spl_meaning.specs.Bodies.{Body, Named, subroutine_body}
 use Rattle.spl_branch.specs.declared.pieces.Piece.{Piece}
 use Rattle.spl_branch.specs.declared.pieces.Piece.TheVariants.{Mark}
 use Rattle.spl_branch.specs.Pieces.{is_indexed}
-use Rattle.spl_code.specs.Parts.{Part, pieces, piece, nothing, wanted_of}
+use Rattle.spl_code.specs.Parts.{Part, piece, nothing, wanted_of}
 use Rattle.spl_code.specs.Constants.{constant}
 use Rattle.spl_code.specs.Operands.{mode_of}
 use Rattle.spl_code.specs.Instructions.{STOR}

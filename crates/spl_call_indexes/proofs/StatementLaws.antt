@@ -20,7 +20,7 @@ use Rattle.spl_code.specs.Parts.{Part, pieces, piece}
 use Rattle.spl_code.specs.Constants.{constant}
 use Rattle.spl_code.specs.Operands.{mode_of}
 use Rattle.spl_code.specs.Calls.{Scope}
-use Rattle.spl_code.specs.Code.{code, as_value, as_test, is_indexed}
+use Rattle.spl_code.specs.Code.{as_value, as_test, is_indexed}
 use Rattle.spl_code.specs.Stores.{stored, field_stored, pointer_stored, own_stored, cell_stored, element_stored, led_stored, own_field, led_field, from_top}
 use Rattle.spl_statement_code.specs.Instructions.{TEST, LSUB, SUBS, TBA, MTBA}
 use Rattle.spl_statement_code.specs.Landings.{Landing, Context, dropped, jump, gone_to, landed}
