@@ -1,49 +1,11 @@
--- Loops over declarations that count subroutines and rooms.
-use Rattle.std.proofs.Common.{ℕ, ◌≡◌, ◌<◌, ◌≤◌, ◌+◌, List, map, drop, length, get_or, refl, sym, ap, ◌∙◌, arith}
+-- A loop over declarations that counts rooms.
+use Rattle.std.proofs.Common.{ℕ, ◌≡◌, ◌<◌, ◌≤◌, ◌+◌, List, map, drop, length, get_or, arith}
 use Rattle.spl_tree.specs.declared.declarations.Decl.{Decl}
 use Rattle.spl_tree.specs.DeclarationTrees as decl
 use Rattle.spl_tree.specs.DeclarationTrees.{Declaration, Declarations, declarations}
 use Rattle.spl_tree.specs.Spells.{declaration}
 use Rattle.spl_lists.proofs.NameWalks.{onward, onward_end}
-use Rattle.spl_module_code.specs.Modules.{inner_behind}
-use Rattle.spl_body_walks.specs.Cursors.{inner_count, rooms_behind, rooms_behind_all}
-
--- ---- subroutines
-
--- one declaration counts at either end
-counts : (a b : ℕ) (d : Declaration) → inner_behind a d + b ≡ a + inner_behind b d
-counts a b (decl.Declaration.data_items own k items) = refl
-counts a b (decl.Declaration.equate es) = refl
-counts a b (decl.Declaration.intrinsic xs) = refl
-counts a b (decl.Declaration.label xs) = refl
-counts a b (decl.Declaration.forward h) = refl
-counts a b (decl.Declaration.external h) = refl
-counts a b (decl.Declaration.procedure h items ss) = refl
-counts a b (decl.Declaration.subroutine h s) = omega arith
-
-pub at_most_one : (a : ℕ) (d : Declaration) → inner_behind a d ≤ a + 1
-at_most_one a (decl.Declaration.data_items own k items) = omega arith
-at_most_one a (decl.Declaration.equate es) = omega arith
-at_most_one a (decl.Declaration.intrinsic xs) = omega arith
-at_most_one a (decl.Declaration.label xs) = omega arith
-at_most_one a (decl.Declaration.forward h) = omega arith
-at_most_one a (decl.Declaration.external h) = omega arith
-at_most_one a (decl.Declaration.procedure h items ss) = omega arith
-at_most_one a (decl.Declaration.subroutine h s) = omega arith
-
--- a declaration more
-pub inner_more : (count : ℕ) (list : List Decl) (i : ℕ) (d : Decl) → i < length list → d ≡ get_or list i d
-    → count + inner_count (declarations (map declaration (drop i list)))
-    ≡ inner_behind count (declaration d) + inner_count (declarations (map declaration (drop (i + 1) list)))
-inner_more count list i d lt is =
-    let rest = inner_count (declarations (map declaration (drop (i + 1) list))) in
-    ap (λ (k : ℕ). count + k) (onward declaration (λ ds. inner_count (declarations ds)) list i d lt is) ∙ sym (counts count rest (declaration d))
-
--- and none
-pub inner_end : (count : ℕ) (list : List Decl) (i : ℕ) → length list ≤ i → count + inner_count (declarations (map declaration (drop i list))) ≡ count
-inner_end count list i le =
-    let none : inner_count (declarations (map declaration (drop i list))) ≡ 0 = onward_end declaration (λ ds. inner_count (declarations ds)) list i le in
-    omega arith
+use Rattle.spl_body_walks.specs.Cursors.{rooms_behind, rooms_behind_all}
 
 -- ---- rooms
 

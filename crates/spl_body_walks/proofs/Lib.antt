@@ -3,3 +3,4 @@ pub mod DropLaws
 pub mod RoomLaws
 pub mod ArrayLaws
 pub mod CursorWalks
+mod KnownArrays
