@@ -1,0 +1,4 @@
+-- In reading order.
+pub mod Cursors
+pub mod Walks
+pub mod Arrays

@@ -1,0 +1,16 @@
+-- Calls in parts of code: what a call wants is among the names wanted behind its part, and the entry that it calls is one of so many.
+use Rattle.std.specs.Prelude.{◌≡◌, ℕ, ◌<◌, ◌≤◌, true, List, length, Some}
+use Rattle.std.specs.List.{list_all}
+use Rattle.spl_branch.specs.Pieces.{is_indexed}
+use Rattle.spl_code.specs.Parts.{Part, Wanted}
+use Rattle.spl_code.specs.Calls.{Scope}
+
+-- whatever stands before a part: no name that was wanted is lost, and each call has its index
+pub record IsIndexedPart (entries : ℕ) (part : Part) : Type 0 where
+  pub grows : (l : ℕ) (ws : List Wanted) → length ws ≤ length (part l ws).wants
+  pub calls : (l : ℕ) (ws : List Wanted) → list_all (is_indexed (length (part l ws).wants) entries) (part l ws).pieces ≡ true
+
+-- the entries that are called in a scope are among the first so many
+pub record EntriesBelow (entries : ℕ) (c : Scope) : Type 0 where
+  pub procedures : (x : List ℕ) (entry : ℕ) → c.procedures x ≡ Some entry → entry < entries
+  pub subroutines : (x : List ℕ) (entry : ℕ) → c.subroutines x ≡ Some entry → entry < entries

@@ -1,0 +1,3 @@
+-- In reading order.
+pub mod Indexes
+pub mod Laws
