@@ -1,0 +1,50 @@
+-- The program that is built of units that break no rule and pass no limit, or the first fault of their modules.
+use Rattle.std.specs.Prelude.{ℕ, ◌≡◌, List, None, Some}
+use Rattle.hp_program.specs.declared.program.Program.{Program}
+use Rattle.hp_program.specs.Programs.{segments_of}
+use Rattle.spl_meaning.specs.Tables.{Source}
+use Rattle.spl_meaning.specs.Limits.{first_full}
+use Rattle.spl_layout.specs.declared.layouts.Layout.{Layout}
+use Rattle.spl_layout.specs.Layouts.{IsLayout}
+use Rattle.spl_branch.specs.declared.modules.Module.{Module}
+use Rattle.spl_module_code.specs.Modules.{AreModules}
+use Rattle.mpe_segmenter.specs.declared.faults.PrepFault.{PrepFault}
+use Rattle.mpe_segmenter.specs.Faults.{Fault, fault_of, first_fault}
+use Rattle.mpe_segmenter.specs.Names.{parts}
+use Rattle.mpe_segmenter.specs.Programs.{Makes}
+use Rattle.mpe_segmenter.specs.Sites.{Links}
+use Rattle.spl_build.specs.declared.building.BuildFault.{BuildFault}
+use Rattle.spl_build.specs.declared.building.BuildFault.TheVariants as why
+
+-- Of modules without a fault this program is made, with these data words, and each of its entries leads to what it names.
+pub record IsLinked (modules : List Module) (globals : List ℕ) (p : Program) : Type 0 where
+  pub faultless : first_fault modules ≡ None
+  pub makes : Makes modules globals p
+  pub links : Links (parts modules) (segments_of p)
+
+-- The program is built of these units: it is what their modules make, with the data words of their layout. Code may take either form of a
+-- branch, so the modules of units are not one list, and this holds of more than one program.
+pub record IsBuilt (us : List Source) (p : Program) : Type 0 where
+  pub layout : Layout
+  pub is_layout : IsLayout us layout
+  pub modules : List Module
+  pub are_modules : AreModules us modules
+  pub linked : IsLinked modules layout.globals.items p
+
+-- the first fault of modules is this one, which is no want of memory
+pub record FailsFirst (modules : List Module) (f : PrepFault) : Type 0 where
+  pub fault : Fault
+  pub told : fault_of f ≡ Some fault
+  pub first : first_fault modules ≡ Some fault
+
+-- the units have modules whose first fault is this one
+pub record IsUnlinked (us : List Source) (f : PrepFault) : Type 0 where
+  pub modules : List Module
+  pub are_modules : AreModules us modules
+  pub fails : FailsFirst modules f
+
+-- why nothing is built of units: the first limit that they pass, or the first fault of their modules; want of memory says nothing
+abbrev pub IsUnbuilt : List Source → BuildFault → Type 0
+IsUnbuilt us (why.Limit limit at count) = first_full us ≡ Some (record { limit = limit; at = at; count = count })
+IsUnbuilt us (why.Modules f) = IsUnlinked us f
+IsUnbuilt us why.NoMemory = Unit {0}
