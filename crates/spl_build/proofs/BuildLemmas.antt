@@ -1,0 +1,15 @@
+-- What is linked of the modules of units, with the data words of their layout, is built of them.
+use Rattle.std.proofs.Common.{List, Result, Ok, Err}
+use Rattle.std.specs.Prelude.{IfOk}
+use Rattle.hp_program.specs.declared.program.Program.{Program}
+use Rattle.spl_meaning.specs.Tables.{Source}
+use Rattle.spl_layout.specs.declared.layouts.Layout.{Layout}
+use Rattle.spl_branch.specs.declared.modules.Module.{Module}
+use Rattle.spl_module_code.specs.Modules.{AreModules}
+use Rattle.spl_build.specs.Built.{IsLinked, IsBuilt}
+use Rattle.spl_build.specs.Steps.{IsLaid}
+
+pub built_so : {E : Type 0} (us : List Source) (l : Layout) (ms : List Module) (r : Result Program E) → IsLaid us l → AreModules us ms
+    → IfOk r (λ p. IsLinked ms l.globals.items p) → IfOk r (λ p. IsBuilt us p)
+built_so us l ms (Ok p) v m h = record { layout = l; is_layout = v.layout; modules = ms; are_modules = m; linked = h }
+built_so us l ms (Err e) v m h = tt
