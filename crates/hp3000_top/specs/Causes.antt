@@ -112,6 +112,6 @@ pub data SurelyUnprepared (bytes : List ℕ) : List ℕ → Type 0 where
 
 -- By the verb. What is wrong with a program file is always certain.
 abbrev pub SureCauseOf : Verb → List ℕ → List ℕ → Type 0
-SureCauseOf verb.Run bytes line = SureCause bytes line
-SureCauseOf verb.Prep bytes line = SurelyUnprepared bytes line
-SureCauseOf verb.List bytes line = Unlisted bytes line
+SureCauseOf verb.Run bytes told = SureCause bytes told
+SureCauseOf verb.Prep bytes told = SurelyUnprepared bytes told
+SureCauseOf verb.List bytes told = Unlisted bytes told
