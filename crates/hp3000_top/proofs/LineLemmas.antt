@@ -1,7 +1,8 @@
 -- No other line is that of a memory that is too small: its ninth byte tells.
-use Rattle.std.proofs.Common.{ℕ, ◌≡◌, Bool, true, false, nat_eq, List, Option, None, Some, refl, ap}
-use Rattle.std.specs.Prelude.{slice_get, codes}
-use Rattle.job_report.specs.Refusals.{job_refused}
+use Rattle.std.proofs.Common.{ℕ, ◌≡◌, Bool, true, false, nat_eq, List, Option, None, Some, Result, Ok, Err, Vec, Global, refl, ap, ◌∙◌}
+use Rattle.std.specs.Prelude.{slice_get, codes, IfOk}
+use Rattle.job_report.specs.declared.refusals.ModulesRefusal.{ModulesRefusal}
+use Rattle.job_report.specs.Refusals.{job_refused, modules_refused}
 use Rattle.job_text.specs.States.{TextValue}
 use Rattle.mpe_segmenter.specs.declared.faults.PrepFault.{PrepFault}
 use Rattle.mpe_segmenter.specs.declared.faults.PrepFault.TheVariants as link
@@ -9,7 +10,7 @@ use Rattle.mpe_turns.specs.declared.fault.OpenFault.{OpenFault}
 use Rattle.mpe_turns.specs.declared.fault.OpenFault.TheVariants.{StackTooSmall, MemoryTooSmall, NoMemory}
 use Rattle.spl_program.specs.declared.faults.ProgramFault.{ProgramFault}
 use Rattle.spl_program.specs.declared.faults.ProgramFault.TheVariants as why
-use Rattle.hp3000_top.specs.Programs.{fault_line, link_line, IsRefused, faulty, unlinked, FirstRefused}
+use Rattle.hp3000_top.specs.Programs.{fault_line, told_of, told_line, link_line, IsRefused, faulty, unlinked, FirstRefused}
 use Rattle.hp3000_top.specs.Programs as p
 use Rattle.hp3000_top.specs.Causes.{open_line}
 use Rattle.hp3000_top.specs.Answers.{IsOfMemory}
@@ -18,6 +19,12 @@ use Rattle.hp3000_top.specs.Steps.{IsOfStack}
 -- worked by hand: the line of program A, of whose modules none has a main body
 no_main_told : link_line (codes "A") link.NoMain ≡ codes "REFUSED PROGRAM A SEGMENTER NOMAIN\n"
 no_main_told = refl
+
+-- a line with another text of the same name, of what is told
+pub told_so : {E : Type 0} (name text : List ℕ) (f : PrepFault) (r : ModulesRefusal) (x : Result (Vec ℕ Global) E) → Some r ≡ told_of f → text ≡ name
+    → IfOk x (λ line. line.items ≡ modules_refused text r) → IfOk x (λ line. line.items ≡ link_line name f)
+told_so name text f r (Ok line) e t h = h ∙ ap (λ (n : List ℕ). modules_refused n r) t ∙ ap (told_line name) e
+told_so name text f r (Err x) e t h = tt
 
 -- the ninth byte of a line is an M
 abbrev is_m : Option ℕ → Bool

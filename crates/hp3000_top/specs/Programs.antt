@@ -1,6 +1,7 @@
 -- What is made of the texts of a job's programs: a program of each, or the line that tells why not.
-use Rattle.std.specs.Prelude.{ℕ, ◌≡◌, true, false, List, [], ◌∷◌, Some}
+use Rattle.std.specs.Prelude.{ℕ, ◌≡◌, true, false, List, [], ◌∷◌, Option, None, Some}
 use Rattle.job_report.specs.declared.refusals.UnitRefusal.TheVariants as wrong
+use Rattle.job_report.specs.declared.refusals.ModulesRefusal.{ModulesRefusal}
 use Rattle.job_report.specs.declared.refusals.ModulesRefusal.TheVariants as modules
 use Rattle.job_report.specs.Refusals.{unit_refused, modules_refused}
 use Rattle.job_text.specs.States.{TextValue}
@@ -45,16 +46,25 @@ fault_line name (why.Rule rule at) = unit_refused name at (wrong.Rule rule)
 fault_line name (why.Limit limit at) = unit_refused name at (wrong.Limit limit)
 fault_line name why.NoMemory = []
 
+-- what is told of a fault of modules; of want of memory nothing
+abbrev pub told_of : PrepFault → Option ModulesRefusal
+told_of link.NoMain = Some modules.NoMain
+told_of link.TwoMains = Some modules.TwoMains
+told_of (link.Doubled n) = Some (modules.Doubled n)
+told_of (link.Unresolved n) = Some (modules.Unresolved n)
+told_of (link.SegmentsFull count) = Some modules.SegmentsFull
+told_of (link.EntriesFull segment count) = Some (modules.EntriesFull segment)
+told_of (link.SegmentFull segment words) = Some (modules.SegmentFull segment)
+told_of link.NoMemory = None
+
+-- the line that tells it
+abbrev pub told_line : List ℕ → Option ModulesRefusal → List ℕ
+told_line name None = []
+told_line name (Some refusal) = modules_refused name refusal
+
 -- the line for a program whose modules have this fault; want of memory has none
 abbrev pub link_line : List ℕ → PrepFault → List ℕ
-link_line name link.NoMain = modules_refused name modules.NoMain
-link_line name link.TwoMains = modules_refused name modules.TwoMains
-link_line name (link.Doubled n) = modules_refused name (modules.Doubled n)
-link_line name (link.Unresolved n) = modules_refused name (modules.Unresolved n)
-link_line name (link.SegmentsFull count) = modules_refused name modules.SegmentsFull
-link_line name (link.EntriesFull segment count) = modules_refused name (modules.EntriesFull segment)
-link_line name (link.SegmentFull segment words) = modules_refused name (modules.SegmentFull segment)
-link_line name link.NoMemory = []
+link_line name f = told_line name (told_of f)
 
 -- a program is refused by this line: its texts have a fault; or they have none, and modules of its units have one
 pub data IsRefused (t : TextValue) : List ℕ → Type 0 where
