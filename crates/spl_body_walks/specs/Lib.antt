@@ -1,4 +1,0 @@
--- In reading order.
-pub mod Cursors
-pub mod Walks
-pub mod Arrays
