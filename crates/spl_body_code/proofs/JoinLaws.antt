@@ -36,7 +36,7 @@ written_so p {mark} {ps} {c} {made} {d} new m =
     ∙ ap (p (suc (length c.marks.items) + 0)) (m.wants ∙ ap (λ v. wants_of v.items) new.wants)
 
 -- an entry, statements and a way out, of which the mark was made first
-around_joined : (ps qs : List Piece) (entry : ℕ) (ss : ℕ → Part) (c made d e f : Code) → WithMark c made → Marked entry ps made d
+pub around_joined : (ps qs : List Piece) (entry : ℕ) (ss : ℕ → Part) (c made d e f : Code) → WithMark c made → Marked entry ps made d
     → StandsBehind (ss (length c.marks.items)) d e → Marked (length c.marks.items) qs e f
     → StandsBehind (with_fresh (λ leave. piece (Mark entry) ⨟ pieces ps ⨟ ss leave ⨟ piece (Mark leave) ⨟ pieces qs)) c f
 around_joined ps qs entry ss c made d e f new entered stated left =
@@ -91,11 +91,15 @@ entry_stands : (entry : ℕ) (ps : List Piece) {c d : Code} → Marked entry ps 
 entry_stands entry ps m = record { pieces = m.pieces; marks = omega (arith, marks_after m); wants = m.wants; same = m.same }
 
 -- what is appended stands behind
-appended_stands : (p : Part) {c d : Code} → Appends p c d → StandsBehind p c d
+pub appended_stands : (p : Part) {c d : Code} → Appends p c d → StandsBehind p c d
 appended_stands p a = record { pieces = a.pieces; marks = marks_behind a; wants = a.wants; same = a.same }
+
+pub main_stands : (ps : List Piece) (entry : ℕ) (ss : Part) (c d e f : Code) → Marked entry ps c d → StandsBehind ss d e → Appends main_left e f
+    → StandsBehind (piece (Mark entry) ⨟ pieces ps ⨟ ss ⨟ main_left) c f
+main_stands ps entry ss c d e f entered stated left =
+    then_stands (piece (Mark entry) ⨟ pieces ps ⨟ ss) main_left
+    (then_stands (piece (Mark entry) ⨟ pieces ps) ss (entry_stands entry ps entered) stated) (appended_stands main_left left)
 
 pub main_joined : (b : Body) (entry : ℕ) (ss : Part) (c d e f : Code) → Marked entry (granted b.depth') c d → StandsBehind ss d e → Appends main_left e f
     → StandsBehind (main_code b entry ss) c f
-main_joined b entry ss c d e f entered stated left =
-    then_stands (piece (Mark entry) ⨟ pieces (granted b.depth') ⨟ ss) main_left
-    (then_stands (piece (Mark entry) ⨟ pieces (granted b.depth')) ss (entry_stands entry (granted b.depth') entered) stated) (appended_stands main_left left)
+main_joined b entry ss c d e f entered stated left = main_stands (granted b.depth') entry ss c d e f entered stated left

@@ -92,7 +92,7 @@ begins us n p new at =
     }
 
 -- the routine that a procedure is, behind a list
-abbrev made : Table Sort → ℕ → Heading → Declarations → List stat.Statement → Routine
+abbrev pub made : Table Sort → ℕ → Heading → Declarations → List stat.Statement → Routine
 made t m h items ss = record {
   heading = h;
   items = items;
@@ -179,10 +179,10 @@ goes_on p s (decl.Declaration.procedure h items ss) ds left =
 -- ---- 2. the next procedure
 
 -- its body
-abbrev body_left : Placed → State → Table Sort → ℕ → ℕ → Heading → Declarations → List stat.Statement → Body
+abbrev pub body_left : Placed → State → Table Sort → ℕ → ℕ → Heading → Declarations → List stat.Statement → Body
 body_left p s t m arrays h items ss = procedure_body (global_places p) s.own arrays (made t m h items ss)
 
-routine_next : (p : Placed) (s : State) (h : Heading) (items : Declarations) (ss : List stat.Statement) (ds : Declarations)
+pub routine_next : (p : Placed) (s : State) (h : Heading) (items : Declarations) (ss : List stat.Statement) (ds : Declarations)
     (left : Left p s (decl.and (decl.Declaration.procedure h items ss) ds))
     → slice_get (routines_of p.unit) s.count ≡ Some (made left.table left.before h items ss)
 routine_next p s h items ss ds left =
@@ -190,7 +190,7 @@ routine_next p s h items ss ds left =
     (routines_among (with_declaration nothing_declared left.table (decl.Declaration.procedure h items ss)) (left.before + declaration_stops (decl.Declaration.procedure h items ss)) ds)
     left.routines
 
-body_next : (p : Placed) (s : State) (h : Heading) (items : Declarations) (ss : List stat.Statement) (ds : Declarations)
+pub body_next : (p : Placed) (s : State) (h : Heading) (items : Declarations) (ss : List stat.Statement) (ds : Declarations)
     (left : Left p s (decl.and (decl.Declaration.procedure h items ss) ds))
     → slice_get (routine_bodies p) s.count ≡ Some (record { name = h.name; body = body_left p s left.table left.before left.own_arrays h items ss })
 body_next p s h items ss ds left =
@@ -259,7 +259,7 @@ same_scope : (es : List Entry) (o : Owner) (n m : Names) (a b : Spots) → n ≡
 same_scope es o n m a b names places = ap (λ (k : Names). with_entries es o k a) names ∙ ap (λ (c : Spots). with_entries es o m c) places
 
 -- the names and places of a procedure's body are those of its level over its unit's
-body_names : (p : Placed) (s : State) (here : Names) (h : Heading) (items : Declarations) (ss : List stat.Statement) (ds : Declarations)
+pub body_names : (p : Placed) (s : State) (here : Names) (h : Heading) (items : Declarations) (ss : List stat.Statement) (ds : Declarations)
     (left : Left p s (decl.and (decl.Declaration.procedure h items ss) ds)) → here ≡ (behind s (decl.Declaration.procedure h items ss)).names
     → here ≡ outer_names (made left.table left.before h items ss)
 body_names p s here h items ss ds left is = is ∙ names_behind s.names left.table (decl.Declaration.procedure h items ss) left.names
@@ -300,7 +300,7 @@ one_heading m (decl.Declaration.external h) = refl
 one_heading m (decl.Declaration.procedure h items ss) = refl
 one_heading m (decl.Declaration.subroutine h s) = refl
 
-all_headings : (m : ℕ) (ds : Declarations) → map (λ (s : Subroutine). s.heading) (subroutines_among m ds) ≡ inner_headings ds
+pub all_headings : (m : ℕ) (ds : Declarations) → map (λ (s : Subroutine). s.heading) (subroutines_among m ds) ≡ inner_headings ds
 all_headings m decl.none = refl
 all_headings m (decl.and d ds) =
     map-append (λ (s : Subroutine). s.heading) (subroutine_in m d) (subroutines_among (m + declaration_stops d) ds)
@@ -347,10 +347,10 @@ inner_scope p s here h items ss ds j sub left is at =
 -- ---- the main body
 
 -- the names of a unit, where all of its declarations are behind
-unit_named : (p : Placed) (s : State) → Left p s decl.none → s.names ≡ find (unit_table p.unit)
+pub unit_named : (p : Placed) (s : State) → Left p s decl.none → s.names ≡ find (unit_table p.unit)
 unit_named p s left = left.names ∙ ap (λ (t : Table Sort). find t) left.whole
 
-main_there : (p : Placed) → p.unit.subprogram ≡ false → outer_body p main ≡ Some (main_body (global_places p) p.unit)
+pub main_there : (p : Placed) → p.unit.subprogram ≡ false → outer_body p main ≡ Some (main_body (global_places p) p.unit)
 main_there p is = ap (λ (b : Bool). if b then None else Some (main_body (global_places p) p.unit)) is
 
 pub main_scope : MainScopes

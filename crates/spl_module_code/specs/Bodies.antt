@@ -1,5 +1,5 @@
 -- The code of a body in its module: its labels, and its statements in the scope that it has there.
-use Rattle.std.specs.Prelude.{ℕ, Bool, true, false, if◌then◌else◌, List, [], ◌∷◌, Option, Some, None, option_map}
+use Rattle.std.specs.Prelude.{ℕ, suc, Bool, true, false, if◌then◌else◌, List, [], ◌∷◌, Option, Some, None, option_map}
 use Rattle.spl_tree.specs.declared.expressions.Kind.{Kind}
 use Rattle.spl_meaning.specs.Names as n
 use Rattle.spl_meaning.specs.Names.{Sort, Names, Table, find, or_else}
@@ -11,7 +11,7 @@ use Rattle.spl_code.specs.Calls.{Scope}
 use Rattle.spl_statement_code.specs.Landings.{Landing, Context}
 use Rattle.spl_statement_code.specs.Statements.{listed}
 use Rattle.spl_body_code.specs.Bodies.{procedure_code, subroutine_code, main_code}
-use Rattle.spl_scopes.specs.Entries.{Owner, main, routine, Entry, procedure_index, subroutine_index}
+use Rattle.spl_scopes.specs.Entries.{Owner, main, routine, Entry}
 use Rattle.spl_scopes.specs.Scopes.{scope_with}
 use Rattle.spl_module_code.specs.LabelsOfBodies.{labels_among, with_landings}
 
@@ -41,27 +41,22 @@ context_of es o b labels leave = record { scope = statements_scope es o b; landi
 abbrev pub body_statements : List Entry → Owner → Body → ℕ → Part
 body_statements es o b leave = with_landings (labels_among b.statements 0) (λ labels. listed (context_of es o b labels leave) b.statements 0)
 
--- code at an entry that there is
-abbrev pub at_entry : Option ℕ → (ℕ → Part) → Part
-at_entry None code = nothing
-at_entry (Some entry) code = code entry
-
--- a subroutine of a body; the mark of an entry is its index
-abbrev pub subroutine_part : List Entry → Owner → Body → Subroutine → Part
-subroutine_part es o b s =
+-- A subroutine of a body, which is the entry of that number in its module; the mark of an entry is its number.
+abbrev pub subroutine_part : List Entry → Owner → Body → ℕ → Subroutine → Part
+subroutine_part es o b entry s =
     let inner = subroutine_body b s in
-    at_entry (subroutine_index o es s.heading.name) (λ entry. subroutine_code inner entry (body_statements es o inner))
+    subroutine_code inner entry (body_statements es o inner)
 
--- subroutines in order
-abbrev pub subroutine_parts : List Entry → Owner → Body → List Subroutine → Part
-subroutine_parts es o b [] = nothing
-subroutine_parts es o b (s ∷ ss) = subroutine_part es o b s ⨟ subroutine_parts es o b ss
+-- subroutines in order, the first of which is the entry of that number
+abbrev pub subroutine_parts : List Entry → Owner → Body → ℕ → List Subroutine → Part
+subroutine_parts es o b entry [] = nothing
+subroutine_parts es o b entry (s ∷ ss) = subroutine_part es o b entry s ⨟ subroutine_parts es o b (suc entry) ss
 
--- a procedure of a unit by its number, behind its subroutines
-abbrev pub routine_part : List Entry → ℕ → Named → Part
-routine_part es i b =
-    subroutine_parts es (routine i) b.body b.body.subroutines
-    ⨟ at_entry (procedure_index es b.name) (λ entry. procedure_code b.body entry (body_statements es (routine i) b.body))
+-- A procedure of a unit by its number there, which is the entry of that number in its module. Its subroutines are the entries behind it, and
+-- their code stands before its own.
+abbrev pub routine_part : List Entry → ℕ → ℕ → Named → Part
+routine_part es i entry b =
+    subroutine_parts es (routine i) b.body (suc entry) b.body.subroutines ⨟ procedure_code b.body entry (body_statements es (routine i) b.body)
 
 -- a main body, at a mark behind those of the entries; no RETURN stands in it
 abbrev pub main_part : List Entry → ℕ → Body → Part
