@@ -3,9 +3,10 @@
 use Rattle.std.proofs.Common.{ℕ, ◌≡◌, Bool, true, false, not, if◌then◌else◌, List, [], ◌∷◌, ◌++◌, refl, inl, subst, ap, ◌∙◌, ◌+◌}
 use Rattle.spl_tree.specs.DeclarationTrees as decl
 use Rattle.spl_tree.specs.DeclarationTrees.{Heading, Declaration, Declarations, declarations}
+use Rattle.spl_tree.specs.StatementTrees as stat
 use Rattle.spl_tree.specs.StatementTrees.{Statement, Statements, statements}
 use Rattle.spl_meaning.specs.Names.{Sort, Table, find, nothing_declared, parameters, formals_of}
-use Rattle.spl_meaning.specs.Tables.{Source, Routine, with_declaration, routine_in, routines_among, routines_of, subroutine_in, subroutines_among}
+use Rattle.spl_meaning.specs.Tables.{Source, Routine, Subroutine, with_declaration, routine_in, routines_among, routines_of, subroutine_in, subroutines_among, unit_subroutines}
 use Rattle.spl_meaning.specs.Bodies.{all_routines}
 use Rattle.spl_meaning.specs.Stops.{declaration_stops}
 use Rattle.spl_meaning.specs.ExpressionRules.{Scope}
@@ -18,11 +19,11 @@ use Rattle.spl_sound_labels.specs.Labels.{LabelsOnce, LabelsOnceInSubroutine, La
 
 -- ---- lists of faults that are empty
 
-left_none : {A : Type 0} (xs ys : List A) → xs ++ ys ≡ [] → xs ≡ []
+pub left_none : {A : Type 0} (xs ys : List A) → xs ++ ys ≡ [] → xs ≡ []
 left_none [] ys is = refl
 left_none (x ∷ xs) ys is = cc
 
-right_none : {A : Type 0} (xs ys : List A) → xs ++ ys ≡ [] → ys ≡ []
+pub right_none : {A : Type 0} (xs ys : List A) → xs ++ ys ≡ [] → ys ≡ []
 right_none [] ys is = is
 right_none (x ∷ xs) ys is = cc
 
@@ -131,7 +132,7 @@ units_once before (u ∷ us) none =
     let second = units_once (before ++ u ∷ []) us (right_none of_u of_rest none) in
     ((first.0, second.0), each_both LabelsOnceInRoutine (routines_of u) (all_routines us) first.1 second.1)
 
-no_faults : (us : List Source) (fs : List Fault) → fs ≡ all_faults us → IsSound us → fs ≡ []
+pub no_faults : (us : List Source) (fs : List Fault) → fs ≡ all_faults us → IsSound us → fs ≡ []
 no_faults us [] is sound = refl
 no_faults us (f ∷ fs) is sound = absurd (sound f.rule f.at (subst (IsAmong f) is (inl refl)))
 

@@ -1,5 +1,5 @@
 -- Bodies in which no label stands twice: those of all units, of their procedures and of the subroutines of both.
-use Rattle.std.specs.Prelude.{◌≡◌, List, []}
+use Rattle.std.specs.Prelude.{◌≡◌, true, List, []}
 use Rattle.spl_tree.specs.StatementTrees as stat
 use Rattle.spl_tree.specs.StatementTrees.{Statements, statements}
 use Rattle.spl_meaning.specs.Tables.{Source, Routine, Subroutine, routine_subroutines, unit_subroutines}
@@ -28,7 +28,14 @@ LabelsOnceInUnit u = LabelsOnce (statements u.tree.statements) × Each LabelsOnc
 abbrev pub LabelsOnceInAll : List Source → Type 0
 LabelsOnceInAll us = Each LabelsOnceInUnit us × Each LabelsOnceInRoutine (all_routines us)
 
+-- a subprogram has no subroutines
+abbrev pub NoSubroutines : Source → Type 0
+NoSubroutines u = u.subprogram ≡ true → unit_subroutines u ≡ []
+
 -- ---- laws
+
+abbrev pub SoundSubprogramsHaveNoSubroutines : Type 0
+SoundSubprogramsHaveNoSubroutines = (us : List Source) → IsSound us → Each NoSubroutines us
 
 abbrev pub SoundLabelsStandOnce : Type 0
 SoundLabelsStandOnce = (us : List Source) → IsSound us → LabelsOnceInAll us

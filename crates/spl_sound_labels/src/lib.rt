@@ -3,4 +3,4 @@
 
 mod laws;
 
-pub use laws::sound_labels_stand_once;
+pub use laws::{sound_labels_stand_once, sound_subprograms_have_no_subroutines};
