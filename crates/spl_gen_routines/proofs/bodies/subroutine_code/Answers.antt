@@ -1,0 +1,44 @@
+-- The entry's mark may be set, and then that of the way out.
+use Rattle.spl_operations.proofs.PutLemmas.{ok_then}
+use Rattle.std.proofs.Common.{map}
+use Rattle.spl_tree.specs.Views as view
+use Rattle.spl_tree.specs.StatementTrees as trees
+use Rattle.spl_tree.specs.Spells.{heading_tree}
+use Rattle.spl_meaning.specs.Names.{formals_of}
+use Rattle.spl_meaning.specs.Pending.{formals_words}
+use Rattle.spl_gen_expr.specs.Scopes.{scope_of}
+use Rattle.spl_body_code.specs.Frames.{granted}
+use Rattle.spl_body_code.specs.Bodies.{subroutine_left}
+use Rattle.spl_landings.specs.Bodies.{statements_part}
+use Rattle.spl_gen_routines.proofs.WholeBodies.{with_mark, free_to_enter, made_to_leave, free_to_leave, body_done}
+use Rattle.spl_gen_routines.proofs.bodies.subroutine_code.Goals as goal
+
+pub enter_subroutine-requires : goal.enter_subroutine-requires
+enter_subroutine-requires c =
+    let new = c.in_ok-leave.ensures in
+    free_to_enter c.args.entry c.requires.free (with_mark new.pieces new.marks new.wants new.same)
+
+pub body_statements-requires : goal.body_statements-requires
+body_statements-requires c =
+    let new = c.in_ok-leave.ensures in
+    record {
+      made = made_to_leave c.requires.free new.mark (with_mark new.pieces new.marks new.wants new.same) c.in_ok-enter_subroutine.ensures;
+      once = c.requires.once;
+    }
+
+pub leave_subroutine-requires : goal.leave_subroutine-requires
+leave_subroutine-requires c =
+    let new = c.in_ok-leave.ensures in
+    free_to_leave {p = statements_part (scope_of c.args.scope.now) (trees.statements (map view.statement c.args.statements.now)) c.in_ok-leave.leave}
+    c.requires.free new.mark (with_mark new.pieces new.marks new.wants new.same) c.in_ok-enter_subroutine.ensures c.in_ok-body_statements.ensures.code
+
+pub returns : goal.returns
+returns c =
+    let new = c.in_ok-leave.ensures in
+    let words = formals_words (formals_of (heading_tree c.args.heading.now)) in
+    ok_then c.leave_subroutine.result
+    (λ out. body_done (granted c.args.room.depth) (subroutine_left words) c.args.entry c.in_ok-leave.leave
+    (statements_part (scope_of c.args.scope.now) (trees.statements (map view.statement c.args.statements.now)))
+    c.args.code.now c.fresh.new.self c.enter_subroutine.new.code c.body_statements.new.code c.leave_subroutine.new.code
+    c.requires.free new.mark (with_mark new.pieces new.marks new.wants new.same) c.in_ok-enter_subroutine.ensures c.in_ok-body_statements.ensures.code out)
+    c.leave_subroutine.ensures

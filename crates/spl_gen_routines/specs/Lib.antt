@@ -1,0 +1,5 @@
+-- In reading order.
+pub mod Generates
+pub mod Scoped
+pub mod Routines
+pub mod Views

@@ -1,0 +1,20 @@
+-- What stands around subroutines, as the code has it.
+use Rattle.spl_body_scopes.specs.Levels.{level_of}
+use Rattle.spl_tree.specs.Spells.{heading_tree}
+use Rattle.spl_body_scopes.specs.Results.{result_of, routine_result}
+use Rattle.spl_body_scopes.specs.Found.{calls_in}
+use Rattle.spl_gen_routines.specs.declared.inners.Around as code
+use Rattle.spl_gen_routines.specs.declared.routines.Declared.{Declared}
+use Rattle.spl_gen_routines.specs.Routines.{Around}
+
+abbrev pub around_of : code.Around → Around
+around_of a = record { own = level_of a.own.now; outer = level_of a.outer.now; result = result_of a.result.now; calls = calls_in a.entries }
+
+-- what stands around the subroutines of a procedure
+abbrev pub routine_around : Declared → Around
+routine_around d = record {
+  own = level_of d.own.now;
+  outer = level_of d.outer.now;
+  result = routine_result (level_of d.own.now).names (heading_tree d.heading.now);
+  calls = calls_in d.entries;
+}

@@ -1,0 +1,11 @@
+//! The code of whole bodies: procedures with their subroutines, and main bodies, appended to the code of their module.
+#![tactic(auto)]
+
+mod bodies;
+mod inners;
+mod rooms;
+mod routines;
+
+pub use inners::{Around, inner_count, subroutine};
+pub use rooms::room_at;
+pub use routines::{Declared, listed_items, main_body, routine};
