@@ -1,0 +1,24 @@
+-- What codes become, code by code.
+use Rattle.std.proofs.Common.{◌≡◌, ◌⊎◌, inl, inr, ℕ, suc, List, [], ◌∷◌, ◌++◌, length, Option, Some, sym, ap, subst, ◌∙◌}
+use Rattle.std.specs.List.{slice_get}
+use Rattle.spl_branch.specs.declared.modules.Module.{Module}
+use Rattle.spl_unit_codes.specs.declared.growing.Growing.{Growing}
+use Rattle.spl_unit_codes.specs.Slots.{IsSlot, AreSlots}
+use Rattle.spl_unit_codes.proofs.ListWalks.{pushed_cases, old_stays, last_there, one_longer}
+
+-- what one code more becomes
+pub slots_more : (parts : List Growing) (slots new : List (Option Module)) (x : Growing) (o : Option Module) → AreSlots parts slots → IsSlot x.code o
+    → new ≡ slots ++ o ∷ [] → AreSlots (parts ++ x ∷ []) new
+slots_more parts slots new x o k one push = subst (λ ss. AreSlots (parts ++ x ∷ []) ss) (sym push) (record {
+  number = one_longer slots o ∙ ap suc k.number ∙ sym (one_longer parts x);
+  each = λ g y e. by g y (pushed_cases parts x g y e);
+})
+  where
+    by : (g : ℕ) (y : Growing) → (slice_get parts g ≡ Some y) ⊎ ((g ≡ length parts) × (x ≡ y))
+        → (p : Option Module) × (slice_get (slots ++ o ∷ []) g ≡ Some p) × IsSlot y.code p
+    by g y (inl h) = let old = k.each g y h in (old.0, old_stays slots o g old.0 old.1, old.2)
+    by g y (inr h) = (
+      o,
+      ap (λ i. slice_get (slots ++ o ∷ []) i) (h.0 ∙ sym k.number) ∙ last_there slots o,
+      subst (λ (z : Growing). IsSlot z.code o) h.1 one,
+    )
