@@ -1,0 +1,14 @@
+pub mod LeftSteps
+pub mod InnerParts
+pub mod RoutineParts
+pub mod RoomWalks
+pub mod Declared
+pub mod Sequences
+pub mod Reaches
+pub mod UnitSteps
+pub mod UnitWalks
+pub mod UnitEnds
+pub mod Picks
+pub mod UnitMade
+pub mod OnceLaws
+pub mod Modules

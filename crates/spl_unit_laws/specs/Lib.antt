@@ -1,0 +1,5 @@
+-- In reading order.
+pub mod Known
+pub mod Steps
+pub mod Units
+pub mod Laws
