@@ -32,8 +32,8 @@ use Rattle.spl_scopes.specs.Entries.{Owner, main, routine, Entry, Callee, is_cal
 use Rattle.spl_scopes.specs.Scopes.{Placed, routine_bodies, outer_body}
 use Rattle.spl_modules.specs.Made.{made_of, made_from}
 use Rattle.spl_module_code.specs.LabelsOfBodies.{Label, labels_among, with_landings}
-use Rattle.spl_module_code.specs.Bodies.{statements_scope, context_of, body_statements, at_entry, subroutine_part, subroutine_parts, routine_part}
-use Rattle.spl_module_code.specs.Modules.{inner_behind, routine_at, inner_with, inner_at, declared_part, declared_parts, holds_main, main_at, marks_before, module_written}
+use Rattle.spl_module_code.specs.Bodies.{statements_scope, context_of, body_statements, subroutine_part, subroutine_parts, routine_part}
+use Rattle.spl_module_code.specs.Modules.{inner_behind, routine_at, inner_with, inner_at, entries_behind, declared_part, declared_parts, holds_main, main_at, marks_before, module_written}
 use Rattle.spl_call_indexes.specs.Indexes.{IsIndexedPart, EntriesBelow}
 use Rattle.spl_call_indexes.specs.Laws.{BodyStatementsAreIndexed, ModuleIsIndexed, CodesHaveIndexes}
 use Rattle.spl_call_indexes.proofs.PartLaws.{Plain, plain_both, plain_if, plain_rows, indexed_pieces, indexed_then, indexed_fresh, indexed_if, indexed_want}
@@ -176,60 +176,55 @@ indexed_statements es o b leave =
     indexed_landings (labels_among b.statements 0) _
     (λ labels. indexed_listed (length es) (context_of es o b labels leave) (entries_below es o b) b.statements 0)
 
-indexed_entry : {n : ℕ} (o : Option ℕ) (f : ℕ → Part) → ((mark : ℕ) → IsIndexedPart n (f mark)) → IsIndexedPart n (at_entry o f)
-indexed_entry None f h = indexed_pieces [] (λ m n. refl)
-indexed_entry (Some mark) f h = h mark
+indexed_subroutine_part : (es : List Entry) (o : Owner) (b : Body) (entry : ℕ) (s : Subroutine) → IsIndexedPart (length es) (subroutine_part es o b entry s)
+indexed_subroutine_part es o b entry s =
+    indexed_subroutine (subroutine_body b s) entry (body_statements es o (subroutine_body b s)) (λ leave. indexed_statements es o (subroutine_body b s) leave)
 
-indexed_subroutine_part : (es : List Entry) (o : Owner) (b : Body) (s : Subroutine) → IsIndexedPart (length es) (subroutine_part es o b s)
-indexed_subroutine_part es o b s =
-    indexed_entry (subroutine_index o es s.heading.name) (λ mark. subroutine_code (subroutine_body b s) mark (body_statements es o (subroutine_body b s)))
-    (λ mark. indexed_subroutine (subroutine_body b s) mark (body_statements es o (subroutine_body b s)) (λ leave. indexed_statements es o (subroutine_body b s) leave))
+indexed_subroutine_parts : (es : List Entry) (o : Owner) (b : Body) (entry : ℕ) (ss : List Subroutine) → IsIndexedPart (length es) (subroutine_parts es o b entry ss)
+indexed_subroutine_parts es o b entry [] = indexed_pieces [] (λ m n. refl)
+indexed_subroutine_parts es o b entry (s ∷ ss) = indexed_then (indexed_subroutine_part es o b entry s) (indexed_subroutine_parts es o b (suc entry) ss)
 
-indexed_subroutine_parts : (es : List Entry) (o : Owner) (b : Body) (ss : List Subroutine) → IsIndexedPart (length es) (subroutine_parts es o b ss)
-indexed_subroutine_parts es o b [] = indexed_pieces [] (λ m n. refl)
-indexed_subroutine_parts es o b (s ∷ ss) = indexed_then (indexed_subroutine_part es o b s) (indexed_subroutine_parts es o b ss)
+indexed_routine_part : (es : List Entry) (i entry : ℕ) (b : Named) → IsIndexedPart (length es) (routine_part es i entry b)
+indexed_routine_part es i entry b =
+    indexed_then (indexed_subroutine_parts es (routine i) b.body (suc entry) b.body.subroutines)
+    (indexed_procedure b.body entry (body_statements es (routine i) b.body) (λ leave. indexed_statements es (routine i) b.body leave))
 
-indexed_routine_part : (es : List Entry) (i : ℕ) (b : Named) → IsIndexedPart (length es) (routine_part es i b)
-indexed_routine_part es i b =
-    indexed_then (indexed_subroutine_parts es (routine i) b.body b.body.subroutines)
-    (indexed_entry (procedure_index es b.name) (λ mark. procedure_code b.body mark (body_statements es (routine i) b.body))
-    (λ mark. indexed_procedure b.body mark (body_statements es (routine i) b.body) (λ leave. indexed_statements es (routine i) b.body leave)))
+indexed_routine_at : (es : List Entry) (i entry : ℕ) (o : Option Named) → IsIndexedPart (length es) (routine_at es i entry o)
+indexed_routine_at es i entry None = indexed_pieces [] (λ m n. refl)
+indexed_routine_at es i entry (Some b) = indexed_routine_part es i entry b
 
-indexed_routine_at : (es : List Entry) (i : ℕ) (o : Option Named) → IsIndexedPart (length es) (routine_at es i o)
-indexed_routine_at es i None = indexed_pieces [] (λ m n. refl)
-indexed_routine_at es i (Some b) = indexed_routine_part es i b
+indexed_inner_with : (es : List Entry) (b : Body) (entry : ℕ) (o : Option Subroutine) → IsIndexedPart (length es) (inner_with es b entry o)
+indexed_inner_with es b entry None = indexed_pieces [] (λ m n. refl)
+indexed_inner_with es b entry (Some s) = indexed_subroutine_part es main b entry s
 
-indexed_inner_with : (es : List Entry) (b : Body) (o : Option Subroutine) → IsIndexedPart (length es) (inner_with es b o)
-indexed_inner_with es b None = indexed_pieces [] (λ m n. refl)
-indexed_inner_with es b (Some s) = indexed_subroutine_part es main b s
-
-indexed_inner_at : (es : List Entry) (j : ℕ) (o : Option Body) → IsIndexedPart (length es) (inner_at es j o)
-indexed_inner_at es j None = indexed_pieces [] (λ m n. refl)
-indexed_inner_at es j (Some b) = indexed_inner_with es b (slice_get b.subroutines j)
+indexed_inner_at : (es : List Entry) (j entry : ℕ) (o : Option Body) → IsIndexedPart (length es) (inner_at es j entry o)
+indexed_inner_at es j entry None = indexed_pieces [] (λ m n. refl)
+indexed_inner_at es j entry (Some b) = indexed_inner_with es b entry (slice_get b.subroutines j)
 
 indexed_main_at : (es : List Entry) (o : Option Body) → IsIndexedPart (length es) (main_at es o)
 indexed_main_at es None = indexed_pieces [] (λ m n. refl)
 indexed_main_at es (Some b) = indexed_main b (length es) (body_statements es main b (length es)) (indexed_statements es main b (length es))
 
-indexed_declared : (q : Placed) (g i j : ℕ) (d : Declaration) → IsIndexedPart (length (module_entries q.unit g)) (declared_part q g i j d)
-indexed_declared q g i j (decl.Declaration.procedure h items ss) =
-    indexed_if (nat_eq h.segment g) _ nothing (indexed_routine_at (module_entries q.unit g) i (slice_get (routine_bodies q) i)) (indexed_pieces [] (λ m n. refl))
-indexed_declared q g i j (decl.Declaration.subroutine h s) =
-    indexed_if (nat_eq q.unit.tree.segment g) _ nothing (indexed_inner_at (module_entries q.unit g) j (outer_body q main)) (indexed_pieces [] (λ m n. refl))
-indexed_declared q g i j (decl.Declaration.data_items own k items) = indexed_pieces [] (λ m n. refl)
-indexed_declared q g i j (decl.Declaration.equate es) = indexed_pieces [] (λ m n. refl)
-indexed_declared q g i j (decl.Declaration.intrinsic xs) = indexed_pieces [] (λ m n. refl)
-indexed_declared q g i j (decl.Declaration.label xs) = indexed_pieces [] (λ m n. refl)
-indexed_declared q g i j (decl.Declaration.forward h) = indexed_pieces [] (λ m n. refl)
-indexed_declared q g i j (decl.Declaration.external h) = indexed_pieces [] (λ m n. refl)
+indexed_declared : (q : Placed) (g i j entry : ℕ) (d : Declaration) → IsIndexedPart (length (module_entries q.unit g)) (declared_part q g i j entry d)
+indexed_declared q g i j entry (decl.Declaration.procedure h items ss) =
+    indexed_if (nat_eq h.segment g) _ nothing (indexed_routine_at (module_entries q.unit g) i entry (slice_get (routine_bodies q) i)) (indexed_pieces [] (λ m n. refl))
+indexed_declared q g i j entry (decl.Declaration.subroutine h s) =
+    indexed_if (nat_eq q.unit.tree.segment g) _ nothing (indexed_inner_at (module_entries q.unit g) j entry (outer_body q main)) (indexed_pieces [] (λ m n. refl))
+indexed_declared q g i j entry (decl.Declaration.data_items own k items) = indexed_pieces [] (λ m n. refl)
+indexed_declared q g i j entry (decl.Declaration.equate es) = indexed_pieces [] (λ m n. refl)
+indexed_declared q g i j entry (decl.Declaration.intrinsic xs) = indexed_pieces [] (λ m n. refl)
+indexed_declared q g i j entry (decl.Declaration.label xs) = indexed_pieces [] (λ m n. refl)
+indexed_declared q g i j entry (decl.Declaration.forward h) = indexed_pieces [] (λ m n. refl)
+indexed_declared q g i j entry (decl.Declaration.external h) = indexed_pieces [] (λ m n. refl)
 
-indexed_declarations : (q : Placed) (g i j : ℕ) (ds : Declarations) → IsIndexedPart (length (module_entries q.unit g)) (declared_parts q g i j ds)
-indexed_declarations q g i j decl.none = indexed_pieces [] (λ m n. refl)
-indexed_declarations q g i j (decl.and d ds) = indexed_then (indexed_declared q g i j d) (indexed_declarations q g (routines_behind i d) (inner_behind j d) ds)
+indexed_declarations : (q : Placed) (g i j entry : ℕ) (ds : Declarations) → IsIndexedPart (length (module_entries q.unit g)) (declared_parts q g i j entry ds)
+indexed_declarations q g i j entry decl.none = indexed_pieces [] (λ m n. refl)
+indexed_declarations q g i j entry (decl.and d ds) =
+    indexed_then (indexed_declared q g i j entry d) (indexed_declarations q g (routines_behind i d) (inner_behind j d) (entries_behind q g i entry d) ds)
 
 pub indexed_module : ModuleIsIndexed
 indexed_module q g =
-    indexed_then (indexed_declarations q g 0 0 (declarations q.unit.tree.items))
+    indexed_then (indexed_declarations q g 0 0 0 (declarations q.unit.tree.items))
     (indexed_if (holds_main q g) _ nothing (indexed_main_at (module_entries q.unit g) (outer_body q main)) (indexed_pieces [] (λ m n. refl)))
 
 length_made : (k : ℕ) (es : List Entry) → length (made_from k es) ≡ length es
