@@ -1,0 +1,12 @@
+-- A loop over declarations.
+use Rattle.std.proofs.Common.{map, drop}
+use Rattle.spl_tree.specs.DeclarationTrees.{declarations}
+use Rattle.spl_tree.specs.Spells.{declaration}
+use Rattle.spl_body_scopes.specs.Levels.{level_of}
+use Rattle.spl_gen_proc.proofs.LevelWalks.{LevelWalk}
+use Rattle.spl_gen_proc.proofs.units.declare_all.Given as goal
+
+-- these declarations are left
+abbrev pub invariant-loop-item : goal.invariant-loop-item
+invariant-loop-item l =
+    LevelWalk (level_of l.fn.level) (declarations (map declaration l.list)) (declarations (map declaration (drop l.item-index l.list))) (level_of l.level)

@@ -1,0 +1,11 @@
+-- A loop over declarations.
+use Rattle.std.proofs.Common.{◌≡◌, ◌+◌, map, drop}
+use Rattle.spl_tree.specs.DeclarationTrees.{declarations}
+use Rattle.spl_tree.specs.Spells.{declaration}
+use Rattle.spl_unit_laws.specs.Units as u
+use Rattle.spl_gen_proc.proofs.units.rooms_among.Given as goal
+
+-- those so far and those that are left are all
+abbrev pub invariant-loop-item : goal.invariant-loop-item
+invariant-loop-item l =
+    l.count + u.rooms_among (declarations (map declaration (drop l.item-index l.list))) ≡ u.rooms_among (declarations (map declaration l.list))

@@ -1,0 +1,9 @@
+-- Where there is no map there are no names.
+use Rattle.std.proofs.Common.{[], Option, ap, ◌∙◌}
+use Rattle.std.specs.Prelude.{unwrap_or}
+use Rattle.spl_meaning.specs.Names.{find}
+use Rattle.spl_modules.specs.Entered.{Indexes}
+use Rattle.spl_gen_proc.proofs.walk.inner.Goals as goal
+
+pub returns-in-None : goal.returns-in-None
+returns-in-None c = c.args.fixed.now.empty ∙ ap (λ (o : Option Indexes). unwrap_or o (find [])) c.in-None.ensures

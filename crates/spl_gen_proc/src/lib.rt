@@ -1,0 +1,9 @@
+//! The modules of a program's units: the code of every body, in the segment in which it stands.
+#![tactic(auto)]
+
+mod compiling;
+mod fixed;
+mod units;
+mod walk;
+
+pub use compiling::compile;
