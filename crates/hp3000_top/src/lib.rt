@@ -4,7 +4,6 @@
 mod answer;
 mod answering;
 mod exit;
-mod linking;
 mod programs;
 mod ran;
 mod running;
