@@ -3,6 +3,8 @@
 
 mod faults;
 mod reading;
+#[cfg(test)]
+mod tests;
 
 pub use faults::ProgramFault;
-pub use reading::{cut, read_program, spell};
+pub use reading::read_program;

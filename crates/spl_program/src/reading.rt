@@ -18,8 +18,8 @@ use spl_tree::{Chars, FaultKind, Lexed, SplUnit};
 use spl_types::{CheckFault, check};
 use std::alloc::Global;
 
-/// The tokens of the text of unit number `unit`, from 1. Err: its first fault of tokens, or `NoMemory`.
-pub fn cut(alloc: Global, text: &[u8], unit: u8) -> Result<Lexed, ProgramFault>
+/// The tokens of the text of unit number `unit`.
+fn cut(alloc: Global, text: &[u8], unit: u8) -> Result<Lexed, ProgramFault>
     requires { length text.now ≤ 1048576 }
     ensures cut { IfOk result (λ x. CutsWithin unit most_tokens text.now (listed_of x)) }
     ensures ready { IfOk result (λ x. IsReady x) }
@@ -34,8 +34,8 @@ pub fn cut(alloc: Global, text: &[u8], unit: u8) -> Result<Lexed, ProgramFault>
     }
 }
 
-/// The unit that the tokens of a text spell. Err: its first fault of spelling, or `NoMemory`.
-pub fn spell(alloc: Global, lexed: &Lexed) -> Result<SplUnit, ProgramFault>
+/// The unit that the tokens of a text spell.
+fn spell(alloc: Global, lexed: &Lexed) -> Result<SplUnit, ProgramFault>
     requires { IsReady lexed.now }
     ensures unit { IfOk result (λ u. IsSpelled (listed_of lexed.now) (source_of u)) }
     ensures fault { IfErr result (λ f. UnspelledBy (listed_of lexed.now) f) }

@@ -1,10 +1,11 @@
 //! What the checker tells of texts.
-ghost use Rattle.std.specs.Prelude.{◌≤◌, length, IfSome};
-ghost use Rattle.spl_program.specs.Programs.{AreShort};
+ghost use Rattle.std.specs.Prelude.{◌≡◌, ◌≤◌, length, map, IfOk};
+ghost use Rattle.spl_sound.specs.Spelled.{AreSpelled, Spelled, most_units, source_of};
 
-use spl_program::{ProgramFault, read_program};
-use spl_tree::Chars;
-use std::alloc::Global;
+use spl_front::{UnitFault, read_unit};
+use spl_tree::SplUnit;
+use spl_types::{CheckFault, check};
+use std::alloc::{AllocError, Global};
 
 /// The first rule that is broken, with unit, line and column; that none is; or that a text spells no unit.
 #[derive(Clone, Copy, Debug, PartialEq, Eq)]
@@ -17,49 +18,48 @@ pub enum Told {
 /// The most bytes of a text.
 const MOST_BYTES: usize = 1_048_576;
 
-/// The text of a unit; none where it has more bytes than may be, or memory is wanting.
-fn text(alloc: Global, bytes: &[u8]) -> Option<Chars>
-    ensures { IfSome result (λ t. length t.bytes.items ≤ 1048576) }
+/// The unit that a text spells, with this number.
+fn unit(alloc: Global, bytes: &[u8], number: u8) -> Result<SplUnit, UnitFault>
+    ensures { IfOk result (λ u. Spelled number (source_of u)) }
 {
     if bytes.len() > MOST_BYTES {
-        return None;
+        return Err(UnitFault::NoMemory);
     }
-    match Vec::from_slice(alloc, bytes) {
-        Ok(bytes) => Some(Chars { bytes }),
-        Err(_) => None,
-    }
+    read_unit(alloc, bytes, number)
 }
 
-/// What the checker tells of units. A program that passes a limit breaks no rule.
-fn told(alloc: Global, texts: &[Chars]) -> Told
-    requires few { length texts.now ≤ 32 }
-    requires short { AreShort texts.now }
+/// What the checker tells of units.
+fn checked(alloc: Global, units: Vec<SplUnit>) -> Told
+    requires few { length units.items ≤ most_units }
+    requires spelled { AreSpelled (map source_of units.items) }
 {
-    match read_program(alloc, texts) {
-        Ok(_) | Err(ProgramFault::Limit { .. }) => Told::Sound,
-        Err(ProgramFault::Rule { rule, at }) => Told::Rule(rule, at.unit, at.line, at.column),
-        Err(ProgramFault::Text { .. } | ProgramFault::NoMemory) => Told::Unread,
+    match check(alloc, units) {
+        Ok(_) => Told::Sound,
+        Err(CheckFault::Rule { rule, at }) => Told::Rule(rule, at.unit, at.line, at.column),
+        Err(CheckFault::NoMemory) => Told::Unread,
     }
 }
 
 /// What the checker tells of one unit.
-pub fn one(alloc: Global, first: &[u8]) -> Told {
-    match text(alloc, first) {
-        Some(first) => {
-            let texts = [first];
-            told(alloc, &texts)
-        }
-        None => Told::Unread,
+#[tactic(auto, using(crate::proofs::SpelledLists::spelled_lists))]
+pub fn one(alloc: Global, text: &[u8]) -> Told {
+    match unit(alloc, text, 1) {
+        Ok(unit) => match vec![in alloc; unit] {
+            Ok(units) => checked(alloc, units),
+            Err(_) => Told::Unread,
+        },
+        Err(_) => Told::Unread,
     }
 }
 
 /// What the checker tells of two units.
+#[tactic(auto, using(crate::proofs::SpelledLists::spelled_lists))]
 pub fn two(alloc: Global, first: &[u8], second: &[u8]) -> Told {
-    match (text(alloc, first), text(alloc, second)) {
-        (Some(first), Some(second)) => {
-            let texts = [first, second];
-            told(alloc, &texts)
-        }
+    match (unit(alloc, first, 1), unit(alloc, second, 2)) {
+        (Ok(first), Ok(second)) => match vec![in alloc; first, second] {
+            Ok(units) => checked(alloc, units),
+            Err(_) => Told::Unread,
+        },
         _ => Told::Unread,
     }
 }

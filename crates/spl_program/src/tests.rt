@@ -2,7 +2,7 @@
 ghost use Rattle.std.specs.Prelude.{◌≤◌, length, IfOk};
 ghost use Rattle.spl_program.specs.Programs.{AreShort};
 
-use spl_program::{ProgramFault, read_program};
+use crate::{ProgramFault, read_program};
 use spl_tree::Chars;
 use std::alloc::{AllocError, Global};
 use std::test::Fail;

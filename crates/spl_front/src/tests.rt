@@ -1,29 +1,22 @@
 //! Texts of units worked by hand: their trees, or their first fault.
-ghost use Rattle.std.specs.Prelude.{◌≤◌, length};
 
-use crate::printed::unit_text;
-use spl_program::{ProgramFault, cut, spell};
+mod printed;
+
+use crate::{UnitFault, read_unit};
+use printed::unit_text;
 use spl_tree::SplUnit;
 use std::alloc::{AllocError, Global};
 use std::process::Abort;
 use std::test::Fail;
 
-/// The unit that a text spells, or its first fault.
-fn read_unit(alloc: Global, text: &[u8]) -> Result<SplUnit, ProgramFault>
-    requires { length text.now ≤ 1048576 }
-{
-    let lexed = cut(alloc, text, 1)?;
-    spell(alloc, &lexed)
-}
-
 /// A unit's tree, or its fault's kind, line and column.
-fn shown(alloc: Global, read: &Result<SplUnit, ProgramFault>) -> Result<String, AllocError> {
+fn shown(alloc: Global, read: &Result<SplUnit, UnitFault>) -> Result<String, AllocError> {
     match read {
         Ok(unit) => unit_text(alloc, unit),
-        Err(ProgramFault::Text { kind, at }) => {
+        Err(UnitFault::Fault { kind, at }) => {
             format!(in alloc; "{} {} {}", kind.name(), at.line, at.column)
         }
-        Err(_) => Ok(String::new(alloc)),
+        Err(UnitFault::NoMemory) => Ok(String::new(alloc)),
     }
 }
 
@@ -32,7 +25,7 @@ fn compare(rt: &impl Abort, alloc: Global, cases: &[(&str, &str)]) -> Result<(),
     for (text, wanted) in cases {
         let bytes = text.as_bytes();
         assert!(rt; bytes.len() <= 1_048_576);
-        let read = read_unit(alloc, bytes);
+        let read = read_unit(alloc, bytes, 1);
         assert_eq!(rt; shown(alloc, &read)?.as_str(), *wanted, "{text}");
     }
     Ok(())
