@@ -13,6 +13,7 @@ mod sizes;
 pub use commands::Command;
 pub use lines::{capitals, next_line, same};
 pub use names::program_name;
+pub use numbers::number;
 pub use place::Place;
 pub use said::{LineKind, Said, command_said, kind_at};
 pub use settings::{Setting, Settings};

@@ -24,9 +24,9 @@ fn digits(word: &[u8]) -> Option<u64>
     Some(value)
 }
 
-/// The number that a word of 1 to 10 decimal digits is.
+/// The number that a word of 1 to 10 decimal digits is; none of any other word.
 #[tactic(auto, unfolding(crate::specs::Numbers::number_in))]
-pub(crate) fn number(word: &[u8]) -> Option<u64>
+pub fn number(word: &[u8]) -> Option<u64>
     ensures { result ≡ number_in word.now }
 {
     if word.is_empty() || word.len() > 10 {
