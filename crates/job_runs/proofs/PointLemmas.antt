@@ -9,11 +9,11 @@ use Rattle.hp_word.specs.declared.endings.Ending.{Ending}
 use Rattle.job_text.specs.declared.job.Text.{Text}
 use Rattle.job_text.specs.Views.{text_value}
 use Rattle.job_report.specs.declared.point.Point.{Point}
-use Rattle.job_report.specs.Reports.{Reported, reported, report_of}
+use Rattle.job_report.specs.Reports.{Reported, reported, report_of, summary_of}
 use Rattle.mpe_turns.specs.declared.session.Session.{Session}
 use Rattle.mpe_turns.specs.Stands.{run_of, runs_of}
 use Rattle.mpe_worlds.specs.Worlds.{Run, World, segments_at}
-use Rattle.job_runs.specs.Reported.{AreOf, names_of, reported_of, counted, report_on}
+use Rattle.job_runs.specs.Reported.{AreOf, names_of, reported_of, counted, report_on, summary_on}
 
 -- the name of a program
 pub name_at : (ps : List Text) (i : ℕ) (t : Text) → i < length ps → t ≡ get_or ps i t → get_or (names_of (map text_value ps)) i [] ≡ t.name.text.items
@@ -57,3 +57,9 @@ pub report_so : {E : Type 0} (names : List (List ℕ)) (stats : Bool) (w : World
 unfolding report_on
 report_so names stats w r points counts a b h =
     subst (λ cs. IfOk r (λ t. t.items ≡ report_of (map (reported_of names) w.runs) cs)) b (subst (λ ps. IfOk r (λ t. t.items ≡ report_of ps counts)) a h)
+
+-- a summary of equal points
+pub summary_so : {E : Type 0} (n bytes : ℕ) (names : List (List ℕ)) (w : World) (r : Result (Vec ℕ Global) E) (points : List Reported)
+    → points ≡ map (reported_of names) w.runs → IfOk r (λ t. t.items ≡ summary_of n bytes points) → IfOk r (λ t. t.items ≡ summary_on n bytes names w)
+unfolding summary_on
+summary_so n bytes names w r points a h = subst (λ ps. IfOk r (λ t. t.items ≡ summary_of n bytes ps)) a h

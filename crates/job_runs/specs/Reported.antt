@@ -1,7 +1,7 @@
 -- What is reported of a world.
 use Rattle.std.specs.Prelude.{ℕ, ◌≡◌, ◌<◌, slice_get, Bool, List, [], map, get_or, Option, None, Some, if◌then◌else◌}
 use Rattle.job_text.specs.States.{TextValue}
-use Rattle.job_report.specs.Reports.{Reported, report_of}
+use Rattle.job_report.specs.Reports.{Reported, report_of, summary_of}
 use Rattle.mpe_worlds.specs.Worlds.{Run, World}
 use Rattle.mpe_turns.specs.declared.session.Session.{Session}
 
@@ -31,3 +31,7 @@ counted stats w = if stats then Some (w.turns, w.loads) else None
 -- the report of a world
 unfoldable pub report_on : List (List ℕ) → Bool → World → List ℕ
 report_on names stats w = report_of (map (reported_of names) w.runs) (counted stats w)
+
+-- the summary of a world in which a generated job's turns left its sessions: that job's number, and the bytes of its text
+unfoldable pub summary_on : ℕ → ℕ → List (List ℕ) → World → List ℕ
+summary_on n bytes names w = summary_of n bytes (map (reported_of names) w.runs)

@@ -4,5 +4,5 @@
 mod reports;
 mod turns;
 
-pub use reports::report_on;
+pub use reports::{report_on, summary_on};
 pub use turns::take_turns;

@@ -5,9 +5,9 @@ ghost use Rattle.job_report.specs.Reports.{reported};
 ghost use Rattle.mpe_turns.specs.Monitors.{codes_in, world_of};
 ghost use Rattle.mpe_turns.specs.Stands.{run_of, runs_of};
 ghost use Rattle.mpe_worlds.specs.Worlds.{segments_at};
-ghost use Rattle.job_runs.specs.Reported.{AreOf, names_of, reported_of, counted, report_on};
+ghost use Rattle.job_runs.specs.Reported.{AreOf, names_of, reported_of, counted, report_on, summary_on};
 
-use job_report::{Point, report};
+use job_report::{Point, report, summary};
 use job_text::Text;
 use mpe_turns::{Monitor, Session};
 use spl_tree::{Chars, Name};
@@ -67,4 +67,20 @@ pub fn report_on(
 {
     let points = points(alloc, programs, &monitor.sessions)?;
     report(alloc, &points, counted(stats, monitor))
+}
+
+/// The summary of the generated job with number `n`, whose text has so many bytes, of a monitor's sessions under the names of
+/// their programs. Only memory may be wanting.
+pub fn summary_on(
+    alloc: Global,
+    n: u16,
+    bytes: usize,
+    programs: &[Text],
+    monitor: &Monitor,
+) -> Result<Vec<u8>, AllocError>
+    requires { length monitor.now.overlay.programs.items ≡ length programs.now }
+    ensures { IfOk result (λ text. text.items ≡ summary_on n bytes (names_of (map text_value programs.now)) (world_of monitor.now)) }
+{
+    let points = points(alloc, programs, &monitor.sessions)?;
+    summary(alloc, n, bytes, &points)
 }
