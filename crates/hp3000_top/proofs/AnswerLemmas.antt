@@ -35,10 +35,11 @@ use Rattle.mpe_worlds.specs.Opening.{opening}
 use Rattle.mpe_worlds.specs.Dispatch.{after}
 use Rattle.mpe_turns.specs.Monitors.{world_of}
 use Rattle.mpe_turns.specs.Opening.{refusal}
-use Rattle.hp3000_top.specs.Answers.{IsCrowded}
+use Rattle.hp3000_top.specs.Answers.{IsCrowded, IsOfMemory}
 use Rattle.hp3000_top.specs.Steps.{Answers, IsAnswered, IsOfStack, IsRoomy, TellsJob, IsFileOf, IsFaultOfFile}
 use Rattle.hp3000_top.specs.Steps as s
 use Rattle.hp3000_top.proofs.Loops.{job_fits_more}
+use Rattle.hp3000_top.proofs.LineLemmas.{job_line_not, program_line_not, stack_line_not}
 use Rattle.hp3000_top.proofs.Headline.{made_count}
 use Rattle.hp3000_top.proofs.Unique.{breaks_not_crowded, refused_not_crowded, stack_not_crowded}
 
@@ -56,7 +57,8 @@ programs_fit_so bytes prep job texts l is e =
 
 pub run_line_so : (bytes : List ℕ) (f : JobFault) (line : Vec ℕ Global) → IsFault bytes false f → TellsJob f line.items → IsAnswered bytes verb.Run (Refusal line)
 run_line_so bytes (fault.Rule l r) line k t =
-    s.IsAnswered.refuses (subst (Cause bytes) (sym t) (c.Cause.lines k)) (λ made x. breaks_not_crowded bytes l r made k x)
+    s.IsAnswered.refuses (subst (Cause bytes) (sym t) (c.Cause.lines k))
+    (λ m. job_line_not l r (subst IsOfMemory t m), λ made x. breaks_not_crowded bytes l r made k x)
 run_line_so bytes fault.NoMemory line k t = absurd t
 
 pub prep_line_so : (bytes : List ℕ) (f : JobFault) (line : Vec ℕ Global) → IsFault bytes true f → TellsJob f line.items → IsAnswered bytes verb.Prep (Refusal line)
@@ -67,7 +69,8 @@ pub run_program_so : (bytes : List ℕ) (line : Vec ℕ Global) (job : Job) (tex
     → FirstRefused (map text_value texts) line.items → IsAnswered bytes verb.Run (Refusal line)
 run_program_so bytes line job texts is e r =
     let k : FirstRefused (job_value job).programs line.items = subst (λ (ts : List Text). FirstRefused (map text_value ts) line.items) e r in
-    s.IsAnswered.refuses (c.Cause.program (job_value job) is k) (λ made x. refused_not_crowded bytes (job_value job) line.items made is k x)
+    s.IsAnswered.refuses (c.Cause.program (job_value job) is k)
+    (λ m. program_line_not k m, λ made x. refused_not_crowded bytes (job_value job) line.items made is k x)
 
 pub prep_program_so : (bytes : List ℕ) (line : Vec ℕ Global) (job : Job) (texts : List Text) → JobIs bytes true (job_value job) → texts ≡ job.programs.items
     → FirstRefused (map text_value texts) line.items → IsAnswered bytes verb.Prep (Refusal line)
@@ -92,16 +95,12 @@ answer_so bytes job programs (Report made monitor text) is m h = s.IsAnswered.re
 answer_so bytes job programs (Refusal line) is m h =
     let j = is_job bytes job programs is m in
     s.IsAnswered.refuses (subst (Cause bytes) (sym h.2) (c.Cause.sessions (job_value job) programs job.seats.items j h.1))
-    (λ made x. stack_not_crowded bytes (job_value job) programs made job.seats.items h.0 j h.1 h.3 x)
+    (λ m. stack_line_not h.0 h.3 (subst IsOfMemory h.2 m), λ made x. stack_not_crowded bytes (job_value job) programs made job.seats.items h.0 j h.1 h.3 x)
 answer_so bytes job programs (Crowded made line) is m h =
-    let j = is_job bytes job programs is m in
-    s.IsAnswered.crowded (subst (Cause bytes) (sym h.1.3) (c.Cause.sessions (job_value job) programs job.seats.items j h.1.2))
-    (subst (IsCrowded bytes) (sym h.0) (record {
+    s.IsAnswered.crowded h.1.0 h.1.1 h.1.3 (subst (λ (ps : List Program). IsCrowded bytes ps h.1.0 h.1.1) (sym h.0) (record {
       job = job_value job;
       seats = job.seats.items;
-      is = j;
-      need = h.1.0;
-      given = h.1.1;
+      is = is_job bytes job programs is m;
       refused = h.1.2;
     }))
 answer_so bytes job programs (File made text) is m h = absurd h

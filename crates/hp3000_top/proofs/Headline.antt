@@ -1,4 +1,4 @@
--- Each session of a job that runs stands where the unit of its program, run alone, stands after some number of its steps.
+-- Each session of a thin program stands where its unit, run alone, stands after some number of its steps.
 use Rattle.std.proofs.Common.{◌≡◌, ℕ, zero, suc, ◌+◌, ◌<◌, ◌≤◌, Bool, true, false, List, [], ◌∷◌, ◌++◌, map, length, Option, None, Some, refl, sym, ap, subst, ◌∙◌, arith}
 use Rattle.std.specs.Prelude.{slice_get, unwrap_or, nat_lt, if◌then◌else◌, option_map}
 use Rattle.std.proofs.lemmas.Bool.Decides.{nat_tests}
@@ -26,11 +26,13 @@ use Rattle.mpe_turns.specs.Opening.{first_of_two, small_stack, small_stack_from,
 use Rattle.thin_jobs.specs.ThinUnits as u
 use Rattle.thin_carries.specs.Carries.{Carries, flat_point}
 use Rattle.thin_carries.proofs.Opening.{carries}
-use Rattle.hp3000_top.specs.Programs.{IsThin, IsMade, AreMade}
+use Rattle.thin_compiler.specs.ProgramViews.{IsMadeOf}
+use Rattle.hp3000_top.specs.Programs.{IsWithin, IsMade, AreMade}
 use Rattle.hp3000_top.specs.Programs as p
 use Rattle.hp3000_top.specs.Causes.{Runs}
 use Rattle.hp3000_top.specs.Answers.{seat_of, IsAsAlone, EachIsAsAlone}
 use Rattle.hp3000_top.proofs.ClosedJobs.{kept}
+use Rattle.hp3000_top.proofs.Unique.{thin_made}
 
 some_is : {A : Type 0} {x y : A} → Some x ≡ Some y → x ≡ y
 some_is {A} {x} {y} e = ap (from x) e
@@ -138,28 +140,30 @@ flat_run ps q seat r e g =
     g.alone start (no_steps (segments_at (codes_of ps) seat.program) start) ∙ ap (λ ss. flat.after ss r.steps start) (segments_there ps seat.program q e)
 
 -- the program of a thin unit carries it
-carried : (texts : List (List ℕ)) (q : Program) → (m : IsMade texts q) → Carries q m.unit
-carried texts q m = carries q m.unit m.made m.fits (kept m.thin.source.subprogram m.thin.source.segments m.thin.source.tree m.unit m.thin.thin).closed
+carried : (texts : List (List ℕ)) (unit : u.Unit) (q : Program) → IsWithin texts unit → IsMadeOf unit.names unit.statements q → Carries q unit
+carried texts unit q k m = carries q unit m k.fits (kept k.thin.source.subprogram k.thin.source.segments k.thin.source.tree unit k.thin.thin).closed
 
-as_alone : (texts : List (List ℕ)) (ps : List Program) (q : Program) (seat : Seat) (r : Run) → (m : IsMade texts q) → slice_get ps seat.program ≡ Some q
-    → length q.globals.items + 4 ≤ seat.stack → GoesOn (segments_at (codes_of ps) seat.program) (opening_run q seat) r → IsAsAlone m.unit (seat_value seat) r
-as_alone texts ps q seat r m e l g =
-    let c = carried texts q m in
-    let names : length m.unit.names ≡ length q.globals.items = sym (ap length c.zeros ∙ length-replicate (length m.unit.names) 0) in
+as_alone : (texts : List (List ℕ)) (unit : u.Unit) (ps : List Program) (q : Program) (seat : Seat) (r : Run) → IsWithin texts unit → IsMadeOf unit.names unit.statements q
+    → slice_get ps seat.program ≡ Some q → length q.globals.items + 4 ≤ seat.stack → GoesOn (segments_at (codes_of ps) seat.program) (opening_run q seat) r
+    → IsAsAlone unit (seat_value seat) r
+as_alone texts unit ps q seat r k m e l g =
+    let c = carried texts unit q k m in
+    let names : length unit.names ≡ length q.globals.items = sym (ap length c.zeros ∙ length-replicate (length unit.names) 0) in
     let f = c.forth (seat_of (seat_value seat)) (omega (arith, l, names)) r.steps in
     (f.at, f.point ∙ ap flat_point (sym (flat_run ps q seat r e g)))
 
 each_at : (bytes : List ℕ) (job : JobValue) (made : List Program) (w : World) → (v : Runs bytes job made w) → Each (SeatFits (length made)) (map seat_value v.seats)
     → EachGoesOn (codes_of made) (opening job.memory v.seats made) w → (k : ℕ) (value : SeatValue) (t : TextValue) (r : Run) → slice_get job.sessions k ≡ Some value
-    → slice_get job.programs value.program ≡ Some t → slice_get w.runs k ≡ Some r → (unit : u.Unit) × IsThin t.units unit × IsAsAlone unit value r
-each_at bytes job made w v fit goes k value t r here of_text there =
+    → slice_get job.programs value.program ≡ Some t → slice_get w.runs k ≡ Some r → (unit : u.Unit) → IsWithin t.units unit → IsAsAlone unit value r
+each_at bytes job made w v fit goes k value t r here of_text there unit thin =
     let s = seat_at v.seats k value (ap (λ xs. slice_get xs k) v.is.are_seats ∙ here) in
     let m = made_at value.program t v.is.are_made of_text in
     let at : slice_get made s.seat.program ≡ Some m.made_program = ap (λ (x : SeatValue). slice_get made x.program) s.is ∙ m.at in
     let smalls = first_none (small_stack_from 0 made v.seats) (small_memory _ job.memory) v.opens in
     let l = stack_holds 0 made v.seats k s.seat m.made_program smalls.0 s.at at in
     let g = goes.each k (opening_run m.made_program s.seat) r (opened_at made v.seats k s.seat m.made_program fit s.at at) there in
-    (m.is.unit, m.is.thin, subst (λ (x : SeatValue). IsAsAlone m.is.unit x r) s.is (as_alone t.units made m.made_program s.seat r m.is at l g))
+    let is = thin_made t.units unit m.made_program thin m.is in
+    subst (λ (x : SeatValue). IsAsAlone unit x r) s.is (as_alone t.units unit made m.made_program s.seat r thin is at l g)
 
 pub each_is_as_alone : (bytes : List ℕ) (job : JobValue) (made : List Program) (w : World) → Runs bytes job made w → EachIsAsAlone job w.runs
 each_is_as_alone bytes job made w v =

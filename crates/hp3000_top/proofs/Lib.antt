@@ -2,6 +2,7 @@ pub mod ClosedJobs
 pub mod Loops
 pub mod Making
 pub mod Copies
+pub mod LineLemmas
 pub mod Unique
 pub mod Headline
 pub mod Opening

@@ -1,6 +1,6 @@
 -- What is made of a program's texts.
 use Rattle.std.proofs.Common.{ℕ, ◌≡◌, ◌≤◌, false, List, [], ◌∷◌, map, length, Option, None, Some, Ok, Err, refl, ap, sym, subst, ◌∙◌}
-use Rattle.std.specs.Prelude.{slice_get}
+use Rattle.std.specs.Prelude.{Result, slice_get, IfOk, IfErr}
 use Rattle.hp_program.specs.declared.program.Program.{Program}
 use Rattle.job_text.specs.Fits.{Each}
 use Rattle.job_text.specs.States.{TextValue}
@@ -12,12 +12,15 @@ use Rattle.spl_program.specs.declared.faults.ProgramFault.{ProgramFault}
 use Rattle.spl_program.specs.declared.faults.ProgramFault.TheVariants as why
 use Rattle.spl_program.specs.Programs.{IsProgram, Tells}
 use Rattle.spl_program.proofs.ProgramLaws.{programs_unique}
+use Rattle.spl_build.specs.Built.{IsBuilt}
 use Rattle.thin_jobs.specs.ThinUnits as u
 use Rattle.thin_jobs.specs.ThinShapes.{thin_in, thin_of}
 use Rattle.thin_jobs.specs.declared.unread.Unread.TheVariants as unread
 use Rattle.thin_compiler.specs.ThinCode.{is_in_bounds}
-use Rattle.hp3000_top.specs.Programs.{IsThin, IsMade, IsUnbuilt, IsRefused, faulty, fault_line}
-use Rattle.hp3000_top.specs.Steps.{IsTold, thin_among, MakesThin}
+use Rattle.hp3000_top.specs.declared.unmade.Unmade.{Unmade}
+use Rattle.hp3000_top.specs.declared.unmade.Unmade.TheVariants as unmade
+use Rattle.hp3000_top.specs.Programs.{IsThin, IsMade, IsBeyond, IsRefused, thin, built, faulty, unlinked, fault_line}
+use Rattle.hp3000_top.specs.Steps.{IsTold, thin_among, MakesThin, UnlinkedBy, RefusedBy}
 use Rattle.hp3000_top.proofs.Loops.{each_slice}
 
 -- no text is too long
@@ -46,24 +49,16 @@ made_so texts [] p k m = absurd m
 made_so texts (x ∷ []) p k m = by (thin_of x) refl m where
   by : (o : Option u.Unit) → thin_of x ≡ o → MakesThin (Ok p) o → IsMade texts p
   by None e m = absurd m
-  by (Some unit) e m = record {
-    unit = unit;
-    thin = record { source = source_of x; program = k; thin = thin_so x (Some unit) e };
-    fits = m.1;
-    made = m.0;
-  }
+  by (Some unit) e m = thin unit (record { thin = record { source = source_of x; program = k; thin = thin_so x (Some unit) e }; fits = m.1 }) m.0
 made_so texts (x ∷ y ∷ us) p k m = absurd m
 
 one_source : (x y : Source) → x ∷ [] ≡ y ∷ [] → x ≡ y
 one_source x y e = cc
 
--- where none is, nothing can be made yet
-pub unbuilt_so : (texts : List (List ℕ)) (us : List SplUnit) → IsProgram texts (map source_of us) → MakesThin (Err unread.Later) (thin_among us) → IsUnbuilt texts
-unbuilt_so texts us k m = record {
-  units = map source_of us;
-  program = k;
-  beyond = λ unit v. beyond us unit v (programs_unique texts (map source_of us) (v.source ∷ []) k v.program) m;
-}
+-- where none is, the units are no thin one within its bounds
+pub beyond_so : (texts : List (List ℕ)) (us : List SplUnit) → IsProgram texts (map source_of us) → MakesThin (Err unread.Later) (thin_among us)
+    → IsBeyond texts (map source_of us)
+beyond_so texts us k m = record { program = k; beyond = λ unit v. beyond us unit v (programs_unique texts (map source_of us) (v.source ∷ []) k v.program) m }
   where
     beyond : (vs : List SplUnit) (unit : u.Unit) → (v : IsThin texts unit) → map source_of vs ≡ v.source ∷ [] → MakesThin (Err unread.Later) (thin_among vs)
         → is_in_bounds unit.names unit.statements ≡ false
@@ -73,3 +68,17 @@ unbuilt_so texts us k m = record {
         let thin : thin_of x ≡ Some unit = thin_back x (Some unit) (ap (λ (s : Source). thin_in s.subprogram s.segments s.tree) same ∙ v.thin) in
         subst (λ (o : Option u.Unit). MakesThin (Err unread.Later) o) thin m
     beyond (x ∷ y ∷ vs) unit v e m = cc
+
+-- what is built of them is made of the texts, and modules with a fault refuse the program
+pub linked_made : (texts : List (List ℕ)) (us : List Source) (r : Result Program Unmade) → IsBeyond texts us → IfOk r (λ p. IsBuilt us p) → IfOk r (λ p. IsMade texts p)
+linked_made texts us (Ok p) k h = built us k h
+linked_made texts us (Err e) k h = tt
+
+unlinked_so : (t : TextValue) (us : List Source) (e : Unmade) → IsBeyond t.units us → UnlinkedBy t.name us e → RefusedBy t e
+unlinked_so t us (unmade.Refused line) k h = subst (IsRefused t) (sym h.2) (unlinked us k h.1)
+unlinked_so t us unmade.NoMemory k h = tt
+
+pub linked_refused : (t : TextValue) (us : List Source) (r : Result Program Unmade) → IsBeyond t.units us → IfErr r (λ e. UnlinkedBy t.name us e)
+    → IfErr r (λ e. RefusedBy t e)
+linked_refused t us (Ok p) k h = tt
+linked_refused t us (Err e) k h = unlinked_so t us e k h

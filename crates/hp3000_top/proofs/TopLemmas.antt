@@ -18,12 +18,12 @@ use Rattle.hp3000_top.specs.declared.exit.Exit.TheVariants as e
 use Rattle.hp3000_top.specs.declared.ran.Ran.{Ran}
 use Rattle.hp3000_top.specs.declared.verbs.Verb.{Verb}
 use Rattle.hp3000_top.specs.declared.verbs.Verb.TheVariants as verb
-use Rattle.hp3000_top.specs.Causes.{Runs, IsPrepared, CauseOf, ComesTo}
+use Rattle.hp3000_top.specs.Causes.{Runs, IsPrepared, CauseOf, SureCauseOf, ComesTo}
 use Rattle.hp3000_top.specs.Causes as c
-use Rattle.hp3000_top.specs.Answers.{Read, Refuses, BreaksOff, HasRun, DeliversOf, Delivers, ReportsAsAlone, AreAsAlone, IsBuiltOf, IsBuilt, IsDone, IsFaulty, IsRefusedBy, IsCrowded, MadeAt, RanAt}
+use Rattle.hp3000_top.specs.Answers.{Read, Refuses, BreaksOff, HasRun, DeliversOf, Delivers, ReportsAsAlone, AreAsAlone, IsSurelyDoneOf, IsSurelyDone, IsDone, IsSurelyRefused, IsRefusedBy, IsCrowded, MadeAt, RanAt}
 use Rattle.hp3000_top.specs.Steps.{IsAnswered, IsTaken, text_of, exit_of, made_by, ran_by}
 use Rattle.hp3000_top.specs.Steps as s
-use Rattle.hp3000_top.proofs.Unique.{cause_of_same, built_no_cause}
+use Rattle.hp3000_top.proofs.Unique.{crowded_cause, sure_cause_same, runs_not_sure, prepared_not_sure, listed_no_cause, sure_same, done_no_cause}
 use Rattle.hp3000_top.proofs.Headline.{each_is_as_alone}
 
 -- ---- what was written
@@ -43,7 +43,7 @@ taken_cut a (Ok k) b old new bytes before now m0 m1 r0 r1 x t h j i f q m r = cc
 -- an answer has this text
 comes_to : (v : Verb) (bytes : List ℕ) (a : Answer) → IsAnswered bytes v a → ComesTo bytes v (text_of a)
 comes_to v bytes a (s.IsAnswered.report {made = made} {monitor = m} job k t) = subst (ComesTo bytes verb.Run) (sym t) (c.ComesTo.report job made.items (world_of m) k)
-comes_to v bytes a (s.IsAnswered.crowded k d) = c.ComesTo.line k
+comes_to v bytes a (s.IsAnswered.crowded {made = made} {line = line} need given t d) = c.ComesTo.line (crowded_cause bytes line.items made.items need given t d)
 comes_to v bytes a (s.IsAnswered.file job p k m f) = c.ComesTo.file job p k f
 comes_to v bytes a (s.IsAnswered.listing p k t) = subst (ComesTo bytes verb.List) (sym t) (c.ComesTo.listing p k)
 comes_to v bytes a (s.IsAnswered.refuses k d) = c.ComesTo.line k
@@ -71,7 +71,7 @@ broken_so v left rest bytes a old new faults m0 m1 r0 r1 x r k (s.IsTaken.whole 
 -- the line of an answer that ends refused
 line_so : (v : Verb) (bytes : List ℕ) (a : Answer) → IsAnswered bytes v a → exit_of a ≡ e.Refused → CauseOf v bytes (text_of a)
 line_so v bytes a (s.IsAnswered.report job k t) h = cc
-line_so v bytes a (s.IsAnswered.crowded k d) h = k
+line_so v bytes a (s.IsAnswered.crowded {made = made} {line = line} need given t d) h = crowded_cause bytes line.items made.items need given t d
 line_so v bytes a (s.IsAnswered.file job p k m f) h = cc
 line_so v bytes a (s.IsAnswered.listing p k t) h = cc
 line_so v bytes a (s.IsAnswered.refuses k d) h = k
@@ -90,7 +90,7 @@ delivered v bytes a old new m0 m1 r0 r1 (s.IsAnswered.report {made = made} {moni
   has_run = subst (λ (o : Option Ran). HasRun o (world_of monitor)) (sym d) refl;
   appends = subst (λ (t : List ℕ). Appends old new t) t p;
 }
-delivered v bytes a old new m0 m1 r0 r1 (s.IsAnswered.crowded k c) h p m d = cc
+delivered v bytes a old new m0 m1 r0 r1 (s.IsAnswered.crowded need given t c) h p m d = cc
 delivered v bytes a old new m0 m1 r0 r1 (s.IsAnswered.file {made = made} {text = text} job q k n f) h p m d = record {
   job = job;
   program = q;
@@ -132,7 +132,7 @@ alone : (bytes : List ℕ) (a : Answer) (old new : Option (List ℕ)) (m0 m1 : L
     → Appends old new (text_of a) → m1 ≡ made_by a m0 → ReportsAsAlone bytes m1 old new
 alone bytes a old new m0 m1 (s.IsAnswered.report {made = made} {monitor = monitor} {text = text} job k t) h p m =
     reported_alone bytes job made.items m1 (world_of monitor) text.items old new k t p m
-alone bytes a old new m0 m1 (s.IsAnswered.crowded k c) h p m = cc
+alone bytes a old new m0 m1 (s.IsAnswered.crowded need given t c) h p m = cc
 alone bytes a old new m0 m1 (s.IsAnswered.refuses k c) h p m = cc
 
 -- an answer that ends done was taken whole
@@ -158,57 +158,60 @@ headline_so verb.Prep left rest bytes a old new faults m0 m1 r0 r1 x r k u w = t
 headline_so verb.List left rest bytes a old new faults m0 m1 r0 r1 x r k u w = tt
 
 -- what bytes come to is one thing
-built_done : (v : Verb) (bytes : List ℕ) (a : Answer) → IsAnswered bytes v a → IsBuiltOf v bytes → exit_of a ≡ e.Done
-built_done v bytes a (s.IsAnswered.report job k t) b = refl
-built_done v bytes a (s.IsAnswered.crowded {line = line} k d) b = absurd (built_no_cause v bytes line.items b k)
-built_done v bytes a (s.IsAnswered.file job p k m f) b = refl
-built_done v bytes a (s.IsAnswered.listing p k t) b = refl
-built_done v bytes a (s.IsAnswered.refuses {line = line} k d) b = absurd (built_no_cause v bytes line.items b k)
+surely_done : (v : Verb) (bytes : List ℕ) (a : Answer) → IsAnswered bytes v a → IsSurelyDoneOf v bytes → exit_of a ≡ e.Done
+surely_done v bytes a (s.IsAnswered.report job k t) b = refl
+surely_done v bytes a (s.IsAnswered.crowded {made = made} {line = line} need given t d) b =
+    absurd (done_no_cause v bytes line.items b (crowded_cause bytes line.items made.items need given t d))
+surely_done v bytes a (s.IsAnswered.file job p k m f) b = refl
+surely_done v bytes a (s.IsAnswered.listing p k t) b = refl
+surely_done v bytes a (s.IsAnswered.refuses {line = line} k d) b = absurd (done_no_cause v bytes line.items b k)
 
 pub complete_so : (v : Verb) (left rest : Option (List ℕ)) (bytes : List ℕ) (a : Answer) (old new : Option (List ℕ)) (faults : Type 0) (m0 m1 : List Program) (r0 r1 : Option Ran) (x : Exit)
-    → ReadsToEnd 1048576 left rest bytes → IsAnswered bytes v a → IsTaken a old new faults m0 m1 r0 r1 x → IsBuilt (Some v) left → (faults → ⊥) → IsDone x
+    → ReadsToEnd 1048576 left rest bytes → IsAnswered bytes v a → IsTaken a old new faults m0 m1 r0 r1 x → IsSurelyDone (Some v) left → (faults → ⊥) → IsDone x
 complete_so v None rest bytes a old new faults m0 m1 r0 r1 x r k u b n = absurd b
 complete_so v (Some all) rest bytes a old new faults m0 m1 r0 r1 x r k (s.IsTaken.whole q t m d) b n =
-    subst IsDone (sym (q ∙ built_done v bytes a k (subst (IsBuiltOf v) (sym r.all) b.1))) tt
+    subst IsDone (sym (q ∙ surely_done v bytes a k (subst (IsSurelyDoneOf v) (sym r.all) b.1))) tt
 complete_so v (Some all) rest bytes a old new faults m0 m1 r0 r1 x r k (s.IsTaken.cut q t f m d) b n = absurd (n f)
 
 -- an answer to bytes that a line refuses is that line
-told_by : (v : Verb) (bytes line : List ℕ) (a : Answer) → IsAnswered bytes v a → CauseOf v bytes line → (exit_of a ≡ e.Refused) × (text_of a ≡ line)
-told_by v bytes line a (s.IsAnswered.report {made = made} {monitor = monitor} job k t) h = absurd (built_no_cause verb.Run bytes line (job, made.items, world_of monitor, k) h)
-told_by v bytes line a (s.IsAnswered.crowded {line = other} k d) h = (refl, cause_of_same verb.Run bytes other.items line k h)
-told_by v bytes line a (s.IsAnswered.file job p k m f) h = absurd (built_no_cause verb.Prep bytes line (job, p, k) h)
-told_by v bytes line a (s.IsAnswered.listing p k t) h = absurd (built_no_cause verb.List bytes line (p, k) h)
-told_by v bytes line a (s.IsAnswered.refuses {line = other} k d) h = (refl, cause_of_same v bytes other.items line k h)
+told_by : (v : Verb) (bytes line : List ℕ) (a : Answer) → IsAnswered bytes v a → SureCauseOf v bytes line → (exit_of a ≡ e.Refused) × (text_of a ≡ line)
+told_by v bytes line a (s.IsAnswered.report {made = made} {monitor = monitor} job k t) h = absurd (runs_not_sure bytes line job made.items (world_of monitor) k h)
+told_by v bytes line a (s.IsAnswered.crowded {made = made} {line = other} need given t d) h =
+    (refl, sym (sure_cause_same bytes line other.items h (crowded_cause bytes other.items made.items need given t d)))
+told_by v bytes line a (s.IsAnswered.file job p k m f) h = absurd (prepared_not_sure bytes line job p k h)
+told_by v bytes line a (s.IsAnswered.listing p k t) h = absurd (listed_no_cause bytes line p k h)
+told_by v bytes line a (s.IsAnswered.refuses {line = other} k d) h = (refl, sym (sure_same v bytes line other.items h k))
 
 pub faulty_so : (v : Verb) (left rest : Option (List ℕ)) (bytes line : List ℕ) (a : Answer) (old new : Option (List ℕ)) (faults : Type 0) (m0 m1 : List Program) (r0 r1 : Option Ran) (x : Exit)
-    → ReadsToEnd 1048576 left rest bytes → IsAnswered bytes v a → IsTaken a old new faults m0 m1 r0 r1 x → IsFaulty (Some v) left line → (faults → ⊥) → IsRefusedBy x old new line
+    → ReadsToEnd 1048576 left rest bytes → IsAnswered bytes v a → IsTaken a old new faults m0 m1 r0 r1 x → IsSurelyRefused (Some v) left line → (faults → ⊥) → IsRefusedBy x old new line
 faulty_so v None rest bytes line a old new faults m0 m1 r0 r1 x r k u b n = absurd b
 faulty_so v (Some all) rest bytes line a old new faults m0 m1 r0 r1 x r k (s.IsTaken.whole q t m d) b n =
-    let told = told_by v bytes line a k (subst (λ (bs : List ℕ). CauseOf v bs line) (sym r.all) b.1) in
+    let told = told_by v bytes line a k (subst (λ (bs : List ℕ). SureCauseOf v bs line) (sym r.all) b.1) in
     subst (λ (x : Exit). IsRefusedBy x old new line) (sym (q ∙ told.0)) (subst (λ (t : List ℕ). Appends old new t) told.1 t)
 faulty_so v (Some all) rest bytes line a old new faults m0 m1 r0 r1 x r k (s.IsTaken.cut q t f m d) b n = absurd (n f)
 
 -- ---- what is made, and left of the run
 
-made_whole : (v : Verb) (left : Option (List ℕ)) (bytes : List ℕ) (a : Answer) (m0 m1 : List Program) → IfSome left (λ all. bytes ≡ all) → IsAnswered bytes v a
-    → m1 ≡ made_by a m0 → MadeAt (exit_of a) (Some v) left m0 m1
-made_whole v left bytes a m0 m1 r (s.IsAnswered.report job k t) m = tt
-made_whole v left bytes a m0 m1 r (s.IsAnswered.crowded {made = made} k d) m = (bytes, r, inl (subst (IsCrowded bytes) (sym m) d))
-made_whole v left bytes a m0 m1 r (s.IsAnswered.file job p k n f) m = tt
-made_whole v left bytes a m0 m1 r (s.IsAnswered.listing p k t) m = m
-made_whole verb.Run left bytes a m0 m1 r (s.IsAnswered.refuses k d) m = (bytes, r, inr (m, d))
-made_whole verb.Prep left bytes a m0 m1 r (s.IsAnswered.refuses k d) m = m
-made_whole verb.List left bytes a m0 m1 r (s.IsAnswered.refuses k d) m = m
+made_whole : (v : Verb) (left old new : Option (List ℕ)) (bytes : List ℕ) (a : Answer) (m0 m1 : List Program) → IfSome left (λ all. bytes ≡ all) → IsAnswered bytes v a
+    → Appends old new (text_of a) → m1 ≡ made_by a m0 → MadeAt (exit_of a) (Some v) left old new m0 m1
+made_whole v left old new bytes a m0 m1 r (s.IsAnswered.report job k t) w m = tt
+made_whole v left old new bytes a m0 m1 r (s.IsAnswered.crowded {made = made} {line = line} need given t d) w m =
+    (bytes, r, (line.items, w, inl (need, given, t, subst (λ (ms : List Program). IsCrowded bytes ms need given) (sym m) d)))
+made_whole v left old new bytes a m0 m1 r (s.IsAnswered.file job p k n f) w m = tt
+made_whole v left old new bytes a m0 m1 r (s.IsAnswered.listing p k t) w m = m
+made_whole verb.Run left old new bytes a m0 m1 r (s.IsAnswered.refuses {line = line} k d) w m = (bytes, r, (line.items, w, inr (m, d.0, d.1)))
+made_whole verb.Prep left old new bytes a m0 m1 r (s.IsAnswered.refuses k d) w m = m
+made_whole verb.List left old new bytes a m0 m1 r (s.IsAnswered.refuses k d) w m = m
 
 pub made_so : (v : Verb) (left rest : Option (List ℕ)) (bytes : List ℕ) (a : Answer) (old new : Option (List ℕ)) (faults : Type 0) (m0 m1 : List Program) (r0 r1 : Option Ran) (x : Exit)
-    → ReadsToEnd 1048576 left rest bytes → IsAnswered bytes v a → IsTaken a old new faults m0 m1 r0 r1 x → MadeAt x (Some v) left m0 m1
+    → ReadsToEnd 1048576 left rest bytes → IsAnswered bytes v a → IsTaken a old new faults m0 m1 r0 r1 x → MadeAt x (Some v) left old new m0 m1
 made_so v left rest bytes a old new faults m0 m1 r0 r1 x r k (s.IsTaken.whole q t m d) =
-    subst (λ (x : Exit). MadeAt x (Some v) left m0 m1) (sym q) (made_whole v left bytes a m0 m1 r.all k m)
-made_so v left rest bytes a old new faults m0 m1 r0 r1 x r k (s.IsTaken.cut q t f m d) = subst (λ (x : Exit). MadeAt x (Some v) left m0 m1) (sym q) m
+    subst (λ (x : Exit). MadeAt x (Some v) left old new m0 m1) (sym q) (made_whole v left old new bytes a m0 m1 r.all k t m)
+made_so v left rest bytes a old new faults m0 m1 r0 r1 x r k (s.IsTaken.cut q t f m d) = subst (λ (x : Exit). MadeAt x (Some v) left old new m0 m1) (sym q) m
 
 ran_whole : (v : Verb) (bytes : List ℕ) (a : Answer) (r0 r1 : Option Ran) → IsAnswered bytes v a → r1 ≡ ran_by a r0 → RanAt (exit_of a) (Some v) r0 r1
 ran_whole v bytes a r0 r1 (s.IsAnswered.report job k t) d = tt
-ran_whole v bytes a r0 r1 (s.IsAnswered.crowded k c) d = d
+ran_whole v bytes a r0 r1 (s.IsAnswered.crowded need given t c) d = d
 ran_whole v bytes a r0 r1 (s.IsAnswered.file job p k n f) d = d
 ran_whole v bytes a r0 r1 (s.IsAnswered.listing p k t) d = d
 ran_whole v bytes a r0 r1 (s.IsAnswered.refuses k c) d = d

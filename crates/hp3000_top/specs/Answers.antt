@@ -5,6 +5,7 @@ use Rattle.hp_outside.specs.Whole.{AppendsPrefix}
 use Rattle.job_text.specs.Jobs.{JobValue}
 use Rattle.job_text.specs.States.{TextValue, SeatValue}
 use Rattle.job_report.specs.Listings.{listing_of}
+use Rattle.job_report.specs.Refusals.{memory_refused}
 use Rattle.job_runs.specs.Reported.{names_of, report_on}
 use Rattle.hp_program.specs.declared.program.Program.{Program}
 use Rattle.mpe_progfile.specs.Files.{IsFile}
@@ -22,8 +23,8 @@ use Rattle.hp3000_top.specs.declared.ran.Ran.{Ran}
 use Rattle.hp3000_top.specs.declared.ran.Ran.TheVariants.{Plain}
 use Rattle.hp3000_top.specs.declared.verbs.Verb.{Verb}
 use Rattle.hp3000_top.specs.declared.verbs.Verb.TheVariants as verb
-use Rattle.hp3000_top.specs.Programs.{IsThin}
-use Rattle.hp3000_top.specs.Causes.{IsJob, Runs, IsPrepared, CauseOf, ComesTo}
+use Rattle.hp3000_top.specs.Programs.{IsWithin, AreWithin}
+use Rattle.hp3000_top.specs.Causes.{IsJob, Runs, IsPrepared, CauseOf, SureCauseOf, ComesTo}
 
 -- the input was read to its end, and has at most so many bytes
 abbrev pub IsWhole : ℕ → Option (List ℕ) → Option (List ℕ) → Type 0
@@ -103,11 +104,11 @@ seat_of s = record { stack = s.stack; extra = s.extra; room = s.room; lines = s.
 abbrev pub IsAsAlone : u.Unit → SeatValue → Run → Type 0
 IsAsAlone unit seat r = (n : ℕ) × (alone unit (seat_of seat) n ≡ flat_point r.machine)
 
--- there is a session for each of the job's, and each is so with the unit of its program
+-- there is a session for each of the job's, and each is so whose program's text is that of a thin unit within its bounds
 pub record EachIsAsAlone (job : JobValue) (runs : List Run) : Type 0 where
   pub count : length runs ≡ length job.sessions
   pub each : (k : ℕ) (seat : SeatValue) (t : TextValue) (r : Run) → slice_get job.sessions k ≡ Some seat → slice_get job.programs seat.program ≡ Some t
-      → slice_get runs k ≡ Some r → (unit : u.Unit) × IsThin t.units unit × IsAsAlone unit seat r
+      → slice_get runs k ≡ Some r → (unit : u.Unit) → IsWithin t.units unit → IsAsAlone unit seat r
 
 -- what was reported is a world of the job's sessions in which each is so
 pub record ReportsAsAlone (bytes : List ℕ) (made : List Program) (old new : Option (List ℕ)) : Type 0 where
@@ -124,16 +125,16 @@ AreAsAlone _ left made old new = Unit {0}
 
 -- ---- when each answer has to come
 
--- the bytes are a job whose programs can be made and whose sessions open; or whose one program can be made; or a program's file
-abbrev pub IsBuiltOf : Verb → List ℕ → Type 0
-IsBuiltOf verb.Run bytes = (job : JobValue) × (made : List Program) × (w : World) × Runs bytes job made w
-IsBuiltOf verb.Prep bytes = (job : JobValue) × (p : Program) × IsPrepared bytes job p
-IsBuiltOf verb.List bytes = (p : Program) × IsFile p bytes
+-- the bytes are a job of thin programs within their bounds whose sessions open; or one whose only program is such; or a program's file
+abbrev pub IsSurelyDoneOf : Verb → List ℕ → Type 0
+IsSurelyDoneOf verb.Run bytes = (job : JobValue) × (made : List Program) × (w : World) × Runs bytes job made w × AreWithin job.programs
+IsSurelyDoneOf verb.Prep bytes = (job : JobValue) × (p : Program) × IsPrepared bytes job p × AreWithin job.programs
+IsSurelyDoneOf verb.List bytes = (p : Program) × IsFile p bytes
 
 -- the bytes that are left, at most 1,048,576, are so
-abbrev pub IsBuilt : Option Verb → Option (List ℕ) → Type 0
-IsBuilt (Some v) (Some bytes) = (length bytes ≤ 1048576) × IsBuiltOf v bytes
-IsBuilt _ _ = ⊥
+abbrev pub IsSurelyDone : Option Verb → Option (List ℕ) → Type 0
+IsSurelyDone (Some v) (Some bytes) = (length bytes ≤ 1048576) × IsSurelyDoneOf v bytes
+IsSurelyDone _ _ = ⊥
 
 -- done, unless memory is wanting
 abbrev pub IsDone : Exit → Type 0
@@ -141,10 +142,10 @@ IsDone e.Done = Unit {0}
 IsDone e.NoMemory = Unit {0}
 IsDone _ = ⊥
 
--- the bytes that are left, at most 1,048,576, are refused by this line
-abbrev pub IsFaulty : Option Verb → Option (List ℕ) → List ℕ → Type 0
-IsFaulty (Some v) (Some bytes) line = (length bytes ≤ 1048576) × CauseOf v bytes line
-IsFaulty _ _ line = ⊥
+-- the bytes that are left, at most 1,048,576, can be refused by this line alone
+abbrev pub IsSurelyRefused : Option Verb → Option (List ℕ) → List ℕ → Type 0
+IsSurelyRefused (Some v) (Some bytes) line = (length bytes ≤ 1048576) × SureCauseOf v bytes line
+IsSurelyRefused _ _ line = ⊥
 
 -- this line was appended, unless memory is wanting
 abbrev pub IsRefusedBy : Exit → Option (List ℕ) → Option (List ℕ) → List ℕ → Type 0
@@ -154,26 +155,38 @@ IsRefusedBy _ old new line = ⊥
 
 -- ---- what is made, and left of the run
 
--- the programs of a job that the memory is too small for
-pub record IsCrowded (bytes : List ℕ) (made : List Program) : Type 0 where
+-- the programs of a job that the memory is too small for, so much being needed and so much given
+pub record IsCrowded (bytes : List ℕ) (made : List Program) (need given : ℕ) : Type 0 where
   pub job : JobValue
   pub seats : List seats.Seat
   pub is : IsJob bytes job made seats
-  pub need : ℕ
-  pub given : ℕ
   pub refused : refusal job.memory seats made ≡ Some (MemoryTooSmall need given)
 
--- the programs of a job that the memory is too small for; as before where the bytes are no such job
-abbrev pub MadeOf : List ℕ → List Program → List Program → Type 0
-MadeOf bytes old new = IsCrowded bytes new ⊎ ((new ≡ old) × ((made : List Program) → IsCrowded bytes made → ⊥))
+-- this is the line of a memory that is too small
+abbrev pub IsOfMemory : List ℕ → Type 0
+IsOfMemory line = (need : ℕ) × (given : ℕ) × (line ≡ memory_refused need given)
 
--- What is done by `run` and `prep` has its programs; a job to be run that is refused has them where the memory is too small. Else they are
--- as before.
-abbrev pub MadeAt : Exit → Option Verb → Option (List ℕ) → List Program → List Program → Type 0
-MadeAt e.Done (Some verb.Run) left old new = Unit {0}
-MadeAt e.Done (Some verb.Prep) left old new = Unit {0}
-MadeAt e.Refused (Some verb.Run) left old new = Read left (λ bytes. MadeOf bytes old new)
-MadeAt _ _ left old new = new ≡ old
+-- the memory is too small for a job of thin programs within their bounds
+pub record IsSurelyCrowded (bytes : List ℕ) (made : List Program) : Type 0 where
+  pub need : ℕ
+  pub given : ℕ
+  pub crowded : IsCrowded bytes made need given
+  pub within : AreWithin crowded.job.programs
+
+-- Where the line is that of a memory that is too small, it is too small for these programs; where it is another they are as before, and the bytes
+-- are no job for which the memory surely is too small.
+abbrev pub MadeBy : List ℕ → List ℕ → List Program → List Program → Type 0
+MadeBy bytes line old new =
+    ((need : ℕ) × (given : ℕ) × (line ≡ memory_refused need given) × IsCrowded bytes new need given)
+    ⊎ ((new ≡ old) × (IsOfMemory line → ⊥) × ((made : List Program) → IsSurelyCrowded bytes made → ⊥))
+
+-- What is done by `run` and `prep` has its programs; a job to be run that is refused has them where the line that was appended is that of a memory
+-- that is too small. Else they are as before.
+abbrev pub MadeAt : Exit → Option Verb → Option (List ℕ) → Option (List ℕ) → Option (List ℕ) → List Program → List Program → Type 0
+MadeAt e.Done (Some verb.Run) left before now old new = Unit {0}
+MadeAt e.Done (Some verb.Prep) left before now old new = Unit {0}
+MadeAt e.Refused (Some verb.Run) left before now old new = Read left (λ bytes. (line : List ℕ) × Appends before now line × MadeBy bytes line old new)
+MadeAt _ _ left before now old new = new ≡ old
 
 -- what is done by `run` leaves its monitor; else what is left is as before
 abbrev pub RanAt : Exit → Option Verb → Option Ran → Option Ran → Type 0

@@ -21,7 +21,7 @@ use Rattle.mpe_turns.specs.declared.fault.OpenFault.TheVariants.{StackTooSmall, 
 use Rattle.mpe_turns.specs.Opening.{refusal}
 use Rattle.hp3000_top.specs.declared.verbs.Verb.{Verb}
 use Rattle.hp3000_top.specs.declared.verbs.Verb.TheVariants as verb
-use Rattle.hp3000_top.specs.Programs.{AreMade, FirstRefused}
+use Rattle.hp3000_top.specs.Programs.{AreMade, FirstRefused, AreWithin, FirstFaulty}
 
 -- ---- a job to be run
 
@@ -94,3 +94,24 @@ pub data ComesTo (bytes : List ℕ) : Verb → List ℕ → Type 0 where
   file : {text : List ℕ} (job : JobValue) (p : Program) → IsPrepared bytes job p → IsFile p text → ComesTo bytes verb.Prep text
   listing : (p : Program) → IsFile p bytes → ComesTo bytes verb.List (listing_of p)
   line : {v : Verb} {text : List ℕ} → CauseOf v bytes text → ComesTo bytes v text
+
+-- ---- what is certain
+
+-- As a job to be run the bytes can be refused by no other line than this: a line of the job breaks a rule; the first program that is no thin
+-- one within its bounds has a fault; or all programs are such, and the sessions don't open.
+pub data SureCause (bytes : List ℕ) : List ℕ → Type 0 where
+  lines : {l r : ℕ} → JobBreaks bytes false l r → SureCause bytes (job_refused l r)
+  program : {line : List ℕ} (job : JobValue) → JobIs bytes false job → FirstFaulty job.programs line → SureCause bytes line
+  sessions : {f : OpenFault} (job : JobValue) (made : List Program) (seats : List Seat) → IsJob bytes job made seats → AreWithin job.programs
+      → refusal job.memory seats made ≡ Some f → SureCause bytes (open_line f)
+
+-- As a job to be prepared they can be refused by no other line than this.
+pub data SurelyUnprepared (bytes : List ℕ) : List ℕ → Type 0 where
+  broken : {l r : ℕ} → JobBreaks bytes true l r → SurelyUnprepared bytes (job_refused l r)
+  unmade : {line : List ℕ} (job : JobValue) → JobIs bytes true job → FirstFaulty job.programs line → SurelyUnprepared bytes line
+
+-- By the verb. What is wrong with a program file is always certain.
+abbrev pub SureCauseOf : Verb → List ℕ → List ℕ → Type 0
+SureCauseOf verb.Run bytes told = SureCause bytes told
+SureCauseOf verb.Prep bytes told = SurelyUnprepared bytes told
+SureCauseOf verb.List bytes told = Unlisted bytes told

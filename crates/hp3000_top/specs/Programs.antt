@@ -1,13 +1,18 @@
 -- What is made of the texts of a job's programs: a program of each, or the line that tells why not.
-use Rattle.std.specs.Prelude.{ℕ, ◌≡◌, true, false, List, [], ◌∷◌, Some, codes}
+use Rattle.std.specs.Prelude.{ℕ, ◌≡◌, true, false, List, [], ◌∷◌, Option, None, Some}
 use Rattle.job_report.specs.declared.refusals.UnitRefusal.TheVariants as wrong
-use Rattle.job_report.specs.Refusals.{unit_refused}
+use Rattle.job_report.specs.declared.refusals.ModulesRefusal.{ModulesRefusal}
+use Rattle.job_report.specs.declared.refusals.ModulesRefusal.TheVariants as modules
+use Rattle.job_report.specs.Refusals.{unit_refused, modules_refused}
 use Rattle.job_text.specs.States.{TextValue}
 use Rattle.hp_program.specs.declared.program.Program.{Program}
 use Rattle.spl_meaning.specs.Tables.{Source}
 use Rattle.spl_program.specs.declared.faults.ProgramFault.{ProgramFault}
 use Rattle.spl_program.specs.declared.faults.ProgramFault.TheVariants as why
 use Rattle.spl_program.specs.Programs.{IsProgram, IsFault}
+use Rattle.mpe_segmenter.specs.declared.faults.PrepFault.{PrepFault}
+use Rattle.mpe_segmenter.specs.declared.faults.PrepFault.TheVariants as link
+use Rattle.spl_build.specs.Built.{IsBuilt, IsUnlinked}
 use Rattle.thin_jobs.specs.ThinUnits as u
 use Rattle.thin_jobs.specs.ThinShapes.{thin_in}
 use Rattle.thin_compiler.specs.ThinCode.{is_in_bounds}
@@ -19,22 +24,20 @@ pub record IsThin (texts : List (List ℕ)) (unit : u.Unit) : Type 0 where
   pub program : IsProgram texts (source ∷ [])
   pub thin : thin_in source.subprogram source.segments source.tree ≡ Some unit
 
--- the program is made of these texts: of a thin unit within its bounds
-pub record IsMade (texts : List (List ℕ)) (p : Program) : Type 0 where
-  pub unit : u.Unit
+-- the texts are those of this thin unit, and it is within its bounds
+pub record IsWithin (texts : List (List ℕ)) (unit : u.Unit) : Type 0 where
   pub thin : IsThin texts unit
   pub fits : is_in_bounds unit.names unit.statements ≡ true
-  pub made : IsMadeOf unit.names unit.statements p
 
--- the texts have no fault, but are those of no thin unit within its bounds, so that nothing can be made of them yet
-pub record IsUnbuilt (texts : List (List ℕ)) : Type 0 where
-  pub units : List Source
-  pub program : IsProgram texts units
+-- the texts are those of these units, which break no rule and pass no limit, and are no thin unit within its bounds
+pub record IsBeyond (texts : List (List ℕ)) (us : List Source) : Type 0 where
+  pub program : IsProgram texts us
   pub beyond : (unit : u.Unit) → IsThin texts unit → is_in_bounds unit.names unit.statements ≡ false
 
--- the line for a program of a form that is not built yet
-abbrev pub later_line : List ℕ
-later_line = codes "REFUSED LATER\n"
+-- The program is made of these texts: of a thin unit within its bounds, or of other units. The second holds of more than one program.
+pub data IsMade (texts : List (List ℕ)) (p : Program) : Type 0 where
+  thin : (unit : u.Unit) → IsWithin texts unit → IsMadeOf unit.names unit.statements p → IsMade texts p
+  built : (us : List Source) → IsBeyond texts us → IsBuilt us p → IsMade texts p
 
 -- the line for a program whose texts have this fault; want of memory has none
 abbrev pub fault_line : List ℕ → ProgramFault → List ℕ
@@ -43,10 +46,30 @@ fault_line name (why.Rule rule at) = unit_refused name at (wrong.Rule rule)
 fault_line name (why.Limit limit at) = unit_refused name at (wrong.Limit limit)
 fault_line name why.NoMemory = []
 
--- a program is refused by this line
+-- what is told of a fault of modules; of want of memory nothing
+abbrev pub told_of : PrepFault → Option ModulesRefusal
+told_of link.NoMain = Some modules.NoMain
+told_of link.TwoMains = Some modules.TwoMains
+told_of (link.Doubled n) = Some (modules.Doubled n)
+told_of (link.Unresolved n) = Some (modules.Unresolved n)
+told_of (link.SegmentsFull count) = Some modules.SegmentsFull
+told_of (link.EntriesFull segment count) = Some (modules.EntriesFull segment)
+told_of (link.SegmentFull segment words) = Some (modules.SegmentFull segment)
+told_of link.NoMemory = None
+
+-- the line that tells it
+abbrev pub told_line : List ℕ → Option ModulesRefusal → List ℕ
+told_line name None = []
+told_line name (Some refusal) = modules_refused name refusal
+
+-- the line for a program whose modules have this fault; want of memory has none
+abbrev pub link_line : List ℕ → PrepFault → List ℕ
+link_line name f = told_line name (told_of f)
+
+-- a program is refused by this line: its texts have a fault; or they have none, and modules of its units have one
 pub data IsRefused (t : TextValue) : List ℕ → Type 0 where
   faulty : {f : ProgramFault} → IsFault t.units f → IsRefused t (fault_line t.name f)
-  unbuilt : IsUnbuilt t.units → IsRefused t later_line
+  unlinked : {f : PrepFault} (us : List Source) → IsBeyond t.units us → IsUnlinked us f → IsRefused t (link_line t.name f)
 
 -- the programs are made of these texts, each of its own
 pub data AreMade : List TextValue → List Program → Type 0 where
@@ -57,3 +80,15 @@ pub data AreMade : List TextValue → List Program → Type 0 where
 pub data FirstRefused : List TextValue → List ℕ → Type 0 where
   here : {t : TextValue} {ts : List TextValue} {line : List ℕ} → IsRefused t line → FirstRefused (t ∷ ts) line
   behind : {t : TextValue} {ts : List TextValue} {line : List ℕ} (p : Program) → IsMade t.units p → FirstRefused ts line → FirstRefused (t ∷ ts) line
+
+-- ---- what is certain: of thin units within their bounds one program can be made, and a fault of texts is one
+
+-- each of these texts is that of a thin unit within its bounds
+pub data AreWithin : List TextValue → Type 0 where
+  none : AreWithin []
+  more : {t : TextValue} {ts : List TextValue} (unit : u.Unit) → IsWithin t.units unit → AreWithin ts → AreWithin (t ∷ ts)
+
+-- the first of them that is no such text has a fault, which this line tells
+pub data FirstFaulty : List TextValue → List ℕ → Type 0 where
+  here : {t : TextValue} {ts : List TextValue} {f : ProgramFault} → IsFault t.units f → FirstFaulty (t ∷ ts) (fault_line t.name f)
+  behind : {t : TextValue} {ts : List TextValue} {line : List ℕ} (unit : u.Unit) → IsWithin t.units unit → FirstFaulty ts line → FirstFaulty (t ∷ ts) line

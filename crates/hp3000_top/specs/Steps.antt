@@ -24,6 +24,9 @@ use Rattle.mpe_progfile.specs.Files.{IsFile}
 use Rattle.mpe_turns.specs.declared.monitor.Monitor.{Monitor}
 use Rattle.mpe_turns.specs.Monitors.{world_of}
 use Rattle.mpe_turns.specs.Opening.{refusal}
+use Rattle.mpe_segmenter.specs.declared.faults.PrepFault.{PrepFault}
+use Rattle.spl_build.specs.Built.{IsUnlinked}
+use Rattle.spl_meaning.specs.Tables.{Source}
 use Rattle.spl_program.specs.declared.faults.ProgramFault.{ProgramFault}
 use Rattle.spl_program.specs.declared.faults.ProgramFault.TheVariants as why
 use Rattle.spl_tree.specs.declared.units.SplUnit.{SplUnit}
@@ -43,9 +46,9 @@ use Rattle.hp3000_top.specs.declared.ran.Ran.{Ran}
 use Rattle.hp3000_top.specs.declared.ran.Ran.TheVariants.{Plain}
 use Rattle.hp3000_top.specs.declared.verbs.Verb.{Verb}
 use Rattle.hp3000_top.specs.declared.verbs.Verb.TheVariants as verb
-use Rattle.hp3000_top.specs.Programs.{IsRefused, FirstRefused}
-use Rattle.hp3000_top.specs.Causes.{Cause, Runs, IsPrepared, CauseOf, open_line}
-use Rattle.hp3000_top.specs.Answers.{IsCrowded}
+use Rattle.hp3000_top.specs.Programs.{link_line, IsRefused, FirstRefused}
+use Rattle.hp3000_top.specs.Causes.{Runs, IsPrepared, CauseOf, open_line}
+use Rattle.hp3000_top.specs.Answers.{IsCrowded, IsOfMemory, IsSurelyCrowded}
 
 -- ---- programs
 
@@ -66,6 +69,11 @@ MakesThin (Ok p) (Some unit) = IsMadeOf unit.names unit.statements p × (is_in_b
 MakesThin (Err unread.Later) None = Unit {0}
 MakesThin (Err unread.Later) (Some unit) = is_in_bounds unit.names unit.statements ≡ false
 MakesThin (Err unread.NoMemory) _ = Unit {0}
+
+-- the line tells the first fault of modules of the units; want of memory says nothing
+abbrev pub UnlinkedBy : List ℕ → List Source → Unmade → Type 0
+UnlinkedBy name us (unmade.Refused line) = (f : PrepFault) × IsUnlinked us f × (line.items ≡ link_line name f)
+UnlinkedBy name us unmade.NoMemory = Unit {0}
 
 -- the line refuses the program, or the first of some; want of memory says nothing
 abbrev pub RefusedBy : TextValue → Unmade → Type 0
@@ -125,20 +133,21 @@ abbrev pub IsFileOf : List Program → Answer → Type 0
 IsFileOf programs (File made text) = (p : Program) × (programs ≡ p ∷ []) × (made.items ≡ programs) × IsFile p text.items
 IsFileOf programs _ = ⊥
 
--- no job that the memory is too small for
-abbrev pub IsRoomy : Verb → List ℕ → Type 0
-IsRoomy verb.Run bytes = (made : List Program) → IsCrowded bytes made → ⊥
-IsRoomy _ bytes = Unit {0}
+-- no line of a memory that is too small, and no job for which it surely is
+abbrev pub IsRoomy : Verb → List ℕ → List ℕ → Type 0
+IsRoomy verb.Run bytes line = (IsOfMemory line → ⊥) × ((made : List Program) → IsSurelyCrowded bytes made → ⊥)
+IsRoomy _ bytes line = Unit {0}
 
 -- what the bytes come to is what is answered
 pub data IsAnswered (bytes : List ℕ) : Verb → Answer → Type 0 where
   report : {made : Vec Program Global} {monitor : Monitor} {text : Vec ℕ Global} (job : JobValue) → Runs bytes job made.items (world_of monitor)
       → text.items ≡ report_on (names_of job.programs) job.stats (world_of monitor) → IsAnswered bytes verb.Run (Report made monitor text)
-  crowded : {made : Vec Program Global} {line : Vec ℕ Global} → Cause bytes line.items → IsCrowded bytes made.items → IsAnswered bytes verb.Run (Crowded made line)
+  crowded : {made : Vec Program Global} {line : Vec ℕ Global} (need given : ℕ) → line.items ≡ memory_refused need given → IsCrowded bytes made.items need given
+      → IsAnswered bytes verb.Run (Crowded made line)
   file : {made : Vec Program Global} {text : Vec ℕ Global} (job : JobValue) (p : Program) → IsPrepared bytes job p → made.items ≡ p ∷ [] → IsFile p text.items
       → IsAnswered bytes verb.Prep (File made text)
   listing : {text : Vec ℕ Global} (p : Program) → IsFile p bytes → text.items ≡ listing_of p → IsAnswered bytes verb.List (Listing text)
-  refuses : {v : Verb} {line : Vec ℕ Global} → CauseOf v bytes line.items → IsRoomy v bytes → IsAnswered bytes v (Refusal line)
+  refuses : {v : Verb} {line : Vec ℕ Global} → CauseOf v bytes line.items → IsRoomy v bytes line.items → IsAnswered bytes v (Refusal line)
 
 -- ---- the output
 

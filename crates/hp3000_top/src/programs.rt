@@ -6,6 +6,7 @@ ghost use Rattle.job_text.specs.Views.{text_value};
 ghost use Rattle.hp3000_top.specs.Programs.{fault_line, IsMade, AreMade};
 ghost use Rattle.hp3000_top.specs.Steps.{IsTold, thin_among, MakesThin, RefusedBy, RefusedAmong};
 
+use crate::linking::linked_program;
 use crate::unmade::Unmade;
 use hp_program::Program;
 use job_report::{Refusal, UnitRefusal, refusal_line};
@@ -15,9 +16,6 @@ use spl_tree::{At, Name, SplUnit};
 use std::alloc::{AllocError, Global};
 use thin_compiler::{is_thin, make};
 use thin_jobs::Unread;
-
-/// The line for a program of a form that is not built yet.
-const LATER: &[u8] = b"REFUSED LATER\n";
 
 /// The line for something wrong at a place of a program's units.
 fn unit_line(alloc: Global, name: &Name, at: At, fault: UnitRefusal) -> Result<Vec<u8>, AllocError>
@@ -68,10 +66,7 @@ fn program_of(alloc: Global, text: &Text) -> Result<Program, Unmade>
     };
     match thin_program(alloc, &sound.units) {
         Ok(program) => Ok(program),
-        Err(Unread::Later) => {
-            let line = Vec::from_slice(alloc, LATER)?;
-            Err(Unmade::Refused { line })
-        }
+        Err(Unread::Later) => linked_program(alloc, &text.name, &sound),
         Err(Unread::NoMemory) => Err(Unmade::NoMemory),
     }
 }

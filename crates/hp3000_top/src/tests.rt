@@ -245,7 +245,7 @@ fn jobs_that_are_refused(rt: HostRuntime) -> Result<(), Fail> {
 #[test]
 fn units_that_are_refused(rt: HostRuntime) -> Result<(), Fail> {
     let alloc = rt.alloc();
-    let cases: [(&str, &str); 6] = [
+    let cases: [(&str, &str); 8] = [
         (
             "BEGIN INTEGER A; INTRINSIC QUIT; QUIT(B) END.",
             "PROGRAM A UNIT 1 LINE 1 COLUMN 39 RULE 1",
@@ -262,15 +262,56 @@ fn units_that_are_refused(rt: HostRuntime) -> Result<(), Fail> {
             "BEGIN INTEGER A; INTRINSIC QUIT; TERMINATE END.",
             "PROGRAM A UNIT 1 LINE 1 COLUMN 34 RULE 1",
         ),
-        // sound, and not thin
-        ("BEGIN INTEGER A; INTRINSIC QUIT; A:=32768 END.", "LATER"),
-        ("BEGIN END.", "LATER"),
+        // sound, and no program can be made of the modules
+        (
+            "BEGIN PROCEDURE P; OPTION EXTERNAL; P END.",
+            "PROGRAM A SEGMENTER UNRESOLVED P",
+        ),
+        (
+            "BEGIN END.\n!UNIT\nBEGIN END.",
+            "PROGRAM A SEGMENTER TWOMAINS",
+        ),
+        (
+            "$CONTROL SUBPROGRAM\nBEGIN PROCEDURE P; RETURN; END.",
+            "PROGRAM A SEGMENTER NOMAIN",
+        ),
+        (
+            "BEGIN PROCEDURE P; OPTION EXTERNAL; P END.\n!UNIT\n$CONTROL SUBPROGRAM\nBEGIN PROCEDURE P; RETURN; END.\n!UNIT\n$CONTROL SUBPROGRAM\nBEGIN PROCEDURE P; RETURN; END.",
+            "PROGRAM A SEGMENTER DOUBLED P",
+        ),
     ];
     for (unit, why) in cases {
         let line = format!(in alloc; "REFUSED {why}\n")?;
         let (exit, text) = run(alloc, &job_of(alloc, unit)?)?;
         assert_eq!(rt; text.as_slice(), line.as_bytes(), "{unit}");
         assert_eq!(rt; exit, Exit::Refused);
+    }
+    Ok(())
+}
+
+#[test]
+fn units_that_are_not_thin(rt: HostRuntime) -> Result<(), Fail> {
+    let alloc = rt.alloc();
+    let cases: [(&str, &str); 4] = [
+        ("BEGIN END.", "TERMINATED"),
+        (
+            "BEGIN INTEGER A; INTRINSIC QUIT; A:=-32767-1; QUIT(A) END.",
+            "QUIT -32768",
+        ),
+        (
+            "BEGIN INTEGER I,J; INTRINSIC QUIT; FOR I:=1 UNTIL 10 DO J:=J+I; QUIT(J) END.",
+            "QUIT 55",
+        ),
+        (
+            "BEGIN PROCEDURE P; OPTION EXTERNAL; P END.\n!UNIT\n$CONTROL SUBPROGRAM\nBEGIN PROCEDURE P; RETURN; END.",
+            "TERMINATED",
+        ),
+    ];
+    for (unit, end) in cases {
+        let report = format!(in alloc; "SESSION 1 A BYTES 0\nEND 1 {end}\n")?;
+        let (exit, text) = run(alloc, &job_of(alloc, unit)?)?;
+        assert_eq!(rt; text.as_slice(), report.as_bytes(), "{unit}");
+        assert_eq!(rt; exit, Exit::Done);
     }
     Ok(())
 }
@@ -386,13 +427,15 @@ fn with_operands(alloc: Global, count: u32) -> Result<Vec<u8>, Fail> {
 #[test]
 fn limits_at_their_edges(rt: HostRuntime) -> Result<(), Fail> {
     let alloc = rt.alloc();
-    // a sum of 340 operands has the greatest bound that a segment may have
+    // thin units have at most 100 variables and sums of 340 operands; the primary area has at most 256 words
     for (job, done) in [
         (with_names(alloc, 100)?, true),
-        (with_names(alloc, 101)?, false),
+        (with_names(alloc, 101)?, true),
+        (with_names(alloc, 256)?, true),
+        (with_names(alloc, 257)?, false),
         (with_operands(alloc, 340)?, true),
-        (with_operands(alloc, 341)?, false),
-        (with_operands(alloc, 501)?, false),
+        (with_operands(alloc, 341)?, true),
+        (with_operands(alloc, 501)?, true),
     ] {
         let (exit, _) = run(alloc, &job)?;
         assert_eq!(rt; exit == Exit::Done, done);

@@ -3,7 +3,7 @@ ghost use Rattle.std.specs.Prelude.{◌≡◌, ◌↔◌, ◌⊎◌, ℕ, List, 
 ghost use Rattle.hp_outside.specs.Faults.{Rose};
 ghost use Rattle.hp_outside.specs.Whole.{IsLongerThan};
 ghost use Rattle.hp3000_top.specs.Verbs.{asked};
-ghost use Rattle.hp3000_top.specs.Answers.{IsWhole, IsSilent, Delivers, Refuses, BreaksOff, AreAsAlone, IsBuilt, IsDone, IsFaulty, IsRefusedBy, MadeAt, RanAt};
+ghost use Rattle.hp3000_top.specs.Answers.{IsWhole, IsSilent, Delivers, Refuses, BreaksOff, AreAsAlone, IsSurelyDone, IsDone, IsSurelyRefused, IsRefusedBy, MadeAt, RanAt};
 ghost use Rattle.hp3000_top.specs.Steps.{IsTaken};
 
 use crate::answer::Answer;
@@ -92,14 +92,14 @@ pub fn hp3000_main<I: Source, O: Sink>(
     ensures refused { result ≡ Exit.Refused → Refuses (asked (map (λ w. string_bytes w) words.now.items)) (I.left input.old) (O.written output.old) (O.written output.new) }
     ensures done { result ≡ Exit.Done → Delivers (asked (map (λ w. string_bytes w) words.now.items)) (I.left input.old) made.new.items ran.new (O.written output.old) (O.written output.new) }
 
-    // The headline: each session has printed and ended exactly as its source, run alone, has at some step. And when it is done, or
-    // refused.
+    // The headline: each session of a thin program has printed and ended exactly as its source, run alone, has at some step. And when
+    // it has to be done, or refused.
     ensures headline { result ≡ Exit.Done → AreAsAlone (asked (map (λ w. string_bytes w) words.now.items)) (I.left input.old) made.new.items (O.written output.old) (O.written output.new) }
-    ensures complete { IsBuilt (asked (map (λ w. string_bytes w) words.now.items)) (I.left input.old) → (Rose (I.faults input.old) (I.faults input.new) → ⊥) → (Rose (O.faults output.old) (O.faults output.new) → ⊥) → IsDone result }
-    ensures faulty { (line : List ℕ) → IsFaulty (asked (map (λ w. string_bytes w) words.now.items)) (I.left input.old) line → (Rose (I.faults input.old) (I.faults input.new) → ⊥) → (Rose (O.faults output.old) (O.faults output.new) → ⊥) → IsRefusedBy result (O.written output.old) (O.written output.new) line }
+    ensures complete { IsSurelyDone (asked (map (λ w. string_bytes w) words.now.items)) (I.left input.old) → (Rose (I.faults input.old) (I.faults input.new) → ⊥) → (Rose (O.faults output.old) (O.faults output.new) → ⊥) → IsDone result }
+    ensures faulty { (line : List ℕ) → IsSurelyRefused (asked (map (λ w. string_bytes w) words.now.items)) (I.left input.old) line → (Rose (I.faults input.old) (I.faults input.new) → ⊥) → (Rose (O.faults output.old) (O.faults output.new) → ⊥) → IsRefusedBy result (O.written output.old) (O.written output.new) line }
 
     // What is made, and left of the run.
-    ensures programs { MadeAt result (asked (map (λ w. string_bytes w) words.now.items)) (I.left input.old) made.old.items made.new.items }
+    ensures programs { MadeAt result (asked (map (λ w. string_bytes w) words.now.items)) (I.left input.old) (O.written output.old) (O.written output.new) made.old.items made.new.items }
     ensures kept { RanAt result (asked (map (λ w. string_bytes w) words.now.items)) ran.old ran.new }
 {
     let Some(verb) = verb_of(words) else {

@@ -4,7 +4,7 @@ use Rattle.std.specs.Global.{Global}
 use Rattle.std.proofs.Common as std
 use Rattle.hp3000_top.specs.declared.verbs.Verb.{Verb}
 use Rattle.hp3000_top.specs.Verbs.{asked}
-use Rattle.hp3000_top.specs.Answers.{BreaksOff, Refuses, Delivers, AreAsAlone, IsBuilt, IsFaulty, MadeAt}
+use Rattle.hp3000_top.specs.Answers.{BreaksOff, Refuses, Delivers, AreAsAlone, IsSurelyDone, IsSurelyRefused, MadeAt}
 use Rattle.hp3000_top.specs.Steps.{IsAnswered}
 use Rattle.hp3000_top.proofs.TopLemmas.{broken_so, refused_so, done_so, headline_so, complete_so, faulty_so, made_so}
 use Rattle.hp3000_top.proofs.top.hp3000_main.Goals as goal
@@ -52,7 +52,7 @@ returns-clause-complete g c =
     subst (λ (bs : List ℕ). IsAnswered bs c.in-Some.verb c.in-Ok-answer_of.answer) c.deref-2.ensures.value c.in-Ok-answer_of.ensures in
     let verb_is = asked_so c.deref.result.now c.args.words.now.items c.in-Some.verb c.in-Some.ensures c.deref.ensures.value in
     λ b i o. complete_so c.in-Some.verb _ _ c.in-Ok.bytes.items c.in-Ok-answer_of.answer _ _ _ _ _ _ _ _ c.in-Ok.ensures.ok told c.deliver.ensures
-    (subst (λ (v : Option Verb). IsBuilt v (g.I.Source.left c.args.input.now)) (sym verb_is) b) o
+    (subst (λ (v : Option Verb). IsSurelyDone v (g.I.Source.left c.args.input.now)) (sym verb_is) b) o
 
 pub returns-clause-faulty : goal.returns-clause-faulty
 returns-clause-faulty g c =
@@ -60,12 +60,12 @@ returns-clause-faulty g c =
     subst (λ (bs : List ℕ). IsAnswered bs c.in-Some.verb c.in-Ok-answer_of.answer) c.deref-2.ensures.value c.in-Ok-answer_of.ensures in
     let verb_is = asked_so c.deref.result.now c.args.words.now.items c.in-Some.verb c.in-Some.ensures c.deref.ensures.value in
     λ line b i o. faulty_so c.in-Some.verb _ _ c.in-Ok.bytes.items line c.in-Ok-answer_of.answer _ _ _ _ _ _ _ _ c.in-Ok.ensures.ok told c.deliver.ensures
-    (subst (λ (v : Option Verb). IsFaulty v (g.I.Source.left c.args.input.now) line) (sym verb_is) b) o
+    (subst (λ (v : Option Verb). IsSurelyRefused v (g.I.Source.left c.args.input.now) line) (sym verb_is) b) o
 
 pub returns-clause-programs : goal.returns-clause-programs
 returns-clause-programs g c =
     let told : IsAnswered c.in-Ok.bytes.items c.in-Some.verb c.in-Ok-answer_of.answer =
     subst (λ (bs : List ℕ). IsAnswered bs c.in-Some.verb c.in-Ok-answer_of.answer) c.deref-2.ensures.value c.in-Ok-answer_of.ensures in
     let verb_is = asked_so c.deref.result.now c.args.words.now.items c.in-Some.verb c.in-Some.ensures c.deref.ensures.value in
-    subst (λ (v : Option Verb). MadeAt c.deliver.result v (g.I.Source.left c.args.input.now) c.args.made.now.items c.deliver.new.made.items) verb_is
+    subst (λ (v : Option Verb). MadeAt c.deliver.result v (g.I.Source.left c.args.input.now) (g.O.Sink.written c.args.output.now) (g.O.Sink.written c.deliver.new.output) c.args.made.now.items c.deliver.new.made.items) verb_is
     (made_so c.in-Some.verb _ _ c.in-Ok.bytes.items c.in-Ok-answer_of.answer _ _ _ _ _ _ _ _ c.in-Ok.ensures.ok told c.deliver.ensures)
