@@ -26,16 +26,18 @@ use Rattle.mpe_progfile.specs.Reading.{read_file}
 use Rattle.mpe_progfile.specs.Views.{Fails}
 use Rattle.hp3000_top.specs.declared.answer.Answer.{Answer}
 use Rattle.hp3000_top.specs.declared.answer.Answer.TheVariants.{Report, Crowded, File, Listing, Refusal}
+use Rattle.hp3000_top.specs.declared.verbs.Verb.{Verb}
 use Rattle.hp3000_top.specs.declared.verbs.Verb.TheVariants as verb
 use Rattle.hp3000_top.specs.Programs.{AreMade, FirstRefused}
-use Rattle.hp3000_top.specs.Causes.{IsJob, Cause, IsPrepared, Unprepared, Unlisted, file_line}
+use Rattle.hp3000_top.specs.Causes.{RunsJobs, account_with, IsJob, Cause, IsPrepared, Unprepared, Unlisted, file_line}
 use Rattle.hp3000_top.specs.Causes as c
+use Rattle.job_runs.specs.Reported.{names_of}
 use Rattle.mpe_overlay.specs.Codes.{codes_of}
 use Rattle.mpe_worlds.specs.Opening.{opening}
 use Rattle.mpe_worlds.specs.Dispatch.{after}
 use Rattle.mpe_turns.specs.Monitors.{world_of}
 use Rattle.mpe_turns.specs.Opening.{refusal}
-use Rattle.hp3000_top.specs.Answers.{IsCrowded, IsOfMemory}
+use Rattle.hp3000_top.specs.Answers.{IsCrowded, IsOfMemory, IsSurelyCrowded}
 use Rattle.hp3000_top.specs.Steps.{Answers, IsAnswered, IsOfStack, IsRoomy, TellsJob, IsFileOf, IsFaultOfFile}
 use Rattle.hp3000_top.specs.Steps as s
 use Rattle.hp3000_top.proofs.Loops.{job_fits_more}
@@ -55,22 +57,31 @@ programs_fit_so bytes prep job texts l is e =
 
 -- ---- 2. a line that refuses a job
 
-pub run_line_so : (bytes : List ℕ) (f : JobFault) (line : Vec ℕ Global) → IsFault bytes false f → TellsJob f line.items → IsAnswered bytes verb.Run (Refusal line)
-run_line_so bytes (fault.Rule l r) line k t =
-    s.IsAnswered.refuses (subst (Cause bytes) (sym t) (c.Cause.lines k))
-    (λ m. job_line_not l r (subst IsOfMemory t m), λ made x. breaks_not_crowded bytes l r made k x)
-run_line_so bytes fault.NoMemory line k t = absurd t
+-- each verb that runs a job is answered by a line that refuses it, which is not that of a memory that is too small
+line_so : (v : Verb) (bytes : List ℕ) (line : Vec ℕ Global) → RunsJobs v → Cause bytes line.items → (IsOfMemory line.items → ⊥)
+    → ((made : List Program) → IsSurelyCrowded bytes made → ⊥) → IsAnswered bytes v (Refusal line)
+line_so verb.Run bytes line runs k m n = s.IsAnswered.refuses k (m, n)
+line_so (verb.Gen number) bytes line runs k m n = s.IsAnswered.refuses k (m, n)
+line_so verb.Prep bytes line runs k m n = absurd runs
+line_so verb.List bytes line runs k m n = absurd runs
+
+pub run_line_so : (v : Verb) (bytes : List ℕ) (f : JobFault) (line : Vec ℕ Global) → RunsJobs v → IsFault bytes false f → TellsJob f line.items
+    → IsAnswered bytes v (Refusal line)
+run_line_so v bytes (fault.Rule l r) line runs k t =
+    line_so v bytes line runs (subst (Cause bytes) (sym t) (c.Cause.lines k)) (λ m. job_line_not l r (subst IsOfMemory t m))
+    (λ made x. breaks_not_crowded bytes l r made k x)
+run_line_so v bytes fault.NoMemory line runs k t = absurd t
 
 pub prep_line_so : (bytes : List ℕ) (f : JobFault) (line : Vec ℕ Global) → IsFault bytes true f → TellsJob f line.items → IsAnswered bytes verb.Prep (Refusal line)
 prep_line_so bytes (fault.Rule l r) line k t = s.IsAnswered.refuses (subst (Unprepared bytes) (sym t) (c.Unprepared.broken k)) tt
 prep_line_so bytes fault.NoMemory line k t = absurd t
 
-pub run_program_so : (bytes : List ℕ) (line : Vec ℕ Global) (job : Job) (texts : List Text) → JobIs bytes false (job_value job) → texts ≡ job.programs.items
-    → FirstRefused (map text_value texts) line.items → IsAnswered bytes verb.Run (Refusal line)
-run_program_so bytes line job texts is e r =
+pub run_program_so : (v : Verb) (bytes : List ℕ) (line : Vec ℕ Global) (job : Job) (texts : List Text) → RunsJobs v → JobIs bytes false (job_value job)
+    → texts ≡ job.programs.items → FirstRefused (map text_value texts) line.items → IsAnswered bytes v (Refusal line)
+run_program_so v bytes line job texts runs is e r =
     let k : FirstRefused (job_value job).programs line.items = subst (λ (ts : List Text). FirstRefused (map text_value ts) line.items) e r in
-    s.IsAnswered.refuses (c.Cause.program (job_value job) is k)
-    (λ m. program_line_not k m, λ made x. refused_not_crowded bytes (job_value job) line.items made is k x)
+    line_so v bytes line runs (c.Cause.program (job_value job) is k) (λ m. program_line_not k m)
+    (λ made x. refused_not_crowded bytes (job_value job) line.items made is k x)
 
 pub prep_program_so : (bytes : List ℕ) (line : Vec ℕ Global) (job : Job) (texts : List Text) → JobIs bytes true (job_value job) → texts ≡ job.programs.items
     → FirstRefused (map text_value texts) line.items → IsAnswered bytes verb.Prep (Refusal line)
@@ -84,33 +95,34 @@ is_job : (bytes : List ℕ) (job : Job) (programs : List Program) → JobIs byte
     → IsJob bytes (job_value job) programs job.seats.items
 is_job bytes job programs is a = record { is = is; are_made = a; are_seats = refl }
 
-answer_so : (bytes : List ℕ) (job : Job) (programs : List Program) (a : Answer) → JobIs bytes false (job_value job) → AreMade (job_value job).programs programs
-    → Answers (job_value job) job.seats.items programs a → IsAnswered bytes verb.Run a
-answer_so bytes job programs (Report made monitor text) is m h = s.IsAnswered.report (job_value job) (record {
+answer_so : (v : Verb) (bytes : List ℕ) (count : ℕ) (job : Job) (programs : List Program) (a : Answer) → RunsJobs v → count ≡ length bytes
+    → JobIs bytes false (job_value job) → AreMade (job_value job).programs programs → Answers v count (job_value job) job.seats.items programs a → IsAnswered bytes v a
+answer_so v bytes count job programs (Report made monitor text) runs e is m h = s.IsAnswered.report (job_value job) runs (record {
   seats = job.seats.items;
   is = subst (λ (ps : List Program). IsJob bytes (job_value job) ps job.seats.items) (sym h.0) (is_job bytes job programs is m);
   opens = subst (λ (ps : List Program). refusal job.memory job.seats.items ps ≡ None) (sym h.0) h.1;
   world = subst (λ (ps : List Program). world_of monitor ≡ after (codes_of ps) job.quantum job.turns (opening job.memory job.seats.items ps)) (sym h.0) h.2;
-}) h.3
-answer_so bytes job programs (Refusal line) is m h =
+}) (h.3 ∙ ap (λ (k : ℕ). account_with v k (names_of (job_value job).programs) job.stats (world_of monitor)) e)
+answer_so v bytes count job programs (Refusal line) runs e is m h =
     let j = is_job bytes job programs is m in
-    s.IsAnswered.refuses (subst (Cause bytes) (sym h.2) (c.Cause.sessions (job_value job) programs job.seats.items j h.1))
-    (λ m. stack_line_not h.0 h.3 (subst IsOfMemory h.2 m), λ made x. stack_not_crowded bytes (job_value job) programs made job.seats.items h.0 j h.1 h.3 x)
-answer_so bytes job programs (Crowded made line) is m h =
-    s.IsAnswered.crowded h.1.0 h.1.1 h.1.3 (subst (λ (ps : List Program). IsCrowded bytes ps h.1.0 h.1.1) (sym h.0) (record {
+    line_so v bytes line runs (subst (Cause bytes) (sym h.2) (c.Cause.sessions (job_value job) programs job.seats.items j h.1))
+    (λ m. stack_line_not h.0 h.3 (subst IsOfMemory h.2 m)) (λ made x. stack_not_crowded bytes (job_value job) programs made job.seats.items h.0 j h.1 h.3 x)
+answer_so v bytes count job programs (Crowded made line) runs e is m h =
+    s.IsAnswered.crowded h.1.0 h.1.1 runs h.1.3 (subst (λ (ps : List Program). IsCrowded bytes ps h.1.0 h.1.1) (sym h.0) (record {
       job = job_value job;
       seats = job.seats.items;
       is = is_job bytes job programs is m;
       refused = h.1.2;
     }))
-answer_so bytes job programs (File made text) is m h = absurd h
-answer_so bytes job programs (Listing text) is m h = absurd h
+answer_so v bytes count job programs (File made text) runs e is m h = absurd h
+answer_so v bytes count job programs (Listing text) runs e is m h = absurd h
 
-pub run_so : {E : Type 0} (bytes : List ℕ) (job : Job) (texts : List Text) (programs : List Program) (r : Result Answer E) → JobIs bytes false (job_value job)
-    → texts ≡ job.programs.items → AreMade (map text_value texts) programs → IfOk r (λ a. Answers (job_value job) job.seats.items programs a)
-    → IfOk r (λ a. IsAnswered bytes verb.Run a)
-run_so bytes job texts programs (Ok a) is e m h = answer_so bytes job programs a is (subst (λ (ts : List Text). AreMade (map text_value ts) programs) e m) h
-run_so bytes job texts programs (Err e) is d m h = tt
+pub run_so : {E : Type 0} (v : Verb) (bytes : List ℕ) (count : ℕ) (job : Job) (texts : List Text) (programs : List Program) (r : Result Answer E) → RunsJobs v
+    → count ≡ length bytes → JobIs bytes false (job_value job) → texts ≡ job.programs.items → AreMade (map text_value texts) programs
+    → IfOk r (λ a. Answers v count (job_value job) job.seats.items programs a) → IfOk r (λ a. IsAnswered bytes v a)
+run_so v bytes count job texts programs (Ok a) runs l is e m h =
+    answer_so v bytes count job programs a runs l is (subst (λ (ts : List Text). AreMade (map text_value ts) programs) e m) h
+run_so v bytes count job texts programs (Err e) runs l is d m h = tt
 
 -- ---- 4. a job that is prepared
 

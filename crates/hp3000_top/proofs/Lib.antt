@@ -8,3 +8,5 @@ pub mod Headline
 pub mod Opening
 pub mod AnswerLemmas
 pub mod TopLemmas
+pub mod KnownWords
+pub mod WordLemmas

@@ -1,6 +1,6 @@
 -- What the monitor answers, of the programs that were made.
-use Rattle.std.proofs.Common.{ℕ, ◌≡◌, ◌≢◌, ◌≤◌, List, length, Vec, Global, Option, None, Some, Result, Ok, Err, refl, ap, sym, ◌∙◌, arith}
-use Rattle.std.specs.Prelude.{slice_get, IfSome}
+use Rattle.std.proofs.Common.{ℕ, ◌≡◌, ◌≢◌, ◌≤◌, List, length, Vec, Global, Option, None, Some, Result, Ok, Err, refl, ap, sym, subst, ◌∙◌, arith}
+use Rattle.std.specs.Prelude.{slice_get, IfOk, IfSome}
 use Rattle.std.proofs.lemmas.List.{length-map}
 use Rattle.hp_program.specs.declared.program.Program.{Program}
 use Rattle.job_text.specs.declared.job.Job.{Job}
@@ -16,7 +16,10 @@ use Rattle.mpe_turns.specs.declared.monitor.Monitor.{Monitor}
 use Rattle.mpe_turns.specs.Monitors.{codes_in, world_of}
 use Rattle.mpe_turns.specs.Opening.{AreSeats, refusal}
 use Rattle.hp3000_top.specs.Programs.{AreMade}
-use Rattle.hp3000_top.specs.Steps.{AreCopies}
+use Rattle.hp3000_top.specs.declared.answer.Answer.{Answer}
+use Rattle.hp3000_top.specs.declared.answer.Answer.TheVariants.{Report, Crowded, File, Listing, Refusal}
+use Rattle.hp3000_top.specs.declared.verbs.Verb.{Verb}
+use Rattle.hp3000_top.specs.Steps.{AreCopies, Answers, IsOfStack, IsUnopened}
 use Rattle.hp3000_top.proofs.Copies.{same_codes, same_opening, same_refusal}
 use Rattle.hp3000_top.proofs.Loops.{each_slice, copies_count}
 use Rattle.hp3000_top.proofs.Headline.{made_count}
@@ -62,6 +65,18 @@ refused_of job made copies e c n h k = sym (same_refusal job.memory job.seats.it
     by : (o : Option OpenFault) → refusal job.memory job.seats.items copies ≡ o → IfSome o (λ f. failed e ≡ Err f) → o ≡ Some e
     by None d h = absurd (n (k d))
     by (Some f) d h = let same : e ≡ f = cc in ap Some (sym same)
+
+-- what is told of sessions that don't open answers the job
+pub unopened_so : {E : Type 0} (v : Verb) (bytes : ℕ) (job : Job) (made : List Program) (f : OpenFault) (r : Result Answer E)
+    → (f ≢ NoMemory → refusal job.memory job.seats.items made ≡ Some f) → IfOk r (λ a. IsUnopened f made a)
+    → IfOk r (λ a. Answers v bytes (job_value job) job.seats.items made a)
+unopened_so v bytes job made f (Err e) told h = tt
+unopened_so v bytes job made f (Ok (Refusal line)) told h = (f, told (λ e. subst IsOfStack e h.1), h.0, h.1)
+unopened_so v bytes job made f (Ok (Crowded m line)) told h =
+    (h.0, (h.1.0, h.1.1, told (λ e. let d = sym h.1.2 ∙ e in cc) ∙ ap Some h.1.2, h.1.3))
+unopened_so v bytes job made f (Ok (Report m monitor text)) told h = absurd h
+unopened_so v bytes job made f (Ok (File m text)) told h = absurd h
+unopened_so v bytes job made f (Ok (Listing text)) told h = absurd h
 
 -- the world of the copies is that of the programs
 pub world_so : (job : Job) (made : List Program) (copies : Vec Program Global) (m n : Monitor) → AreCopies made copies.items → m.overlay.programs ≡ copies

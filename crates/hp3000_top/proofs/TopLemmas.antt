@@ -1,6 +1,6 @@
 -- The clauses of the top call, from what is answered of the bytes that were read, and how that was taken.
-use Rattle.std.proofs.Common.{◌≡◌, ℕ, Bool, true, false, List, Option, None, Some, Result, Ok, Err, refl, sym, subst, inl, inr, ◌∙◌}
-use Rattle.std.specs.Prelude.{OnOk, OnErr, IfSome, ◌⊎◌}
+use Rattle.std.proofs.Common.{◌≡◌, ◌≤◌, ℕ, Bool, true, false, List, length, Option, None, Some, Result, Ok, Err, refl, sym, subst, inl, inr, ◌∙◌}
+use Rattle.std.specs.Prelude.{OnOk, OnErr, ◌⊎◌}
 use Rattle.std.specs.Result.{is_err}
 use Rattle.std.specs.Io.KnownBytes.{Appends}
 use Rattle.hp_outside.specs.Whole.{ReadsToEnd, AppendsPrefix}
@@ -8,7 +8,6 @@ use Rattle.hp_outside.specs.Faults.{Rose, HasCause}
 use Rattle.hp_outside.specs.declared.streams.Failed.{Failed}
 use Rattle.hp_program.specs.declared.program.Program.{Program}
 use Rattle.job_text.specs.Jobs.{JobValue}
-use Rattle.job_runs.specs.Reported.{names_of, report_on}
 use Rattle.mpe_worlds.specs.Worlds.{World}
 use Rattle.mpe_turns.specs.Monitors.{world_of}
 use Rattle.hp3000_top.specs.declared.answer.Answer.{Answer}
@@ -18,12 +17,12 @@ use Rattle.hp3000_top.specs.declared.exit.Exit.TheVariants as e
 use Rattle.hp3000_top.specs.declared.ran.Ran.{Ran}
 use Rattle.hp3000_top.specs.declared.verbs.Verb.{Verb}
 use Rattle.hp3000_top.specs.declared.verbs.Verb.TheVariants as verb
-use Rattle.hp3000_top.specs.Causes.{Runs, IsPrepared, CauseOf, SureCauseOf, ComesTo}
+use Rattle.hp3000_top.specs.Causes.{RunsJobs, account_of, Runs, IsPrepared, CauseOf, SureCauseOf, ComesTo}
 use Rattle.hp3000_top.specs.Causes as c
-use Rattle.hp3000_top.specs.Answers.{Read, Refuses, BreaksOff, HasRun, DeliversOf, Delivers, ReportsAsAlone, AreAsAlone, IsSurelyDoneOf, IsSurelyDone, IsDone, IsSurelyRefused, IsRefusedBy, IsCrowded, MadeAt, RanAt}
-use Rattle.hp3000_top.specs.Steps.{IsAnswered, IsTaken, text_of, exit_of, made_by, ran_by}
+use Rattle.hp3000_top.specs.Answers.{Over, Certain, IsWhole, Refuses, BreaksOff, HasRun, DeliversJob, DeliversOf, Delivers, ReportsAsAlone, AreAsAlone, IsSurelyDoneOf, IsSurelyDone, IsDone, IsSurelyRefused, IsRefusedBy, IsCrowded, MadeBy, MadeAt, RanAt}
+use Rattle.hp3000_top.specs.Steps.{IsInput, IsAnswered, IsTaken, text_of, exit_of, made_by, ran_by}
 use Rattle.hp3000_top.specs.Steps as s
-use Rattle.hp3000_top.proofs.Unique.{crowded_cause, sure_cause_same, runs_not_sure, prepared_not_sure, listed_no_cause, sure_same, done_no_cause}
+use Rattle.hp3000_top.proofs.Unique.{crowded_cause, jobs_refuse, jobs_are_not_refused, prepared_not_sure, listed_no_cause, sure_same, done_no_cause}
 use Rattle.hp3000_top.proofs.Headline.{each_is_as_alone}
 
 -- ---- what was written
@@ -40,10 +39,50 @@ pub taken_cut : (a : Answer) (r : Result (Unit {0}) Failed) (b : Bool) (old new 
 taken_cut a (Err k) b old new bytes before now m0 m1 r0 r1 x t h j i f q m r = s.IsTaken.cut q (subst (λ (t : List ℕ). AppendsPrefix old new t) t h) j.failed m r
 taken_cut a (Ok k) b old new bytes before now m0 m1 r0 r1 x t h j i f q m r = cc
 
+-- ---- what a verb is about
+
+-- what holds of the bytes that came holds of those that the verb is about
+over_so : (P : List ℕ → Type 0) (v : Verb) (left rest : Option (List ℕ)) (bytes : List ℕ) → IsInput 1048576 v left rest bytes → P bytes → Over v left P
+over_so P verb.Run left rest bytes i p = (bytes, i.all, p)
+over_so P verb.Prep left rest bytes i p = (bytes, i.all, p)
+over_so P verb.List left rest bytes i p = (bytes, i.all, p)
+over_so P (verb.Gen n) left rest bytes i p = subst P i.0 p
+
+-- what is certain of them holds of those that came
+certain_so : (P : List ℕ → Type 0) (v : Verb) (left rest : Option (List ℕ)) (bytes : List ℕ) → IsInput 1048576 v left rest bytes → Certain v left P → P bytes
+certain_so P verb.Run (Some all) rest bytes i c = subst P (sym i.all) c.1
+certain_so P verb.Prep (Some all) rest bytes i c = subst P (sym i.all) c.1
+certain_so P verb.List (Some all) rest bytes i c = subst P (sym i.all) c.1
+certain_so P (verb.Gen n) left rest bytes i c = subst P (sym i.0) c
+certain_so P verb.Run None rest bytes i c = absurd c
+certain_so P verb.Prep None rest bytes i c = absurd c
+certain_so P verb.List None rest bytes i c = absurd c
+
+-- they are few
+pub few_so : (v : Verb) (left rest : Option (List ℕ)) (bytes : List ℕ) → IsInput 1048576 v left rest bytes → length bytes ≤ 1048576
+few_so verb.Run left rest bytes i = i.within
+few_so verb.Prep left rest bytes i = i.within
+few_so verb.List left rest bytes i = i.within
+few_so (verb.Gen n) left rest bytes i = i.1
+
+-- and an input was read to its end
+whole_of : (left rest : Option (List ℕ)) (bytes : List ℕ) → ReadsToEnd 1048576 left rest bytes → IsWhole 1048576 (Some verb.Run) left rest
+whole_of None rest bytes r = (tt, r.at_end)
+whole_of (Some all) rest bytes r = (subst (λ (bs : List ℕ). length bs ≤ 1048576) r.all r.within, r.at_end)
+
+pub whole_so : (v : Verb) (left rest : Option (List ℕ)) (bytes : List ℕ) → IsInput 1048576 v left rest bytes → IsWhole 1048576 (Some v) left rest
+whole_so verb.Run left rest bytes i = whole_of left rest bytes i
+whole_so verb.Prep left rest bytes i = whole_of left rest bytes i
+whole_so verb.List left rest bytes i = whole_of left rest bytes i
+whole_so (verb.Gen n) left rest bytes i = tt
+
+-- ---- an answer's text
+
 -- an answer has this text
 comes_to : (v : Verb) (bytes : List ℕ) (a : Answer) → IsAnswered bytes v a → ComesTo bytes v (text_of a)
-comes_to v bytes a (s.IsAnswered.report {made = made} {monitor = m} job k t) = subst (ComesTo bytes verb.Run) (sym t) (c.ComesTo.report job made.items (world_of m) k)
-comes_to v bytes a (s.IsAnswered.crowded {made = made} {line = line} need given t d) = c.ComesTo.line (crowded_cause bytes line.items made.items need given t d)
+comes_to v bytes a (s.IsAnswered.report {made = made} {monitor = m} job runs k t) = subst (ComesTo bytes v) (sym t) (c.ComesTo.account job made.items (world_of m) runs k)
+comes_to v bytes a (s.IsAnswered.crowded {made = made} {line = line} need given runs t d) =
+    c.ComesTo.line (jobs_refuse v bytes line.items runs (crowded_cause bytes line.items made.items need given t d))
 comes_to v bytes a (s.IsAnswered.file job p k m f) = c.ComesTo.file job p k f
 comes_to v bytes a (s.IsAnswered.listing p k t) = subst (ComesTo bytes verb.List) (sym t) (c.ComesTo.listing p k)
 comes_to v bytes a (s.IsAnswered.refuses k d) = c.ComesTo.line k
@@ -64,33 +103,45 @@ fault_so a old new faults m0 m1 r0 r1 x (s.IsTaken.cut q t f m d) w = f
 fault_so a old new faults m0 m1 r0 r1 x (s.IsTaken.whole q t m d) w = absurd (never_cut a (sym q ∙ w))
 
 pub broken_so : (v : Verb) (left rest : Option (List ℕ)) (bytes : List ℕ) (a : Answer) (old new : Option (List ℕ)) (faults : Type 0) (m0 m1 : List Program) (r0 r1 : Option Ran) (x : Exit)
-    → ReadsToEnd 1048576 left rest bytes → IsAnswered bytes v a → IsTaken a old new faults m0 m1 r0 r1 x → x ≡ e.WriteFault → BreaksOff (Some v) left old new
-broken_so v left rest bytes a old new faults m0 m1 r0 r1 x r k (s.IsTaken.cut q t f m d) w = (bytes, r.all, (text_of a, comes_to v bytes a k, t))
+    → IsInput 1048576 v left rest bytes → IsAnswered bytes v a → IsTaken a old new faults m0 m1 r0 r1 x → x ≡ e.WriteFault → BreaksOff (Some v) left old new
+broken_so v left rest bytes a old new faults m0 m1 r0 r1 x r k (s.IsTaken.cut q t f m d) w =
+    over_so (λ bs. (text : List ℕ) × ComesTo bs v text × AppendsPrefix old new text) v left rest bytes r (text_of a, comes_to v bytes a k, t)
 broken_so v left rest bytes a old new faults m0 m1 r0 r1 x r k (s.IsTaken.whole q t m d) w = absurd (never_cut a (sym q ∙ w))
 
 -- the line of an answer that ends refused
 line_so : (v : Verb) (bytes : List ℕ) (a : Answer) → IsAnswered bytes v a → exit_of a ≡ e.Refused → CauseOf v bytes (text_of a)
-line_so v bytes a (s.IsAnswered.report job k t) h = cc
-line_so v bytes a (s.IsAnswered.crowded {made = made} {line = line} need given t d) h = crowded_cause bytes line.items made.items need given t d
+line_so v bytes a (s.IsAnswered.report job runs k t) h = cc
+line_so v bytes a (s.IsAnswered.crowded {made = made} {line = line} need given runs t d) h =
+    jobs_refuse v bytes line.items runs (crowded_cause bytes line.items made.items need given t d)
 line_so v bytes a (s.IsAnswered.file job p k m f) h = cc
 line_so v bytes a (s.IsAnswered.listing p k t) h = cc
 line_so v bytes a (s.IsAnswered.refuses k d) h = k
 
 pub refused_so : (v : Verb) (left rest : Option (List ℕ)) (bytes : List ℕ) (a : Answer) (old new : Option (List ℕ)) (faults : Type 0) (m0 m1 : List Program) (r0 r1 : Option Ran) (x : Exit)
-    → ReadsToEnd 1048576 left rest bytes → IsAnswered bytes v a → IsTaken a old new faults m0 m1 r0 r1 x → x ≡ e.Refused → Refuses (Some v) left old new
-refused_so v left rest bytes a old new faults m0 m1 r0 r1 x r k (s.IsTaken.whole q t m d) w = (bytes, r.all, (text_of a, line_so v bytes a k (sym q ∙ w), t))
+    → IsInput 1048576 v left rest bytes → IsAnswered bytes v a → IsTaken a old new faults m0 m1 r0 r1 x → x ≡ e.Refused → Refuses (Some v) left old new
+refused_so v left rest bytes a old new faults m0 m1 r0 r1 x r k (s.IsTaken.whole q t m d) w =
+    over_so (λ bs. (line : List ℕ) × CauseOf v bs line × Appends old new line) v left rest bytes r (text_of a, line_so v bytes a k (sym q ∙ w), t)
 refused_so v left rest bytes a old new faults m0 m1 r0 r1 x r k (s.IsTaken.cut q t f m d) w = let n = sym q ∙ w in cc
+
+-- each verb that runs a job delivers what is told of it
+jobs_deliver : (v : Verb) (bytes : List ℕ) (made : List Program) (ran : Option Ran) (old new : Option (List ℕ)) → RunsJobs v → DeliversJob v bytes made ran old new
+    → DeliversOf v bytes made ran old new
+jobs_deliver verb.Run bytes made ran old new runs d = d
+jobs_deliver (verb.Gen n) bytes made ran old new runs d = d
+jobs_deliver verb.Prep bytes made ran old new runs d = absurd runs
+jobs_deliver verb.List bytes made ran old new runs d = absurd runs
 
 delivered : (v : Verb) (bytes : List ℕ) (a : Answer) (old new : Option (List ℕ)) (m0 m1 : List Program) (r0 r1 : Option Ran)
     → IsAnswered bytes v a → exit_of a ≡ e.Done → Appends old new (text_of a) → m1 ≡ made_by a m0 → r1 ≡ ran_by a r0 → DeliversOf v bytes m1 r1 old new
-delivered v bytes a old new m0 m1 r0 r1 (s.IsAnswered.report {made = made} {monitor = monitor} {text = text} job k t) h p m d = record {
-  job = job;
-  world = world_of monitor;
-  runs = subst (λ (ms : List Program). Runs bytes job ms (world_of monitor)) (sym m) k;
-  has_run = subst (λ (o : Option Ran). HasRun o (world_of monitor)) (sym d) refl;
-  appends = subst (λ (t : List ℕ). Appends old new t) t p;
-}
-delivered v bytes a old new m0 m1 r0 r1 (s.IsAnswered.crowded need given t c) h p m d = cc
+delivered v bytes a old new m0 m1 r0 r1 (s.IsAnswered.report {made = made} {monitor = monitor} {text = text} job runs k t) h p m d =
+    jobs_deliver v bytes m1 r1 old new runs (record {
+      job = job;
+      world = world_of monitor;
+      runs = subst (λ (ms : List Program). Runs bytes job ms (world_of monitor)) (sym m) k;
+      has_run = subst (λ (o : Option Ran). HasRun o (world_of monitor)) (sym d) refl;
+      appends = subst (λ (t : List ℕ). Appends old new t) t p;
+    })
+delivered v bytes a old new m0 m1 r0 r1 (s.IsAnswered.crowded need given runs t c) h p m d = cc
 delivered v bytes a old new m0 m1 r0 r1 (s.IsAnswered.file {made = made} {text = text} job q k n f) h p m d = record {
   job = job;
   program = q;
@@ -108,14 +159,14 @@ delivered v bytes a old new m0 m1 r0 r1 (s.IsAnswered.listing {text = text} q k 
 delivered v bytes a old new m0 m1 r0 r1 (s.IsAnswered.refuses k c) h p m d = cc
 
 pub done_so : (v : Verb) (left rest : Option (List ℕ)) (bytes : List ℕ) (a : Answer) (old new : Option (List ℕ)) (faults : Type 0) (m0 m1 : List Program) (r0 r1 : Option Ran) (x : Exit)
-    → ReadsToEnd 1048576 left rest bytes → IsAnswered bytes v a → IsTaken a old new faults m0 m1 r0 r1 x → x ≡ e.Done → Delivers (Some v) left m1 r1 old new
+    → IsInput 1048576 v left rest bytes → IsAnswered bytes v a → IsTaken a old new faults m0 m1 r0 r1 x → x ≡ e.Done → Delivers (Some v) left m1 r1 old new
 done_so v left rest bytes a old new faults m0 m1 r0 r1 x r k (s.IsTaken.whole q t m d) w =
-    (bytes, r.all, delivered v bytes a old new m0 m1 r0 r1 k (sym q ∙ w) t m d)
+    over_so (λ bs. DeliversOf v bs m1 r1 old new) v left rest bytes r (delivered v bytes a old new m0 m1 r0 r1 k (sym q ∙ w) t m d)
 done_so v left rest bytes a old new faults m0 m1 r0 r1 x r k (s.IsTaken.cut q t f m d) w = let n = sym q ∙ w in cc
 
-alone_of : (bytes : List ℕ) (job : JobValue) (made : List Program) (w : World) (text : List ℕ) (old new : Option (List ℕ)) → Runs bytes job made w
-    → text ≡ report_on (names_of job.programs) job.stats w → Appends old new text → ReportsAsAlone bytes made old new
-alone_of bytes job made w text old new k t p = record {
+alone_of : (v : Verb) (bytes : List ℕ) (job : JobValue) (made : List Program) (w : World) (text : List ℕ) (old new : Option (List ℕ)) → Runs bytes job made w
+    → text ≡ account_of v bytes job w → Appends old new text → ReportsAsAlone v bytes made old new
+alone_of v bytes job made w text old new k t p = record {
   job = job;
   world = w;
   runs = k;
@@ -123,17 +174,19 @@ alone_of bytes job made w text old new k t p = record {
   appends = subst (λ (t : List ℕ). Appends old new t) t p;
 }
 
-reported_alone : (bytes : List ℕ) (job : JobValue) (made m1 : List Program) (w : World) (text : List ℕ) (old new : Option (List ℕ)) → Runs bytes job made w
-    → text ≡ report_on (names_of job.programs) job.stats w → Appends old new text → m1 ≡ made → ReportsAsAlone bytes m1 old new
-reported_alone bytes job made m1 w text old new k t p m =
-    subst (λ (ms : List Program). ReportsAsAlone bytes ms old new) (sym m) (alone_of bytes job made w text old new k t p)
+reported_alone : (v : Verb) (bytes : List ℕ) (job : JobValue) (made m1 : List Program) (w : World) (text : List ℕ) (old new : Option (List ℕ))
+    → Runs bytes job made w → text ≡ account_of v bytes job w → Appends old new text → m1 ≡ made → ReportsAsAlone v bytes m1 old new
+reported_alone v bytes job made m1 w text old new k t p m =
+    subst (λ (ms : List Program). ReportsAsAlone v bytes ms old new) (sym m) (alone_of v bytes job made w text old new k t p)
 
-alone : (bytes : List ℕ) (a : Answer) (old new : Option (List ℕ)) (m0 m1 : List Program) → IsAnswered bytes verb.Run a → exit_of a ≡ e.Done
-    → Appends old new (text_of a) → m1 ≡ made_by a m0 → ReportsAsAlone bytes m1 old new
-alone bytes a old new m0 m1 (s.IsAnswered.report {made = made} {monitor = monitor} {text = text} job k t) h p m =
-    reported_alone bytes job made.items m1 (world_of monitor) text.items old new k t p m
-alone bytes a old new m0 m1 (s.IsAnswered.crowded need given t c) h p m = cc
-alone bytes a old new m0 m1 (s.IsAnswered.refuses k c) h p m = cc
+alone : (v : Verb) (bytes : List ℕ) (a : Answer) (old new : Option (List ℕ)) (m0 m1 : List Program) → RunsJobs v → IsAnswered bytes v a → exit_of a ≡ e.Done
+    → Appends old new (text_of a) → m1 ≡ made_by a m0 → ReportsAsAlone v bytes m1 old new
+alone v bytes a old new m0 m1 is (s.IsAnswered.report {made = made} {monitor = monitor} {text = text} job runs k t) h p m =
+    reported_alone v bytes job made.items m1 (world_of monitor) text.items old new k t p m
+alone v bytes a old new m0 m1 is (s.IsAnswered.crowded need given runs t c) h p m = cc
+alone v bytes a old new m0 m1 is (s.IsAnswered.file job q k n f) h p m = absurd is
+alone v bytes a old new m0 m1 is (s.IsAnswered.listing q k t) h p m = absurd is
+alone v bytes a old new m0 m1 is (s.IsAnswered.refuses k c) h p m = cc
 
 -- an answer that ends done was taken whole
 taken_done : (a : Answer) (old new : Option (List ℕ)) (faults : Type 0) (m0 m1 : List Program) (r0 r1 : Option Ran) (x : Exit)
@@ -141,77 +194,102 @@ taken_done : (a : Answer) (old new : Option (List ℕ)) (faults : Type 0) (m0 m1
 taken_done a old new faults m0 m1 r0 r1 x (s.IsTaken.whole q t m d) w = (sym q ∙ w, t, m)
 taken_done a old new faults m0 m1 r0 r1 x (s.IsTaken.cut q t f m d) w = let n = sym q ∙ w in cc
 
-read_so : {P : List ℕ → Type 0} (left : Option (List ℕ)) (bytes : List ℕ) → IfSome left (λ all. bytes ≡ all) → P bytes → Read left P
-read_so left bytes r p = (bytes, r, p)
-
-run_headline : (left rest : Option (List ℕ)) (bytes : List ℕ) (a : Answer) (old new : Option (List ℕ)) (faults : Type 0) (m0 m1 : List Program) (r0 r1 : Option Ran) (x : Exit)
-    → ReadsToEnd 1048576 left rest bytes → IsAnswered bytes verb.Run a → IsTaken a old new faults m0 m1 r0 r1 x → x ≡ e.Done
-    → Read left (λ bs. ReportsAsAlone bs m1 old new)
-run_headline left rest bytes a old new faults m0 m1 r0 r1 x r k u w =
+run_headline : (v : Verb) (left rest : Option (List ℕ)) (bytes : List ℕ) (a : Answer) (old new : Option (List ℕ)) (faults : Type 0) (m0 m1 : List Program) (r0 r1 : Option Ran) (x : Exit)
+    → RunsJobs v → IsInput 1048576 v left rest bytes → IsAnswered bytes v a → IsTaken a old new faults m0 m1 r0 r1 x → x ≡ e.Done
+    → Over v left (λ bs. ReportsAsAlone v bs m1 old new)
+run_headline v left rest bytes a old new faults m0 m1 r0 r1 x is r k u w =
     let d = taken_done a old new faults m0 m1 r0 r1 x u w in
-    read_so {P = λ bs. ReportsAsAlone bs m1 old new} left bytes r.all (alone bytes a old new m0 m1 k d.0 d.1 d.2)
+    over_so (λ bs. ReportsAsAlone v bs m1 old new) v left rest bytes r (alone v bytes a old new m0 m1 is k d.0 d.1 d.2)
 
 pub headline_so : (v : Verb) (left rest : Option (List ℕ)) (bytes : List ℕ) (a : Answer) (old new : Option (List ℕ)) (faults : Type 0) (m0 m1 : List Program) (r0 r1 : Option Ran) (x : Exit)
-    → ReadsToEnd 1048576 left rest bytes → IsAnswered bytes v a → IsTaken a old new faults m0 m1 r0 r1 x → x ≡ e.Done → AreAsAlone (Some v) left m1 old new
-headline_so verb.Run left rest bytes a old new faults m0 m1 r0 r1 x r k u w = run_headline left rest bytes a old new faults m0 m1 r0 r1 x r k u w
+    → IsInput 1048576 v left rest bytes → IsAnswered bytes v a → IsTaken a old new faults m0 m1 r0 r1 x → x ≡ e.Done → AreAsAlone (Some v) left m1 old new
+headline_so verb.Run left rest bytes a old new faults m0 m1 r0 r1 x r k u w = run_headline verb.Run left rest bytes a old new faults m0 m1 r0 r1 x tt r k u w
+headline_so (verb.Gen n) left rest bytes a old new faults m0 m1 r0 r1 x r k u w =
+    run_headline (verb.Gen n) left rest bytes a old new faults m0 m1 r0 r1 x tt r k u w
 headline_so verb.Prep left rest bytes a old new faults m0 m1 r0 r1 x r k u w = tt
 headline_so verb.List left rest bytes a old new faults m0 m1 r0 r1 x r k u w = tt
 
 -- what bytes come to is one thing
 surely_done : (v : Verb) (bytes : List ℕ) (a : Answer) → IsAnswered bytes v a → IsSurelyDoneOf v bytes → exit_of a ≡ e.Done
-surely_done v bytes a (s.IsAnswered.report job k t) b = refl
-surely_done v bytes a (s.IsAnswered.crowded {made = made} {line = line} need given t d) b =
-    absurd (done_no_cause v bytes line.items b (crowded_cause bytes line.items made.items need given t d))
+surely_done v bytes a (s.IsAnswered.report job runs k t) b = refl
+surely_done v bytes a (s.IsAnswered.crowded {made = made} {line = line} need given runs t d) b =
+    absurd (done_no_cause v bytes line.items b (jobs_refuse v bytes line.items runs (crowded_cause bytes line.items made.items need given t d)))
 surely_done v bytes a (s.IsAnswered.file job p k m f) b = refl
 surely_done v bytes a (s.IsAnswered.listing p k t) b = refl
 surely_done v bytes a (s.IsAnswered.refuses {line = line} k d) b = absurd (done_no_cause v bytes line.items b k)
 
 pub complete_so : (v : Verb) (left rest : Option (List ℕ)) (bytes : List ℕ) (a : Answer) (old new : Option (List ℕ)) (faults : Type 0) (m0 m1 : List Program) (r0 r1 : Option Ran) (x : Exit)
-    → ReadsToEnd 1048576 left rest bytes → IsAnswered bytes v a → IsTaken a old new faults m0 m1 r0 r1 x → IsSurelyDone (Some v) left → (faults → ⊥) → IsDone x
-complete_so v None rest bytes a old new faults m0 m1 r0 r1 x r k u b n = absurd b
-complete_so v (Some all) rest bytes a old new faults m0 m1 r0 r1 x r k (s.IsTaken.whole q t m d) b n =
-    subst IsDone (sym (q ∙ surely_done v bytes a k (subst (IsSurelyDoneOf v) (sym r.all) b.1))) tt
-complete_so v (Some all) rest bytes a old new faults m0 m1 r0 r1 x r k (s.IsTaken.cut q t f m d) b n = absurd (n f)
+    → IsInput 1048576 v left rest bytes → IsAnswered bytes v a → IsTaken a old new faults m0 m1 r0 r1 x → IsSurelyDone (Some v) left → (faults → ⊥) → IsDone x
+complete_so v left rest bytes a old new faults m0 m1 r0 r1 x r k (s.IsTaken.whole q t m d) b n =
+    subst IsDone (sym (q ∙ surely_done v bytes a k (certain_so (λ bs. IsSurelyDoneOf v bs) v left rest bytes r b))) tt
+complete_so v left rest bytes a old new faults m0 m1 r0 r1 x r k (s.IsTaken.cut q t f m d) b n = absurd (n f)
 
 -- an answer to bytes that a line refuses is that line
 told_by : (v : Verb) (bytes line : List ℕ) (a : Answer) → IsAnswered bytes v a → SureCauseOf v bytes line → (exit_of a ≡ e.Refused) × (text_of a ≡ line)
-told_by v bytes line a (s.IsAnswered.report {made = made} {monitor = monitor} job k t) h = absurd (runs_not_sure bytes line job made.items (world_of monitor) k h)
-told_by v bytes line a (s.IsAnswered.crowded {made = made} {line = other} need given t d) h =
-    (refl, sym (sure_cause_same bytes line other.items h (crowded_cause bytes other.items made.items need given t d)))
+told_by v bytes line a (s.IsAnswered.report {made = made} {monitor = monitor} job runs k t) h =
+    absurd (jobs_are_not_refused v bytes line job made.items (world_of monitor) runs k h)
+told_by v bytes line a (s.IsAnswered.crowded {made = made} {line = other} need given runs t d) h =
+    (refl, sym (sure_same v bytes line other.items h (jobs_refuse v bytes other.items runs (crowded_cause bytes other.items made.items need given t d))))
 told_by v bytes line a (s.IsAnswered.file job p k m f) h = absurd (prepared_not_sure bytes line job p k h)
 told_by v bytes line a (s.IsAnswered.listing p k t) h = absurd (listed_no_cause bytes line p k h)
 told_by v bytes line a (s.IsAnswered.refuses {line = other} k d) h = (refl, sym (sure_same v bytes line other.items h k))
 
 pub faulty_so : (v : Verb) (left rest : Option (List ℕ)) (bytes line : List ℕ) (a : Answer) (old new : Option (List ℕ)) (faults : Type 0) (m0 m1 : List Program) (r0 r1 : Option Ran) (x : Exit)
-    → ReadsToEnd 1048576 left rest bytes → IsAnswered bytes v a → IsTaken a old new faults m0 m1 r0 r1 x → IsSurelyRefused (Some v) left line → (faults → ⊥) → IsRefusedBy x old new line
-faulty_so v None rest bytes line a old new faults m0 m1 r0 r1 x r k u b n = absurd b
-faulty_so v (Some all) rest bytes line a old new faults m0 m1 r0 r1 x r k (s.IsTaken.whole q t m d) b n =
-    let told = told_by v bytes line a k (subst (λ (bs : List ℕ). SureCauseOf v bs line) (sym r.all) b.1) in
+    → IsInput 1048576 v left rest bytes → IsAnswered bytes v a → IsTaken a old new faults m0 m1 r0 r1 x → IsSurelyRefused (Some v) left line → (faults → ⊥) → IsRefusedBy x old new line
+faulty_so v left rest bytes line a old new faults m0 m1 r0 r1 x r k (s.IsTaken.whole q t m d) b n =
+    let told = told_by v bytes line a k (certain_so (λ bs. SureCauseOf v bs line) v left rest bytes r b) in
     subst (λ (x : Exit). IsRefusedBy x old new line) (sym (q ∙ told.0)) (subst (λ (t : List ℕ). Appends old new t) told.1 t)
-faulty_so v (Some all) rest bytes line a old new faults m0 m1 r0 r1 x r k (s.IsTaken.cut q t f m d) b n = absurd (n f)
+faulty_so v left rest bytes line a old new faults m0 m1 r0 r1 x r k (s.IsTaken.cut q t f m d) b n = absurd (n f)
 
 -- ---- what is made, and left of the run
 
-made_whole : (v : Verb) (left old new : Option (List ℕ)) (bytes : List ℕ) (a : Answer) (m0 m1 : List Program) → IfSome left (λ all. bytes ≡ all) → IsAnswered bytes v a
-    → Appends old new (text_of a) → m1 ≡ made_by a m0 → MadeAt (exit_of a) (Some v) left old new m0 m1
-made_whole v left old new bytes a m0 m1 r (s.IsAnswered.report job k t) w m = tt
-made_whole v left old new bytes a m0 m1 r (s.IsAnswered.crowded {made = made} {line = line} need given t d) w m =
-    (bytes, r, (line.items, w, inl (need, given, t, subst (λ (ms : List Program). IsCrowded bytes ms need given) (sym m) d)))
-made_whole v left old new bytes a m0 m1 r (s.IsAnswered.file job p k n f) w m = tt
-made_whole v left old new bytes a m0 m1 r (s.IsAnswered.listing p k t) w m = m
-made_whole verb.Run left old new bytes a m0 m1 r (s.IsAnswered.refuses {line = line} k d) w m = (bytes, r, (line.items, w, inr (m, d.0, d.1)))
-made_whole verb.Prep left old new bytes a m0 m1 r (s.IsAnswered.refuses k d) w m = m
-made_whole verb.List left old new bytes a m0 m1 r (s.IsAnswered.refuses k d) w m = m
+-- what is made where a job is run and refused
+crowded_made : (v : Verb) (left rest old new : Option (List ℕ)) (bytes line : List ℕ) (m0 m1 : List Program) → RunsJobs v → IsInput 1048576 v left rest bytes
+    → Appends old new line → MadeBy bytes line m0 m1 → MadeAt e.Refused (Some v) left old new m0 m1
+crowded_made verb.Run left rest old new bytes line m0 m1 runs r w h =
+    over_so (λ bs. (told : List ℕ) × Appends old new told × MadeBy bs told m0 m1) verb.Run left rest bytes r (line, w, h)
+crowded_made (verb.Gen n) left rest old new bytes line m0 m1 runs r w h =
+    over_so (λ bs. (told : List ℕ) × Appends old new told × MadeBy bs told m0 m1) (verb.Gen n) left rest bytes r (line, w, h)
+crowded_made verb.Prep left rest old new bytes line m0 m1 runs r w h = absurd runs
+crowded_made verb.List left rest old new bytes line m0 m1 runs r w h = absurd runs
+
+-- and where it is done
+done_made : (v : Verb) (left old new : Option (List ℕ)) (m0 m1 : List Program) → RunsJobs v → MadeAt e.Done (Some v) left old new m0 m1
+done_made verb.Run left old new m0 m1 runs = tt
+done_made (verb.Gen n) left old new m0 m1 runs = tt
+done_made verb.Prep left old new m0 m1 runs = absurd runs
+done_made verb.List left old new m0 m1 runs = absurd runs
+
+made_whole : (v : Verb) (left rest old new : Option (List ℕ)) (bytes : List ℕ) (a : Answer) (m0 m1 : List Program) → IsInput 1048576 v left rest bytes
+    → IsAnswered bytes v a → Appends old new (text_of a) → m1 ≡ made_by a m0 → MadeAt (exit_of a) (Some v) left old new m0 m1
+made_whole v left rest old new bytes a m0 m1 r (s.IsAnswered.report job runs k t) w m = done_made v left old new m0 m1 runs
+made_whole v left rest old new bytes a m0 m1 r (s.IsAnswered.crowded {made = made} {line = line} need given runs t d) w m =
+    crowded_made v left rest old new bytes line.items m0 m1 runs r w (inl (need, given, t, subst (λ (ms : List Program). IsCrowded bytes ms need given) (sym m) d))
+made_whole v left rest old new bytes a m0 m1 r (s.IsAnswered.file job p k n f) w m = tt
+made_whole v left rest old new bytes a m0 m1 r (s.IsAnswered.listing p k t) w m = m
+made_whole verb.Run left rest old new bytes a m0 m1 r (s.IsAnswered.refuses {line = line} k d) w m =
+    crowded_made verb.Run left rest old new bytes line.items m0 m1 tt r w (inr (m, d.0, d.1))
+made_whole (verb.Gen n) left rest old new bytes a m0 m1 r (s.IsAnswered.refuses {line = line} k d) w m =
+    crowded_made (verb.Gen n) left rest old new bytes line.items m0 m1 tt r w (inr (m, d.0, d.1))
+made_whole verb.Prep left rest old new bytes a m0 m1 r (s.IsAnswered.refuses k d) w m = m
+made_whole verb.List left rest old new bytes a m0 m1 r (s.IsAnswered.refuses k d) w m = m
 
 pub made_so : (v : Verb) (left rest : Option (List ℕ)) (bytes : List ℕ) (a : Answer) (old new : Option (List ℕ)) (faults : Type 0) (m0 m1 : List Program) (r0 r1 : Option Ran) (x : Exit)
-    → ReadsToEnd 1048576 left rest bytes → IsAnswered bytes v a → IsTaken a old new faults m0 m1 r0 r1 x → MadeAt x (Some v) left old new m0 m1
+    → IsInput 1048576 v left rest bytes → IsAnswered bytes v a → IsTaken a old new faults m0 m1 r0 r1 x → MadeAt x (Some v) left old new m0 m1
 made_so v left rest bytes a old new faults m0 m1 r0 r1 x r k (s.IsTaken.whole q t m d) =
-    subst (λ (x : Exit). MadeAt x (Some v) left old new m0 m1) (sym q) (made_whole v left old new bytes a m0 m1 r.all k t m)
+    subst (λ (x : Exit). MadeAt x (Some v) left old new m0 m1) (sym q) (made_whole v left rest old new bytes a m0 m1 r k t m)
 made_so v left rest bytes a old new faults m0 m1 r0 r1 x r k (s.IsTaken.cut q t f m d) = subst (λ (x : Exit). MadeAt x (Some v) left old new m0 m1) (sym q) m
 
+-- what is left of a job that was run and done
+done_ran : (v : Verb) (r0 r1 : Option Ran) → RunsJobs v → RanAt e.Done (Some v) r0 r1
+done_ran verb.Run r0 r1 runs = tt
+done_ran (verb.Gen n) r0 r1 runs = tt
+done_ran verb.Prep r0 r1 runs = absurd runs
+done_ran verb.List r0 r1 runs = absurd runs
+
 ran_whole : (v : Verb) (bytes : List ℕ) (a : Answer) (r0 r1 : Option Ran) → IsAnswered bytes v a → r1 ≡ ran_by a r0 → RanAt (exit_of a) (Some v) r0 r1
-ran_whole v bytes a r0 r1 (s.IsAnswered.report job k t) d = tt
-ran_whole v bytes a r0 r1 (s.IsAnswered.crowded need given t c) d = d
+ran_whole v bytes a r0 r1 (s.IsAnswered.report job runs k t) d = done_ran v r0 r1 runs
+ran_whole v bytes a r0 r1 (s.IsAnswered.crowded need given runs t c) d = d
 ran_whole v bytes a r0 r1 (s.IsAnswered.file job p k n f) d = d
 ran_whole v bytes a r0 r1 (s.IsAnswered.listing p k t) d = d
 ran_whole v bytes a r0 r1 (s.IsAnswered.refuses k c) d = d

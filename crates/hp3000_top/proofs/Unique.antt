@@ -1,5 +1,5 @@
 -- What is certain of bytes comes to one thing: a line that refuses them, or a job that runs.
-use Rattle.std.proofs.Common.{◌≡◌, ℕ, true, false, List, [], ◌∷◌, length, Option, None, Some, Result, Ok, Err, refl, sym, ap, subst, ◌∙◌}
+use Rattle.std.proofs.Common.{◌≡◌, ℕ, true, false, List, [], ◌∷◌, Option, None, Some, Result, Ok, Err, sym, ap, subst, ◌∙◌}
 use Rattle.hp_program.specs.declared.program.Program.{Program}
 use Rattle.job_text.specs.Jobs.{JobValue, JobIs, JobBreaks}
 use Rattle.job_text.specs.States.{TextValue}
@@ -25,7 +25,7 @@ use Rattle.hp3000_top.specs.Programs.{IsThin, IsWithin, IsBeyond, IsMade, IsRefu
 use Rattle.hp3000_top.specs.Programs as p
 use Rattle.hp3000_top.specs.declared.verbs.Verb.{Verb}
 use Rattle.hp3000_top.specs.declared.verbs.Verb.TheVariants as verb
-use Rattle.hp3000_top.specs.Causes.{IsJob, Cause, SureCause, Runs, open_line, IsPrepared, Unprepared, SurelyUnprepared, Unlisted, CauseOf, SureCauseOf, file_line}
+use Rattle.hp3000_top.specs.Causes.{RunsJobs, IsJob, Cause, SureCause, Runs, open_line, IsPrepared, Unprepared, SurelyUnprepared, Unlisted, CauseOf, SureCauseOf, file_line}
 use Rattle.hp3000_top.specs.Causes as c
 use Rattle.hp3000_top.specs.Answers.{IsCrowded, IsSurelyCrowded, IsSurelyDoneOf}
 use Rattle.hp3000_top.specs.Steps.{IsCopy, AreCopies, IsOfStack}
@@ -165,7 +165,7 @@ sure_cause_same bytes a b (c.SureCause.sessions job made seats v k o) (c.Cause.s
     line_same (sym o ∙ sym (open_same bytes job other made others seats places k v w) ∙ q)
 
 -- a job that runs is not certainly refused
-pub runs_not_sure : (bytes line : List ℕ) (job : JobValue) (made : List Program) (w : World) → Runs bytes job made w → SureCause bytes line → ⊥
+runs_not_sure : (bytes line : List ℕ) (job : JobValue) (made : List Program) (w : World) → Runs bytes job made w → SureCause bytes line → ⊥
 runs_not_sure bytes line job made w v (c.SureCause.lines {l = l} {r = r} b) = jobs_break_nothing bytes false job l r v.is.is b
 runs_not_sure bytes line job made w v (c.SureCause.program other b bs) = first_not_made_of bytes other job made line b bs v.is.is v.is.are_made
 runs_not_sure bytes line job made w v (c.SureCause.sessions other others places b k q) =
@@ -212,14 +212,30 @@ listed_no_cause bytes line p v (c.Unlisted.fault w) = let d = sym (file_read p b
 
 -- ---- by the verb
 
+-- a job that is refused refuses each verb that runs it, and one that runs does not
+pub jobs_refuse : (v : Verb) (bytes line : List ℕ) → RunsJobs v → Cause bytes line → CauseOf v bytes line
+jobs_refuse verb.Run bytes line runs k = k
+jobs_refuse (verb.Gen n) bytes line runs k = k
+jobs_refuse verb.Prep bytes line runs k = absurd runs
+jobs_refuse verb.List bytes line runs k = absurd runs
+
+pub jobs_are_not_refused : (v : Verb) (bytes line : List ℕ) (job : JobValue) (made : List Program) (w : World) → RunsJobs v → Runs bytes job made w
+    → SureCauseOf v bytes line → ⊥
+jobs_are_not_refused verb.Run bytes line job made w runs k h = runs_not_sure bytes line job made w k h
+jobs_are_not_refused (verb.Gen n) bytes line job made w runs k h = runs_not_sure bytes line job made w k h
+jobs_are_not_refused verb.Prep bytes line job made w runs k h = absurd runs
+jobs_are_not_refused verb.List bytes line job made w runs k h = absurd runs
+
 -- a line that is certain is the only one that refuses bytes
 pub sure_same : (v : Verb) (bytes a b : List ℕ) → SureCauseOf v bytes a → CauseOf v bytes b → a ≡ b
 sure_same verb.Run bytes a b k l = sure_cause_same bytes a b k l
 sure_same verb.Prep bytes a b k l = sure_unprepared_same bytes a b k l
 sure_same verb.List bytes a b k l = unlisted_same bytes a b k l
+sure_same (verb.Gen n) bytes a b k l = sure_cause_same bytes a b k l
 
 -- and none refuses those of which something is surely made
 pub done_no_cause : (v : Verb) (bytes line : List ℕ) → IsSurelyDoneOf v bytes → CauseOf v bytes line → ⊥
 done_no_cause verb.Run bytes line b k = thin_no_cause bytes line b.0 b.1 b.2 b.3 b.4 k
 done_no_cause verb.Prep bytes line b k = thin_not_unprepared bytes line b.0 b.1 b.2 b.3 k
 done_no_cause verb.List bytes line b k = listed_no_cause bytes line b.0 b.1 k
+done_no_cause (verb.Gen n) bytes line b k = thin_no_cause bytes line b.0 b.1 b.2 b.3 b.4 k

@@ -1,11 +1,11 @@
 -- What an input comes to, by the verb: a line that tells why it is refused; or what is made of it.
-use Rattle.std.specs.Prelude.{ℕ, ◌≡◌, true, false, List, [], ◌∷◌, map, None, Some, Err}
+use Rattle.std.specs.Prelude.{ℕ, ◌≡◌, Bool, true, false, List, [], ◌∷◌, map, length, None, Some, Err}
 use Rattle.job_report.specs.declared.refusals.FileRefusal.TheVariants as wrong
 use Rattle.job_report.specs.Refusals.{job_refused, stack_refused, memory_refused, file_refused}
 use Rattle.job_report.specs.Listings.{listing_of}
 use Rattle.job_text.specs.Jobs.{JobValue, JobIs, JobBreaks}
 use Rattle.job_text.specs.Views.{seat_value}
-use Rattle.job_runs.specs.Reported.{names_of, report_on}
+use Rattle.job_runs.specs.Reported.{names_of, report_on, summary_on}
 use Rattle.hp_program.specs.declared.program.Program.{Program}
 use Rattle.mpe_progfile.specs.declared.faults.FileFault.{FileFault}
 use Rattle.mpe_progfile.specs.declared.faults.FileFault.TheVariants as file_fault
@@ -24,6 +24,21 @@ use Rattle.hp3000_top.specs.declared.verbs.Verb.TheVariants as verb
 use Rattle.hp3000_top.specs.Programs.{AreMade, FirstRefused, AreWithin, FirstFaulty}
 
 -- ---- a job to be run
+
+-- the verbs that run a job: one that is read, or the generated one with its number
+abbrev pub RunsJobs : Verb → Type 0
+RunsJobs verb.Run = Unit {0}
+RunsJobs (verb.Gen n) = Unit {0}
+RunsJobs _ = ⊥
+
+-- what is told of the world in which a job's turns leave its sessions, its text having so many bytes: the summary of a generated job; else the report
+abbrev pub account_with : Verb → ℕ → List (List ℕ) → Bool → World → List ℕ
+account_with (verb.Gen n) bytes names stats w = summary_on n bytes names w
+account_with _ bytes names stats w = report_on names stats w
+
+-- the same of a job and its text
+abbrev pub account_of : Verb → List ℕ → JobValue → World → List ℕ
+account_of v bytes job w = account_with v (length bytes) (names_of job.programs) job.stats w
 
 -- the line for sessions that don't open; want of memory has none
 abbrev pub open_line : OpenFault → List ℕ
@@ -86,11 +101,12 @@ abbrev pub CauseOf : Verb → List ℕ → List ℕ → Type 0
 CauseOf verb.Run bytes line = Cause bytes line
 CauseOf verb.Prep bytes line = Unprepared bytes line
 CauseOf verb.List bytes line = Unlisted bytes line
+CauseOf (verb.Gen n) bytes line = Cause bytes line
 
--- The bytes come to this text: the report of the world in which a job's turns leave its sessions; the file of the program that is made;
+-- The bytes come to this text: what is told of the world in which a job's turns leave its sessions; the file of the program that is made;
 -- the listing of the program whose file they are; or the line that refuses them.
 pub data ComesTo (bytes : List ℕ) : Verb → List ℕ → Type 0 where
-  report : (job : JobValue) (made : List Program) (w : World) → Runs bytes job made w → ComesTo bytes verb.Run (report_on (names_of job.programs) job.stats w)
+  account : {v : Verb} (job : JobValue) (made : List Program) (w : World) → RunsJobs v → Runs bytes job made w → ComesTo bytes v (account_of v bytes job w)
   file : {text : List ℕ} (job : JobValue) (p : Program) → IsPrepared bytes job p → IsFile p text → ComesTo bytes verb.Prep text
   listing : (p : Program) → IsFile p bytes → ComesTo bytes verb.List (listing_of p)
   line : {v : Verb} {text : List ℕ} → CauseOf v bytes text → ComesTo bytes v text
@@ -115,3 +131,4 @@ abbrev pub SureCauseOf : Verb → List ℕ → List ℕ → Type 0
 SureCauseOf verb.Run bytes told = SureCause bytes told
 SureCauseOf verb.Prep bytes told = SurelyUnprepared bytes told
 SureCauseOf verb.List bytes told = Unlisted bytes told
+SureCauseOf (verb.Gen n) bytes told = SureCause bytes told

@@ -1,15 +1,16 @@
 -- What the parts of the top call answer.
-use Rattle.std.specs.Prelude.{ℕ, ◌≡◌, true, false, List, [], ◌∷◌, Option, None, Some, Result, Ok, Err, Vec}
+use Rattle.std.specs.Prelude.{ℕ, ◌≡◌, ◌≤◌, true, false, List, [], ◌∷◌, length, Option, None, Some, Result, Ok, Err, Vec}
 use Rattle.std.specs.Global.{Global}
 use Rattle.std.specs.Io.KnownBytes.{Appends}
-use Rattle.hp_outside.specs.Whole.{AppendsPrefix}
+use Rattle.hp_outside.specs.Whole.{ReadsToEnd, AppendsPrefix}
+use Rattle.job_gen.specs.Generated.{generated}
 use Rattle.job_report.specs.Listings.{listing_of}
 use Rattle.job_report.specs.Refusals.{job_refused, memory_refused}
 use Rattle.job_text.specs.declared.faults.JobFault.{JobFault}
 use Rattle.job_text.specs.declared.faults.JobFault.TheVariants as job_fault
 use Rattle.job_text.specs.Jobs.{JobValue}
 use Rattle.job_text.specs.States.{TextValue}
-use Rattle.job_runs.specs.Reported.{names_of, report_on}
+use Rattle.job_runs.specs.Reported.{names_of}
 use Rattle.hp_program.specs.declared.program.Program.{Program}
 use Rattle.hp_program.specs.Programs.{segments_of}
 use Rattle.mpe_overlay.specs.Codes.{codes_of}
@@ -47,7 +48,7 @@ use Rattle.hp3000_top.specs.declared.ran.Ran.TheVariants.{Plain}
 use Rattle.hp3000_top.specs.declared.verbs.Verb.{Verb}
 use Rattle.hp3000_top.specs.declared.verbs.Verb.TheVariants as verb
 use Rattle.hp3000_top.specs.Programs.{link_line, IsRefused, FirstRefused}
-use Rattle.hp3000_top.specs.Causes.{Runs, IsPrepared, CauseOf, open_line}
+use Rattle.hp3000_top.specs.Causes.{RunsJobs, account_with, account_of, Runs, IsPrepared, CauseOf, open_line}
 use Rattle.hp3000_top.specs.Answers.{IsCrowded, IsOfMemory, IsSurelyCrowded}
 
 -- ---- programs
@@ -102,21 +103,33 @@ abbrev pub IsOfStack : OpenFault → Type 0
 IsOfStack (StackTooSmall session need given) = Unit {0}
 IsOfStack _ = ⊥
 
--- the sessions of a job open and its turns are taken; or they don't open, and the line tells why
-abbrev pub Answers : JobValue → List Seat → List Program → Answer → Type 0
-Answers job seats programs (Report made monitor text) =
+-- why sessions of these programs don't open is told: by the line of a stack, or with the programs by that of the memory
+abbrev pub IsUnopened : OpenFault → List Program → Answer → Type 0
+IsUnopened f programs (Refusal line) = (line.items ≡ open_line f) × IsOfStack f
+IsUnopened f programs (Crowded made line) =
+    (made.items ≡ programs) × ((need : ℕ) × (given : ℕ) × (f ≡ MemoryTooSmall need given) × (line.items ≡ memory_refused need given))
+IsUnopened f programs _ = ⊥
+
+-- the sessions of a job, whose text has so many bytes, open and its turns are taken; or they don't open, and the line tells why
+abbrev pub Answers : Verb → ℕ → JobValue → List Seat → List Program → Answer → Type 0
+Answers v bytes job seats programs (Report made monitor text) =
     (made.items ≡ programs) × (refusal job.memory seats programs ≡ None)
     × (world_of monitor ≡ after (codes_of programs) job.quantum job.turns (opening job.memory seats programs))
-    × (text.items ≡ report_on (names_of job.programs) job.stats (world_of monitor))
-Answers job seats programs (Refusal line) =
+    × (text.items ≡ account_with v bytes (names_of job.programs) job.stats (world_of monitor))
+Answers v bytes job seats programs (Refusal line) =
     (f : OpenFault) × (refusal job.memory seats programs ≡ Some f) × (line.items ≡ open_line f) × IsOfStack f
-Answers job seats programs (Crowded made line) =
+Answers v bytes job seats programs (Crowded made line) =
     (made.items ≡ programs)
     × ((need : ℕ) × (given : ℕ) × (refusal job.memory seats programs ≡ Some (MemoryTooSmall need given)) × (line.items ≡ memory_refused need given))
-Answers job seats programs (File made text) = ⊥
-Answers job seats programs (Listing text) = ⊥
+Answers v bytes job seats programs (File made text) = ⊥
+Answers v bytes job seats programs (Listing text) = ⊥
 
 -- ---- the input
+
+-- the bytes that a verb is about: the text of the generated job, or an input that was read to its end
+abbrev pub IsInput : ℕ → Verb → Option (List ℕ) → Option (List ℕ) → List ℕ → Type 0
+IsInput limit (verb.Gen n) old new bytes = (bytes ≡ generated n) × (length bytes ≤ limit)
+IsInput limit _ old new bytes = ReadsToEnd limit old new bytes
 
 -- the line for the first faulty line of a job
 abbrev pub TellsJob : JobFault → List ℕ → Type 0
@@ -136,14 +149,15 @@ IsFileOf programs _ = ⊥
 -- no line of a memory that is too small, and no job for which it surely is
 abbrev pub IsRoomy : Verb → List ℕ → List ℕ → Type 0
 IsRoomy verb.Run bytes line = (IsOfMemory line → ⊥) × ((made : List Program) → IsSurelyCrowded bytes made → ⊥)
+IsRoomy (verb.Gen n) bytes line = (IsOfMemory line → ⊥) × ((made : List Program) → IsSurelyCrowded bytes made → ⊥)
 IsRoomy _ bytes line = Unit {0}
 
 -- what the bytes come to is what is answered
 pub data IsAnswered (bytes : List ℕ) : Verb → Answer → Type 0 where
-  report : {made : Vec Program Global} {monitor : Monitor} {text : Vec ℕ Global} (job : JobValue) → Runs bytes job made.items (world_of monitor)
-      → text.items ≡ report_on (names_of job.programs) job.stats (world_of monitor) → IsAnswered bytes verb.Run (Report made monitor text)
-  crowded : {made : Vec Program Global} {line : Vec ℕ Global} (need given : ℕ) → line.items ≡ memory_refused need given → IsCrowded bytes made.items need given
-      → IsAnswered bytes verb.Run (Crowded made line)
+  report : {v : Verb} {made : Vec Program Global} {monitor : Monitor} {text : Vec ℕ Global} (job : JobValue) → RunsJobs v → Runs bytes job made.items (world_of monitor)
+      → text.items ≡ account_of v bytes job (world_of monitor) → IsAnswered bytes v (Report made monitor text)
+  crowded : {v : Verb} {made : Vec Program Global} {line : Vec ℕ Global} (need given : ℕ) → RunsJobs v → line.items ≡ memory_refused need given
+      → IsCrowded bytes made.items need given → IsAnswered bytes v (Crowded made line)
   file : {made : Vec Program Global} {text : Vec ℕ Global} (job : JobValue) (p : Program) → IsPrepared bytes job p → made.items ≡ p ∷ [] → IsFile p text.items
       → IsAnswered bytes verb.Prep (File made text)
   listing : {text : Vec ℕ Global} (p : Program) → IsFile p bytes → text.items ≡ listing_of p → IsAnswered bytes verb.List (Listing text)

@@ -1,7 +1,7 @@
 //! What an input is answered by.
 ghost use Rattle.std.specs.Prelude.{◌≡◌, ◌≤◌, length, IfOk};
 ghost use Rattle.hp3000_top.specs.declared.verbs.Verb.TheVariants as verbs;
-ghost use Rattle.hp3000_top.specs.Causes.{file_line};
+ghost use Rattle.hp3000_top.specs.Causes.{RunsJobs, file_line};
 ghost use Rattle.hp3000_top.specs.Steps.{IsAnswered, IsFileOf, IsFaultOfFile, TellsJob};
 
 use crate::answer::Answer;
@@ -26,9 +26,10 @@ fn job_line(alloc: Global, fault: JobFault) -> Result<Vec<u8>, AllocError>
 }
 
 /// What the bytes are answered by as a job to be run.
-fn run_answer(alloc: Global, bytes: &[u8]) -> Result<Answer, AllocError>
-    requires { length bytes.now ≤ 1048576 }
-    ensures { IfOk result (λ a. IsAnswered bytes.now verbs.Run a) }
+fn run_answer(alloc: Global, verb: Verb, bytes: &[u8]) -> Result<Answer, AllocError>
+    requires runs { RunsJobs verb }
+    requires short { length bytes.now ≤ 1048576 }
+    ensures { IfOk result (λ a. IsAnswered bytes.now verb a) }
 {
     let job = match read_job(alloc, bytes, false) {
         Ok(job) => job,
@@ -38,7 +39,7 @@ fn run_answer(alloc: Global, bytes: &[u8]) -> Result<Answer, AllocError>
         }
     };
     match programs_of(alloc, &job.programs) {
-        Ok(programs) => run(alloc, job, programs),
+        Ok(programs) => run(alloc, verb, bytes.len(), job, programs),
         Err(Unmade::Refused { line }) => Ok(Answer::Refusal { line }),
         Err(Unmade::NoMemory) => Err(AllocError),
     }
@@ -110,7 +111,7 @@ pub fn answer_of(alloc: Global, verb: Verb, bytes: &[u8]) -> Result<Answer, Allo
     ensures { IfOk result (λ a. IsAnswered bytes.now verb a) }
 {
     match verb {
-        Verb::Run => run_answer(alloc, bytes),
+        Verb::Run | Verb::Gen(_) => run_answer(alloc, verb, bytes),
         Verb::Prep => prep_answer(alloc, bytes),
         Verb::List => list_answer(alloc, bytes),
     }

@@ -84,10 +84,15 @@ fn the_first_job_quits_with_five(rt: HostRuntime) -> Result<(), Fail> {
 #[test]
 fn words_that_are_no_verb_read_and_write_nothing(rt: HostRuntime) -> Result<(), Fail> {
     let alloc = rt.alloc();
-    let lists: [&[&str]; 6] = [
+    let lists: [&[&str]; 11] = [
         &["run", "x"],
         &["RUN"],
+        &["gen"],
         &["gen", "70000"],
+        &["gen", "65536"],
+        &["gen", "000007"],
+        &["gen", ""],
+        &["gen", "7", "7"],
         &["list", "prep"],
         &[""],
         &[],
@@ -506,5 +511,33 @@ fn programs_are_prepared(rt: HostRuntime) -> Result<(), Fail> {
     assert_eq!(rt; text.as_slice(), b"REFUSED JOB LINE 7 RULE 11\n".as_slice());
     let (_, text) = run(alloc, job)?;
     assert_eq!(rt; text.as_slice(), b"REFUSED JOB LINE 5 RULE 11\n".as_slice());
+    Ok(())
+}
+
+#[test]
+fn generated_jobs_are_summed_up(rt: HostRuntime) -> Result<(), Fail> {
+    let alloc = rt.alloc();
+    let table: [(&str, &[u8], usize); 4] = [
+        ("7", b"GEN 7 BYTES 55322\nSESSION 1 G1 BYTES 5\n1679\n", 736),
+        (
+            "00007",
+            b"GEN 7 BYTES 55322\nSESSION 1 G1 BYTES 5\n1679\n",
+            736,
+        ),
+        ("0", b"GEN 0 BYTES 55317\n", 738),
+        ("65535", b"GEN 65535 BYTES 55327\n", 732),
+    ];
+    for (number, first, length) in table {
+        let output = MemorySink::make(alloc, 4096, Vec::new(alloc))?;
+        let (exit, input, output, made) = call(
+            alloc,
+            &["gen", number],
+            source(alloc, FIRST, &[0])?,
+            output,
+        )?;
+        assert_eq!(rt; (exit, input.calls, made), (Exit::Done, 0, 8));
+        assert_eq!(rt; output.bytes.len(), length);
+        assert!(rt; output.bytes.starts_with(first));
+    }
     Ok(())
 }

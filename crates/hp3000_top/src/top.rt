@@ -1,22 +1,35 @@
 //! The top call.
-ghost use Rattle.std.specs.Prelude.{◌≡◌, ◌↔◌, ◌⊎◌, ℕ, List, None, map, string_bytes};
+ghost use Rattle.std.specs.Prelude.{◌≡◌, ◌↔◌, ◌⊎◌, ℕ, List, None, Some, Err, map, string_bytes, IfOk};
 ghost use Rattle.hp_outside.specs.Faults.{Rose};
-ghost use Rattle.hp_outside.specs.Whole.{IsLongerThan};
 ghost use Rattle.hp3000_top.specs.Verbs.{asked};
-ghost use Rattle.hp3000_top.specs.Answers.{IsWhole, IsSilent, Delivers, Refuses, BreaksOff, AreAsAlone, IsSurelyDone, IsDone, IsSurelyRefused, IsRefusedBy, MadeAt, RanAt};
-ghost use Rattle.hp3000_top.specs.Steps.{IsTaken};
+ghost use Rattle.hp3000_top.specs.Answers.{TakesNone, IsWhole, IsTooLong, IsSilent, Delivers, Refuses, BreaksOff, AreAsAlone, IsSurelyDone, IsDone, IsSurelyRefused, IsRefusedBy, MadeAt, RanAt};
+ghost use Rattle.hp3000_top.specs.Steps.{IsInput, IsTaken};
 
 use crate::answer::Answer;
 use crate::answering::answer_of;
 use crate::exit::Exit;
 use crate::ran::Ran;
-use crate::verbs::verb_of;
+use crate::verbs::{Verb, verb_of};
 use hp_outside::{ReadAll, Sink, Source, read_all, write_all};
 use hp_program::Program;
+use job_gen::generate;
 use std::alloc::Global;
 
 /// The greatest number of bytes of an input.
 const LIMIT: usize = 1_048_576;
+
+/// The bytes that a verb is about: the text of the generated job, where nothing is read; or the input, read to its end.
+fn bytes_for<I: Source>(alloc: Global, verb: Verb, input: &mut I) -> Result<Vec<u8>, ReadAll>
+    ensures ok { IfOk result (λ bytes. IsInput 1048576 verb (I.left input.old) (I.left input.new) bytes.items) }
+    ensures unread { TakesNone (Some verb) → input.new ≡ input.old }
+    ensures read_fault { result ≡ Err ReadAll.ReadFault → Rose (I.faults input.old) (I.faults input.new) }
+    ensures too_long { result ≡ Err ReadAll.TooLong → IsTooLong 1048576 (Some verb) (I.left input.old) }
+{
+    match verb {
+        Verb::Gen(number) => Ok(generate(alloc, number)?),
+        Verb::Run | Verb::Prep | Verb::List => read_all(alloc, input, LIMIT),
+    }
+}
 
 /// Writes an answer whole, and hands over what is left of it; or leaves all as it was, where the sink fails.
 fn deliver<O: Sink>(
@@ -63,10 +76,11 @@ fn deliver<O: Sink>(
 /// it.
 ///
 /// `words` are the words after the program's name: `run` takes a job and writes its report, `prep` a job of one program and no
-/// session and writes the program's file, `list` such a file and writes its listing. An input has at most 1,048,576 bytes. At
-/// `Done` with `run` or `prep` the list `made` holds the programs of the job, one for each program text in its order; at a
-/// refusal for want of the job's memory it holds them too. At `Done` with `run` the monitor, as the last turn left it, is in
-/// `ran`. At every other answer both are as before. Want of memory of this machine may come in place of any later answer, and
+/// session and writes the program's file, `list` such a file and writes its listing; `gen` and a number take nothing, and write
+/// the summary of the run of the generated job with that number. An input has at most 1,048,576 bytes. At `Done` with `run`,
+/// `gen` or `prep` the list `made` holds the programs of the job, one for each program text in its order; at a refusal for want
+/// of the job's memory it holds them too. At `Done` with `run` or `gen` the monitor, as the last turn left it, is in `ran`. At
+/// every other answer both are as before. Want of memory of this machine may come in place of any later answer, and
 /// then nothing was written.
 pub fn hp3000_main<I: Source, O: Sink>(
     alloc: Global,
@@ -79,12 +93,12 @@ pub fn hp3000_main<I: Source, O: Sink>(
     // Each answer, and when it comes.
     ensures usage { (result ≡ Exit.Usage) ↔ (asked (map (λ w. string_bytes w) words.now.items) ≡ None) }
     ensures read_fault { result ≡ Exit.ReadFault → Rose (I.faults input.old) (I.faults input.new) }
-    ensures too_long { result ≡ Exit.InputTooLong → IsLongerThan 1048576 (I.left input.old) }
+    ensures too_long { result ≡ Exit.InputTooLong → IsTooLong 1048576 (asked (map (λ w. string_bytes w) words.now.items)) (I.left input.old) }
     ensures write_fault { result ≡ Exit.WriteFault → Rose (O.faults output.old) (O.faults output.new) }
 
     // What was read.
-    ensures unread { result ≡ Exit.Usage → input.new ≡ input.old }
-    ensures whole { (result ≡ Exit.Done) ⊎ (result ≡ Exit.Refused) → IsWhole 1048576 (I.left input.old) (I.left input.new) }
+    ensures unread { TakesNone (asked (map (λ w. string_bytes w) words.now.items)) → input.new ≡ input.old }
+    ensures whole { (result ≡ Exit.Done) ⊎ (result ≡ Exit.Refused) → IsWhole 1048576 (asked (map (λ w. string_bytes w) words.now.items)) (I.left input.old) (I.left input.new) }
 
     // What was written.
     ensures silent { IsSilent result → output.new ≡ output.old }
@@ -105,7 +119,7 @@ pub fn hp3000_main<I: Source, O: Sink>(
     let Some(verb) = verb_of(words) else {
         return Exit::Usage;
     };
-    let bytes = match read_all(alloc, input, LIMIT) {
+    let bytes = match bytes_for(alloc, verb, input) {
         Ok(bytes) => bytes,
         Err(ReadAll::ReadFault) => return Exit::ReadFault,
         Err(ReadAll::TooLong) => return Exit::InputTooLong,

@@ -1,14 +1,14 @@
 -- The monitor runs copies of the programs that were made.
-use Rattle.std.proofs.Common.{List, map, length, Vec, Global, refl, sym, ap, subst, ◌∙◌, ◌≡◌, ◌≢◌, None, Some}
+use Rattle.std.proofs.Common.{List, map, length, Vec, Global, refl, sym, ap, subst, ◌∙◌, ◌≡◌, None}
 use Rattle.hp_program.specs.declared.program.Program.{Program}
 use Rattle.job_text.specs.declared.job.Text.{Text}
 use Rattle.job_text.specs.Views.{text_value}
-use Rattle.job_runs.specs.Reported.{names_of, report_on}
-use Rattle.mpe_turns.specs.declared.fault.OpenFault.TheVariants.{StackTooSmall, NoMemory}
+use Rattle.job_runs.specs.Reported.{names_of}
 use Rattle.mpe_turns.specs.Monitors.{world_of}
 use Rattle.mpe_turns.specs.Opening.{refusal}
+use Rattle.hp3000_top.specs.Causes.{account_with}
 use Rattle.hp3000_top.specs.Steps.{AreCopies}
-use Rattle.hp3000_top.proofs.Opening.{count_so, few_so, seats_so, opened_so, none_of, refused_of, world_so}
+use Rattle.hp3000_top.proofs.Opening.{count_so, few_so, seats_so, opened_so, none_of, refused_of, unopened_so, world_so}
 use Rattle.hp3000_top.proofs.running.run.Goals as goal
 
 pub open-requires-clause-seats : goal.open-requires-clause-seats
@@ -21,8 +21,8 @@ open-requires-clause-programs c =
     few_so c.args.job c.args.made.items c.in_ok-copies.copies.items c.requires.fits c.requires.made
     (subst (λ (ps : List Program). AreCopies ps c.in_ok-copies.copies.items) c.deref.ensures.value c.in_ok-copies.ensures)
 
-pub report_on-requires : goal.report_on-requires
-report_on-requires c =
+pub account-requires : goal.account-requires
+account-requires c =
     let copied = subst (λ (ps : List Program). AreCopies ps c.in_ok-copies.copies.items) c.deref.ensures.value c.in_ok-copies.ensures in
     ap (λ (v : Vec Program Global). length v.items) (c.take_turns.ensures.programs ∙ c.in-Ok.ensures.programs)
     ∙ count_so c.args.job c.args.made.items c.in_ok-copies.copies.items c.requires.made copied ∙ sym (ap length c.deref-in-Ok.ensures.value)
@@ -38,30 +38,12 @@ returns-in-Ok c =
       none_of c.args.job made copies.items copied none,
       world_so c.args.job made copies c.in-Ok.monitor c.take_turns.new.monitor copied c.in-Ok.ensures.programs (c.in-Ok.ensures.opened none) c.take_turns.ensures.world,
       c.in_ok-text-in-Ok.ensures
-          ∙ ap (λ (ts : List Text). report_on (names_of (map text_value ts)) c.args.job.stats (world_of c.take_turns.new.monitor)) c.deref-in-Ok.ensures.value,
+          ∙ ap (λ (ts : List Text). account_with c.args.verb c.args.bytes (names_of (map text_value ts)) c.args.job.stats (world_of c.take_turns.new.monitor)) c.deref-in-Ok.ensures.value,
     )
 
-pub returns-in-Err-StackTooSmall : goal.returns-in-Err-StackTooSmall
-returns-in-Err-StackTooSmall c =
+pub returns : goal.returns
+returns c =
     let copied = subst (λ (ps : List Program). AreCopies ps c.in_ok-copies.copies.items) c.deref.ensures.value c.in_ok-copies.ensures in
-    let small : c.in-Err-StackTooSmall.field-0 ≢ NoMemory = λ e. let d = sym c.in-Err-StackTooSmall.field-0-is ∙ e in cc in (
-      StackTooSmall c.in-Err-StackTooSmall.session c.in-Err-StackTooSmall.need c.in-Err-StackTooSmall.given,
-      refused_of c.args.job c.args.made.items c.in_ok-copies.copies.items c.in-Err-StackTooSmall.field-0 copied small c.in-Err-StackTooSmall.ensures.refused
-          c.in-Err-StackTooSmall.ensures.opened ∙ ap Some c.in-Err-StackTooSmall.field-0-is,
-      c.in_ok-line-in-Err-StackTooSmall.ensures,
-      tt,
-    )
-
-pub returns-in-Err-MemoryTooSmall : goal.returns-in-Err-MemoryTooSmall
-returns-in-Err-MemoryTooSmall c =
-    let copied = subst (λ (ps : List Program). AreCopies ps c.in_ok-copies.copies.items) c.deref.ensures.value c.in_ok-copies.ensures in
-    let small : c.in-Err-MemoryTooSmall.field-0 ≢ NoMemory = λ e. let d = sym c.in-Err-MemoryTooSmall.field-0-is ∙ e in cc in (
-      refl,
-      (
-        c.in-Err-MemoryTooSmall.need,
-        c.in-Err-MemoryTooSmall.given,
-        refused_of c.args.job c.args.made.items c.in_ok-copies.copies.items c.in-Err-MemoryTooSmall.field-0 copied small c.in-Err-MemoryTooSmall.ensures.refused
-            c.in-Err-MemoryTooSmall.ensures.opened ∙ ap Some c.in-Err-MemoryTooSmall.field-0-is,
-        c.in_ok-line-in-Err-MemoryTooSmall.ensures,
-      ),
-    )
+    unopened_so c.args.verb c.args.bytes c.args.job c.args.made.items c.in-Err.fault c.unopened.result
+    (λ small. refused_of c.args.job c.args.made.items c.in_ok-copies.copies.items c.in-Err.fault copied small c.in-Err.ensures.refused c.in-Err.ensures.opened)
+    c.unopened.ensures

@@ -4,15 +4,21 @@ use Rattle.std.specs.Global.{Global}
 use Rattle.std.proofs.Common as std
 use Rattle.hp3000_top.specs.declared.verbs.Verb.{Verb}
 use Rattle.hp3000_top.specs.Verbs.{asked}
-use Rattle.hp3000_top.specs.Answers.{BreaksOff, Refuses, Delivers, AreAsAlone, IsSurelyDone, IsSurelyRefused, MadeAt}
+use Rattle.hp3000_top.specs.Answers.{IsWhole, BreaksOff, Refuses, Delivers, AreAsAlone, IsSurelyDone, IsSurelyRefused, MadeAt}
 use Rattle.hp3000_top.specs.Steps.{IsAnswered}
-use Rattle.hp3000_top.proofs.TopLemmas.{broken_so, refused_so, done_so, headline_so, complete_so, faulty_so, made_so}
+use Rattle.hp3000_top.proofs.TopLemmas.{whole_so, broken_so, refused_so, done_so, headline_so, complete_so, faulty_so, made_so}
 use Rattle.hp3000_top.proofs.top.hp3000_main.Goals as goal
 
 -- the words ask for the verb
 asked_so : (words now : List (std.String Global)) (v : Verb) → Some v ≡ asked (map (λ w. string_bytes w) words) → words ≡ now
     → Some v ≡ asked (map (λ w. string_bytes w) now)
 asked_so words now v e is = e ∙ ap (λ (ws : List (std.String Global)). asked (map (λ w. string_bytes w) ws)) is
+
+pub returns-clause-whole : goal.returns-clause-whole
+returns-clause-whole g c =
+    let verb_is = asked_so c.deref.result.now c.args.words.now.items c.in-Some.verb c.in-Some.ensures c.deref.ensures.value in
+    λ w. subst (λ (v : Option Verb). IsWhole 1048576 v (g.I.Source.left c.args.input.now) (g.I.Source.left c.bytes_for.new.input)) verb_is
+    (whole_so c.in-Some.verb _ _ c.in-Ok.bytes.items c.in-Ok.ensures.ok)
 
 pub returns-clause-broken : goal.returns-clause-broken
 returns-clause-broken g c =
