@@ -1,0 +1,4 @@
+-- In reading order.
+pub mod Wants
+pub mod Counts
+pub mod Laws
