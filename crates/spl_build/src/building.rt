@@ -1,12 +1,15 @@
 //! The program that is built of units.
-ghost use Rattle.std.specs.Prelude.{◌≡◌, ◌≤◌, None, IfOk, IfErr, OnOk, length, map};
+ghost use Rattle.std.specs.Prelude.{◌≡◌, ◌≤◌, ◌<◌, ◌^◌, true, None, IfOk, IfErr, OnOk, length, map};
+ghost use Rattle.std.specs.List.{list_all};
+ghost use Rattle.mpe_segmenter.specs.Counts.{is_well_formed};
+ghost use Rattle.mpe_segmenter.specs.Entered.{total};
 ghost use Rattle.spl_meaning.specs.Limits.{first_full};
 ghost use Rattle.spl_sound.specs.Spelled.{source_of};
 ghost use Rattle.spl_build.specs.Built.{IsLinked, IsBuilt, IsUnbuilt};
 ghost use Rattle.spl_build.specs.Steps.{IsLaid, IsPassed, Fails};
 
 use hp_program::Program;
-use mpe_segmenter::{PrepFault, are_ready, prepare};
+use mpe_segmenter::{PrepFault, prepare};
 use spl_branch::Module;
 use spl_fits::programs_fit;
 use spl_gen_proc::compile;
@@ -54,15 +57,14 @@ fn laid(alloc: Global, sound: &Sound) -> Result<Layout, BuildFault>
     }
 }
 
-/// The program of modules, with these data words. Modules that are not ready are answered as want of memory.
+/// The program of modules, with these data words.
 fn linked(alloc: Global, modules: Vec<Module>, globals: Vec<u16>) -> Result<Program, BuildFault>
-    requires { length globals.items ≤ 32000 }
+    requires formed { list_all is_well_formed modules.items ≡ true }
+    requires few { total modules.items < 2 ^ 32 }
+    requires globals { length globals.items ≤ 32000 }
     ensures linked { IfOk result (λ p. IsLinked modules.items globals.items p) }
     ensures fails { IfErr result (λ fault. Fails modules.items fault) }
 {
-    if !are_ready(&modules) {
-        return Err(BuildFault::NoMemory);
-    }
     match prepare(alloc, modules, globals) {
         Ok(program) => Ok(program),
         Err(PrepFault::NoMemory) => Err(BuildFault::NoMemory),
@@ -73,9 +75,7 @@ fn linked(alloc: Global, modules: Vec<Module>, globals: Vec<u16>) -> Result<Prog
 /// The program that is built of units that break no rule: their layout, their modules, and what the segmenter makes of these.
 ///
 /// Err: the first limit that they pass, as `spl_layout::places` tells it; then the first fault of their modules, as
-/// `mpe_segmenter::prepare` tells it. `NoMemory` may come in place of any answer. It is answered too where the modules are none
-/// that the segmenter may be handed (`mpe_segmenter::are_ready`): modules of `spl_gen_proc::compile` always are, but this is
-/// tested as it runs and not proved.
+/// `mpe_segmenter::prepare` tells it. `NoMemory`, where memory is wanting, may come in place of any answer.
 pub fn build(alloc: Global, sound: &Sound) -> Result<Program, BuildFault>
     ensures built { IfOk result (λ p. IsBuilt (map source_of sound.now.units.items) p) }
     ensures within { OnOk result (first_full (map source_of sound.now.units.items) ≡ None) }

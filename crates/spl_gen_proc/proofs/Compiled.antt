@@ -11,7 +11,8 @@ use Rattle.spl_module_code.specs.Modules.{program_uses, AreModules}
 use Rattle.spl_unit_laws.specs.declared.cursors.Start.{Start}
 use Rattle.spl_unit_laws.specs.Units.{UnitsStand}
 use Rattle.spl_unit_laws.specs.Laws.{first_start}
-use Rattle.spl_unit_laws.proofs.Modules.{modules_made}
+use Rattle.spl_unit_laws.specs.Begins.{UnitsBegin}
+use Rattle.spl_unit_laws.proofs.Modules.{units_first, modules_made}
 
 start_at : Areas → Start
 start_at a = record { primary = a.primary; own = a.own; own_arrays = a.own_arrays; room = 0 }
@@ -24,3 +25,9 @@ pub compiled : (us : List Source) (rooms : List Room) (names : List (List ℕ)) 
     → a ≡ first_areas us → UnitsStand rooms names us (record { primary = a.primary; own = a.own; own_arrays = a.own_arrays; room = 0 }) ms → AreModules us ms
 unfolding start_at
 compiled us rooms names a ms sound has used first stand = modules_made us rooms names (start_at a) ms sound has used (starts us a first) stand
+
+-- before the first unit
+pub units_begin : (us : List Source) (rooms : List Room) (a : Areas) → IsSound us → rooms ≡ rooms_of us → a ≡ first_areas us
+    → UnitsBegin rooms us (record { primary = a.primary; own = a.own; own_arrays = a.own_arrays; room = 0 })
+unfolding start_at
+units_begin us rooms a sound has first = subst (λ (s : Start). UnitsBegin rooms us s) (sym (starts us a first)) (units_first us rooms sound has)

@@ -19,11 +19,13 @@ use Rattle.spl_body_scopes.specs.Levels.{Level, unit_level}
 use Rattle.spl_gen_routines.specs.Routines.{room_at}
 use Rattle.spl_unit_codes.specs.declared.growing.Growing.{Growing}
 use Rattle.spl_unit_codes.specs.Begun.{AreBegun}
-use Rattle.spl_unit_codes.specs.Slots.{AreSlots, Picked, PickedFrom}
+use Rattle.spl_unit_codes.specs.Slots.{AreComplete, AreSlots, Picked, PickedFrom}
 use Rattle.spl_unit_laws.specs.declared.cursors.Cursor.{Cursor}
 use Rattle.spl_unit_laws.specs.declared.cursors.Start.{Start}
 use Rattle.spl_unit_laws.specs.Known.{Fixed, Known}
 use Rattle.spl_unit_laws.specs.Steps.{Steps, AreFree}
+use Rattle.spl_unit_laws.specs.Begins.{UnitBegins}
+use Rattle.spl_unit_laws.proofs.Completes.{codes_complete}
 use Rattle.spl_unit_laws.specs.Units.{MainStep, UnitAppended, first_cursor, whole_level, fixed_for}
 use Rattle.spl_gen_proc.specs.Bodies.{known_at, BodiesStand, PartsPicked, UnitMade}
 
@@ -65,6 +67,23 @@ pub unit_appended : (names : List (List ℕ)) (u : Source) (at next : Start) (w 
     → whole ≡ whole_level u at.primary → UnitMade (fixed_with u w whole rooms) w.entered.made u names at next old new → UnitAppended rooms names u at next old new
 unit_appended names u at next w whole rooms old new entries is m =
     appended names u at next w rooms old new entries (subst (λ (l : Level). UnitMade (fixed_with u w l rooms) w.entered.made u names at next old new) is m)
+
+-- behind all bodies each of its codes may be finished
+whole_complete : (u : Source) (at : Start) (w : Walk) (level : Level) (rooms : List Room) (first all : List Growing) (last : Cursor) → UnitBegins rooms u at
+    → IsUnitModules u w → level ≡ unit_level at.primary (declarations u.tree.items) → AreBegun u w.entered.made first
+    → BodiesStand (fixed_for u w at.primary rooms) u (room_at rooms at.room).depth (known_at level (first_cursor u at) first) last all → AreComplete all
+whole_complete u at w level rooms first all last begins entries is begun bodies =
+    let b : BodiesStand (fixed_for u w at.primary rooms) u (room_at rooms at.room).depth
+    (known_at (unit_level at.primary (declarations u.tree.items)) (first_cursor u at) first) last all =
+    subst (λ (l : Level). BodiesStand (fixed_for u w at.primary rooms) u (room_at rooms at.room).depth (known_at l (first_cursor u at) first) last all) is bodies in
+    codes_complete u at rooms w first (known_at b.level last b.parts) all begins entries begun b.steps b.free b.main
+
+pub bodies_complete : (u : Source) (at : Start) (w : Walk) (whole level : Level) (rooms : List Room) (first all : List Growing) (last : Cursor) → UnitBegins rooms u at
+    → IsUnitModules u w → whole ≡ whole_level u at.primary → level ≡ unit_level at.primary (declarations u.tree.items) → AreBegun u w.entered.made first
+    → BodiesStand (fixed_with u w whole rooms) u (room_at rooms at.room).depth (known_at level (first_cursor u at) first) last all → AreComplete all
+bodies_complete u at w whole level rooms first all last begins entries whole_is is begun bodies =
+    whole_complete u at w level rooms first all last begins entries is begun
+    (subst (λ (l : Level). BodiesStand (fixed_with u w l rooms) u (room_at rooms at.room).depth (known_at level (first_cursor u at) first) last all) whole_is bodies)
 
 -- its bodies were, and its modules were picked
 pub unit_is_made : (f : Fixed) (made : ℕ → List Made) (u : Source) (names : List (List ℕ)) (at : Start) (primary : ℕ) (level : Level) (last : Cursor)

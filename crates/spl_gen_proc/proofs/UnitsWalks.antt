@@ -9,6 +9,8 @@ use Rattle.spl_lists.proofs.NameWalks.{onward, onward_end}
 use Rattle.spl_rooms.specs.declared.room_type.Room.{Room}
 use Rattle.spl_branch.specs.declared.modules.Module.{Module}
 use Rattle.spl_unit_laws.specs.declared.cursors.Start.{Start}
+use Rattle.spl_unit_laws.specs.Begins.{UnitBegins, UnitsBegin}
+use Rattle.spl_unit_laws.proofs.UnitMade.{unit_begins, units_begin_behind}
 use Rattle.spl_unit_laws.specs.Units.{OnceInBodies, UnitStands, UnitAppended, UnitsStand}
 use Rattle.spl_unit_laws.specs.Units.{UnitsStand as s}
 
@@ -16,12 +18,14 @@ use Rattle.spl_unit_laws.specs.Units.{UnitsStand as s}
 pub record UnitsWalk (rooms : List Room) (names : List (List ℕ)) (all left : List Source) (from at : Start) (now : List Module) : Type 0 where
   pub rest : (ns : List Module) → UnitsStand rooms names left at ns → UnitsStand rooms names all from (now ++ ns)
   pub once : Each OnceInBodies left
+  pub begin : UnitsBegin rooms left at
 
 pub units_first : (rooms : List Room) (names : List (List ℕ)) (list : List SplUnit) (from : Start) (none : List Module) → none ≡ [] → Each OnceInBodies (map source_of list)
-    → UnitsWalk rooms names (map source_of list) (map source_of (drop 0 list)) from from none
-units_first rooms names list from none is once = record {
+    → UnitsBegin rooms (map source_of list) from → UnitsWalk rooms names (map source_of list) (map source_of (drop 0 list)) from from none
+units_first rooms names list from none is once begin = record {
   rest = λ ns stand. subst (λ (ms : List Module). UnitsStand rooms names (map source_of list) from (ms ++ ns)) (sym is) stand;
   once = once;
+  begin = begin;
 }
 
 units_more : (rooms : List Room) (names : List (List ℕ)) (all : List Source) (u : Source) (us : List Source) (from at next : Start) (now new : List Module)
@@ -31,6 +35,7 @@ units_more rooms names all u us from at next now new w one = record {
       subst (λ (ms : List Module). UnitsStand rooms names all from ms) (sym (append_assoc now one.0 ns) ∙ ap (λ (ms : List Module). ms ++ ns) (sym one.1))
       (w.rest (one.0 ++ ns) (s.more one.2 stand));
   once = w.once.1;
+  begin = units_begin_behind rooms names u us at next one.0 w.begin one.2;
 }
 
 units_here : (rooms : List Room) (names : List (List ℕ)) (all : List Source) (list : List SplUnit) (i : ℕ) (u : SplUnit) (from at : Start) (now : List Module)
@@ -48,6 +53,11 @@ units_next rooms names all list i u from at next now new w lt is one =
 pub unit_once : (rooms : List Room) (names : List (List ℕ)) (all : List Source) (list : List SplUnit) (i : ℕ) (u : SplUnit) (from at : Start) (now : List Module)
     → UnitsWalk rooms names all (map source_of (drop i list)) from at now → i < length list → u ≡ get_or list i u → OnceInBodies (source_of u)
 unit_once rooms names all list i u from at now w lt is = (units_here rooms names all list i u from at now w lt is).once.0
+
+pub unit_begin : (rooms : List Room) (names : List (List ℕ)) (all : List Source) (list : List SplUnit) (i : ℕ) (u : SplUnit) (from at : Start) (now : List Module)
+    → UnitsWalk rooms names all (map source_of (drop i list)) from at now → i < length list → u ≡ get_or list i u → UnitBegins rooms (source_of u) at
+unit_begin rooms names all list i u from at now w lt is =
+    unit_begins rooms (source_of u) (map source_of (drop (i + 1) list)) at (units_here rooms names all list i u from at now w lt is).begin
 
 pub units_done : (rooms : List Room) (names : List (List ℕ)) (all : List Source) (list : List SplUnit) (i : ℕ) (from at : Start) (now : List Module)
     → UnitsWalk rooms names all (map source_of (drop i list)) from at now → length list ≤ i → UnitsStand rooms names all from now

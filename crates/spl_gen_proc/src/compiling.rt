@@ -4,6 +4,7 @@ ghost use Rattle.spl_tree.specs.Views.{letters};
 ghost use Rattle.spl_sound.specs.Spelled.{source_of};
 ghost use Rattle.spl_layout.specs.Layouts.{IsLayout};
 ghost use Rattle.spl_places.specs.Programs.{Each};
+ghost use Rattle.spl_unit_laws.specs.Begins.{UnitsBegin};
 ghost use Rattle.spl_unit_laws.specs.Units.{OnceInBodies, UnitsStand};
 ghost use Rattle.spl_module_code.specs.Modules.{AreModules};
 
@@ -26,7 +27,8 @@ fn all_modules(
     rooms: &[Room],
     names: &[Name],
 ) -> Result<Vec<Module>, AllocError>
-    requires { Each OnceInBodies (map source_of units.now) }
+    requires once { Each OnceInBodies (map source_of units.now) }
+    requires begin { UnitsBegin rooms.now (map source_of units.now) start }
     ensures { IfOk result (λ ms. UnitsStand rooms.now (map letters names.now) (map source_of units.now) start ms.items) }
 {
     let mut modules = Vec::new(alloc);
@@ -40,8 +42,8 @@ fn all_modules(
 /// The modules of a program with its layout: one for each unit and each segment that it uses, units in order and within a
 /// unit the segments in the order in which the program first uses them.
 ///
-/// A module of more than 16,383 words is oversized, so that no program is too long to be compiled. Want of memory is an error,
-/// and so is a call without its want or entry, which no sound program has.
+/// A module of more than 16,383 words is oversized, so that no program is too long to be compiled. Want of memory alone is an
+/// error.
 pub fn compile(alloc: Global, sound: &Sound, layout: &Layout) -> Result<Vec<Module>, AllocError>
     requires { IsLayout (map source_of sound.now.units.items) layout.now }
     ensures { IfOk result (λ ms. AreModules (map source_of sound.now.units.items) ms.items) }

@@ -15,6 +15,8 @@ ghost use Rattle.spl_modules.specs.Walks.{walk_of};
 ghost use Rattle.spl_modules.specs.UnitModules.{IsUnitModules};
 ghost use Rattle.spl_gen_routines.specs.Routines.{room_at};
 ghost use Rattle.spl_unit_laws.specs.Steps.{AreFree};
+ghost use Rattle.spl_unit_codes.specs.Slots.{AreComplete};
+ghost use Rattle.spl_unit_laws.specs.Begins.{UnitBegins};
 ghost use Rattle.spl_unit_laws.specs.Units as u;
 ghost use Rattle.spl_unit_laws.specs.Units.{MainGrows, MainStep, OnceInBodies, UnitAppended};
 
@@ -169,6 +171,7 @@ fn picked_parts(
     names: &[Name],
     modules: &mut Vec<Module>,
 ) -> Result<(), AllocError>
+    requires { AreComplete parts.items }
     ensures { OnOk result (PartsPicked (source_of unit.now) (map letters names.now) parts.items modules.old.items modules.new.items) }
 {
     let slots = finish(alloc, parts)?;
@@ -186,6 +189,8 @@ fn unit_made(
     modules: &mut Vec<Module>,
 ) -> Result<Start, AllocError>
     requires entries { IsUnitModules (source_of fixed.now.unit.now) (walk_of fixed.now.entries.now) }
+    requires whole { level_of fixed.now.whole.now ≡ u.whole_level (source_of fixed.now.unit.now) at.primary }
+    requires begins { UnitBegins fixed.now.rooms.now (source_of fixed.now.unit.now) at }
     requires once { OnceInBodies (source_of fixed.now.unit.now) }
     ensures { IfOk result (λ next. UnitMade (fixed_of fixed.now) (walk_of fixed.now.entries.now).entered.made (source_of fixed.now.unit.now) (map letters names.now) at next modules.old.items modules.new.items) }
 {
@@ -211,7 +216,8 @@ pub fn unit_modules(
     names: &[Name],
     modules: &mut Vec<Module>,
 ) -> Result<Start, AllocError>
-    requires { OnceInBodies (source_of unit.now) }
+    requires once { OnceInBodies (source_of unit.now) }
+    requires begins { UnitBegins rooms.now (source_of unit.now) at }
     ensures { IfOk result (λ next. UnitAppended rooms.now (map letters names.now) (source_of unit.now) at next modules.old.items modules.new.items) }
 {
     let entries = unit_entries(alloc, unit)?;

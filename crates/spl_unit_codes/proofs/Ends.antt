@@ -1,9 +1,10 @@
 -- What codes become, code by code.
-use Rattle.std.proofs.Common.{◌≡◌, ◌⊎◌, inl, inr, ℕ, suc, List, [], ◌∷◌, ◌++◌, length, Option, Some, sym, ap, subst, ◌∙◌}
+use Rattle.std.proofs.Common.{◌≡◌, ◌⊎◌, inl, inr, ℕ, suc, List, [], ◌∷◌, ◌++◌, length, Option, Some, refl, sym, ap, subst, ◌∙◌}
 use Rattle.std.specs.List.{slice_get}
 use Rattle.spl_branch.specs.declared.modules.Module.{Module}
 use Rattle.spl_unit_codes.specs.declared.growing.Growing.{Growing}
-use Rattle.spl_unit_codes.specs.Slots.{IsSlot, AreSlots}
+use Rattle.spl_branch.specs.Codes.{IsComplete}
+use Rattle.spl_unit_codes.specs.Slots.{AreComplete, IsSlot, AreSlots}
 use Rattle.spl_unit_codes.proofs.ListWalks.{pushed_cases, old_stays, last_there, one_longer}
 
 -- what one code more becomes
@@ -22,3 +23,13 @@ slots_more parts slots new x o k one push = subst (λ ss. AreSlots (parts ++ x �
       ap (λ i. slice_get (slots ++ o ∷ []) i) (h.0 ∙ sym k.number) ∙ last_there slots o,
       subst (λ (z : Growing). IsSlot z.code o) h.1 one,
     )
+
+-- the code that is next
+next_there : (before rest : List Growing) (x : Growing) → slice_get (before ++ x ∷ rest) (length before) ≡ Some x
+next_there [] rest x = refl
+next_there (y ∷ before) rest x = next_there before rest x
+
+pub complete_here : (parts before left rest : List Growing) (x : Growing) → AreComplete parts → before ++ left ≡ parts → left ≡ x ∷ rest → IsComplete x.code
+complete_here parts before left rest x all is next =
+    all (length before) x
+    (ap (λ xs. slice_get xs (length before)) (sym is ∙ ap (λ xs. before ++ xs) next) ∙ next_there before rest x)

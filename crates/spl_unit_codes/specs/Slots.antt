@@ -1,10 +1,15 @@
 -- The modules that the codes of a unit become, and their order.
-use Rattle.std.specs.Prelude.{◌≡◌, ℕ, ◌≤◌, ◌<◌, ◌||◌, Bool, true, false, nat_lt, List, [], ◌∷◌, ◌++◌, length, slice_set, Option, Some, None, is_some}
+use Rattle.std.specs.Prelude.{◌≡◌, ℕ, ◌+◌, ◌≤◌, ◌<◌, ◌||◌, Bool, true, false, nat_lt, List, [], ◌∷◌, ◌++◌, length, slice_set, Option, Some, None, is_some}
 use Rattle.std.specs.List.{slice_get}
 use Rattle.spl_branch.specs.declared.buffer.Code.{Code}
 use Rattle.spl_branch.specs.declared.modules.Module.{Module}
+use Rattle.spl_branch.specs.Codes.{IsComplete}
 use Rattle.spl_branch.specs.Modules.{Finished, Oversized}
 use Rattle.spl_unit_codes.specs.declared.growing.Growing.{Growing}
+
+-- each code may be finished
+abbrev pub AreComplete : List Growing → Type 0
+AreComplete parts = (g : ℕ) (x : Growing) → slice_get parts g ≡ Some x → IsComplete x.code
 
 -- a module is what a code becomes
 pub record IsFinish (c : Code) (m : Module) : Type 0 where

@@ -5,7 +5,8 @@ ghost use Rattle.spl_sound.specs.Spelled.{source_of};
 ghost use Rattle.spl_modules.specs.Made.{made_of};
 ghost use Rattle.spl_modules.specs.Walks.{walk_of};
 ghost use Rattle.spl_unit_codes.specs.Begun.{IsBegun, AreBegun};
-ghost use Rattle.spl_unit_codes.specs.Slots.{IsSlot, AreSlots};
+ghost use Rattle.spl_branch.specs.Codes.{IsComplete};
+ghost use Rattle.spl_unit_codes.specs.Slots.{AreComplete, IsSlot, AreSlots};
 
 use spl_branch::{Code, Entry, Module};
 use spl_modules::UnitEntries;
@@ -85,17 +86,14 @@ pub fn begin(
     Ok(parts)
 }
 
-/// The module that a code becomes, where its unit has a body in its segment. Want of memory is an error, and so is a call
-/// without its want or entry, which no code of a unit has.
+/// The module that a code becomes, where its unit has a body in its segment.
 fn finished(alloc: Global, part: Growing) -> Result<Option<Module>, AllocError>
+    requires { IsComplete part.code }
     ensures { IfOk result (λ o. IsSlot part.code o) }
 {
     let Growing { code, done: _done } = part;
     if code.entries.is_empty() && code.main.is_none() {
         return Ok(None);
-    }
-    if !code.is_complete() {
-        return Err(AllocError);
     }
     let module = code.finish(alloc)?;
     Ok(Some(module))
@@ -103,6 +101,7 @@ fn finished(alloc: Global, part: Growing) -> Result<Option<Module>, AllocError>
 
 /// The modules that the codes of a unit become, each by the number of its segment.
 pub fn finish(alloc: Global, parts: Vec<Growing>) -> Result<Vec<Option<Module>>, AllocError>
+    requires { AreComplete parts.items }
     ensures { IfOk result (λ slots. AreSlots parts.items slots.items) }
 {
     let mut slots = Vec::with_capacity(alloc, parts.len())?;

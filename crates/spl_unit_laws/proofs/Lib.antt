@@ -10,5 +10,6 @@ pub mod UnitWalks
 pub mod UnitEnds
 pub mod Picks
 pub mod UnitMade
+pub mod Completes
 pub mod OnceLaws
 pub mod Modules

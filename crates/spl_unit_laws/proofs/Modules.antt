@@ -1,7 +1,6 @@
 -- The units of a program, from the first on, come to its modules.
 use Rattle.std.proofs.Common.{◌≡◌, ℕ, List, [], ◌∷◌, drop, refl, sym, ap, subst, ◌∙◌}
 use Rattle.spl_meaning.specs.Tables.{Source}
-use Rattle.spl_meaning.specs.Bodies.{global_words}
 use Rattle.spl_meaning.specs.Limits.{joined}
 use Rattle.spl_meaning.specs.Sound.{IsSound}
 use Rattle.spl_places.proofs.SoundLaws.{sound_new}
@@ -9,24 +8,34 @@ use Rattle.spl_rooms.specs.declared.room_type.Room.{Room}
 use Rattle.spl_rooms.specs.Rooms.{rooms_in, rooms_of}
 use Rattle.spl_branch.specs.declared.modules.Module.{Module}
 use Rattle.spl_scopes.specs.Scopes.{placed_units, first_reached}
-use Rattle.spl_body_scopes.specs.Units.{UnitsLeft}
 use Rattle.spl_module_code.specs.Modules.{program_uses, AreModules, AreOf}
 use Rattle.spl_sound_labels.proofs.LabelLaws.{sound_labels}
 use Rattle.spl_sound_labels.proofs.InnerLaws.{sound_none}
 use Rattle.spl_unit_laws.specs.declared.cursors.Start.{Start}
 use Rattle.spl_unit_laws.specs.Units.{UnitsStand}
+use Rattle.spl_unit_laws.specs.Begins.{UnitsBegin}
 use Rattle.spl_unit_laws.specs.Laws.{first_start, UnitsAreMade, LabelsStandOnce}
 use Rattle.spl_unit_laws.proofs.UnitMade.{units_made}
 use Rattle.spl_unit_laws.proofs.OnceLaws.{units_once}
 
+-- the first unit of a program that breaks no rule
+abbrev pub units_first : (us : List Source) (rooms : List Room) → IsSound us → rooms ≡ rooms_of us → UnitsBegin rooms us (first_start us)
+units_first us rooms sound has =
+    let new = sound_new us sound in
+    record {
+      all = us;
+      before = 0;
+      left = record { at = first_reached us; globals_at = refl; owns_at = refl; units = refl; new_units = new.0; new_routines = new.1 };
+      own_arrays = refl;
+      inners = sound_none us sound;
+      rooms_are = has;
+    }
+
 pub modules_made : UnitsAreMade
 modules_made us rooms names start ms sound has used first stand =
-    let new = sound_new us sound in
-    let left : UnitsLeft us 0 0 (global_words us) us =
-    record { at = first_reached us; globals_at = refl; owns_at = refl; units = refl; new_units = new.0; new_routines = new.1 } in
     let here : UnitsStand rooms names us (first_start us) ms = subst (λ (s : Start). UnitsStand rooms names us s ms) first stand in
     subst (λ ns. AreOf ns (placed_units (first_reached us) us) ms) used
-    (units_made us 0 0 (global_words us) us (first_start us) names rooms ms left refl refl refl (sound_none us sound) has here)
+    (units_made us (first_start us) names rooms ms (units_first us rooms sound has) here)
 
 pub once : LabelsStandOnce
 once us sound = units_once us (sound_labels us sound)

@@ -2,4 +2,5 @@
 pub mod Known
 pub mod Steps
 pub mod Units
+pub mod Begins
 pub mod Laws

@@ -2,14 +2,19 @@
 use Rattle.std.proofs.Common.{map}
 use Rattle.spl_tree.specs.Views.{letters}
 use Rattle.spl_sound.specs.Spelled.{source_of}
-use Rattle.spl_gen_proc.proofs.UnitsWalks.{units_first, units_next, unit_once, units_done}
+use Rattle.spl_gen_proc.proofs.UnitsWalks.{units_first, units_next, unit_once, unit_begin, units_done}
 use Rattle.spl_gen_proc.proofs.compiling.all_modules.Goals as goal
 
 pub loop-unit-init : goal.loop-unit-init
-loop-unit-init c = units_first c.args.rooms.now (map letters c.args.names.now) c.args.units.now c.args.start c.new-modules.result.items c.new-modules.ensures.items c.requires
+loop-unit-init c = units_first c.args.rooms.now (map letters c.args.names.now) c.args.units.now c.args.start c.new-modules.result.items c.new-modules.ensures.items c.requires.once c.requires.begin
 
-pub unit_modules-requires : goal.unit_modules-requires
-unit_modules-requires c =
+pub unit_modules-requires-clause-begins : goal.unit_modules-requires-clause-begins
+unit_modules-requires-clause-begins c =
+    unit_begin c.args.rooms.now (map letters c.args.names.now) (map source_of c.args.units.now) c.args.units.now c.loop-unit.unit-index c.unit-item.result
+    c.args.start c.loop-unit.at c.loop-unit.modules.items c.loop-unit.invariant c.loop-unit-test.true c.unit-item.is
+
+pub unit_modules-requires-clause-once : goal.unit_modules-requires-clause-once
+unit_modules-requires-clause-once c =
     unit_once c.args.rooms.now (map letters c.args.names.now) (map source_of c.args.units.now) c.args.units.now c.loop-unit.unit-index c.unit-item.result
     c.args.start c.loop-unit.at c.loop-unit.modules.items c.loop-unit.invariant c.loop-unit-test.true c.unit-item.is
 

@@ -10,7 +10,8 @@ use Rattle.spl_globals.specs.Stored.{first_areas}
 use Rattle.spl_module_code.specs.Modules.{program_uses}
 use Rattle.spl_unit_laws.specs.Units.{OnceInBodies, UnitsStand}
 use Rattle.spl_unit_laws.proofs.Modules.{once}
-use Rattle.spl_gen_proc.proofs.Compiled.{compiled}
+use Rattle.spl_unit_laws.specs.Begins.{UnitsBegin}
+use Rattle.spl_gen_proc.proofs.Compiled.{compiled, units_begin}
 use Rattle.spl_gen_proc.proofs.compiling.compile.Goals as goal
 
 pub first_areas-requires : goal.first_areas-requires
@@ -18,8 +19,18 @@ first_areas-requires c =
     subst (λ (us : List SplUnit). NewInAll (map source_of us)) (sym c.deref.ensures.value)
     (sound_new (map source_of c.args.sound.now.units.items) c.args.sound.now.sound)
 
-pub all_modules-requires : goal.all_modules-requires
-all_modules-requires c =
+pub all_modules-requires-clause-begin : goal.all_modules-requires-clause-begin
+all_modules-requires-clause-begin c =
+    subst
+    (λ (us : List SplUnit). UnitsBegin c.deref-4.result.now (map source_of us)
+    (record { primary = c.in_ok-areas.areas.primary; own = c.in_ok-areas.areas.own; own_arrays = c.in_ok-areas.areas.own_arrays; room = 0 }))
+    (sym c.deref-3.ensures.value)
+    (units_begin (map source_of c.args.sound.now.units.items) c.deref-4.result.now c.in_ok-areas.areas c.args.sound.now.sound
+    (c.deref-4.ensures.value ∙ c.requires.bodies)
+    (c.in_ok-areas.ensures.areas ∙ ap (λ (us : List SplUnit). first_areas (map source_of us)) c.deref.ensures.value))
+
+pub all_modules-requires-clause-once : goal.all_modules-requires-clause-once
+all_modules-requires-clause-once c =
     subst (λ (us : List SplUnit). Each OnceInBodies (map source_of us)) (sym c.deref-3.ensures.value)
     (once (map source_of c.args.sound.now.units.items) c.args.sound.now.sound)
 

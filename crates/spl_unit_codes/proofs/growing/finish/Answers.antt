@@ -1,7 +1,7 @@
 -- Code by code.
 use Rattle.std.proofs.Common.{List, ◌++◌, ◌∷◌, [], sym, ap, append_assoc, ◌∙◌}
 use Rattle.spl_unit_codes.specs.declared.growing.Growing.{Growing}
-use Rattle.spl_unit_codes.proofs.Ends.{slots_more}
+use Rattle.spl_unit_codes.proofs.Ends.{slots_more, complete_here}
 use Rattle.spl_unit_codes.proofs.growing.finish.Goals as goal
 
 pub loop-part-preserved : goal.loop-part-preserved
@@ -14,3 +14,8 @@ loop-part-preserved c =
           append_assoc before (c.in-Some.part ∷ []) c.next.new.self.rest.items
           ∙ ap (λ (xs : List Growing). before ++ xs) (sym c.in-Some.ensures.steps.0) ∙ c.loop-part.invariant.all;
     }
+
+pub finished-requires : goal.finished-requires
+finished-requires c =
+    complete_here c.args.parts.items c.loop-part.yielded c.loop-part.part-iterator.rest.items c.next.new.self.rest.items c.in-Some.part c.requires
+    c.loop-part.invariant.all c.in-Some.ensures.steps.0
