@@ -1,0 +1,4 @@
+-- In reading order.
+pub mod Followed
+pub mod Laws
+pub mod Mains
