@@ -1,0 +1,5 @@
+pub mod MoveYields
+pub mod CallYields
+pub mod GateYields
+pub mod LoopYields
+pub mod BranchYields

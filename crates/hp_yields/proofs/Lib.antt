@@ -1,0 +1,4 @@
+pub mod YieldForms
+pub mod StackYields
+pub mod WordYields
+pub mod MemoryYields
