@@ -11,6 +11,8 @@ mod procedures;
 #[cfg(test)]
 mod runs;
 #[cfg(test)]
+mod sessions;
+#[cfg(test)]
 mod split;
 #[cfg(test)]
 mod statements;

@@ -1,4 +1,4 @@
-//! A job's only session, run by its program alone.
+//! The sessions of a job, each run alone by its program.
 ghost use Rattle.job_text.specs.Fits.{ProgramFits};
 ghost use Rattle.job_text.specs.Views.{text_value};
 
@@ -13,8 +13,11 @@ use std::alloc::Global;
 use std::process::Abort;
 use std::test::Fail;
 
-/// The text of a job, and what its only session prints and how it ends.
-pub(crate) type Row = (&'static [u8], &'static [u8], Ending);
+/// What a session prints, and how it ends.
+pub(crate) type End = (&'static [u8], Ending);
+
+/// The text of a job, and the ends of its sessions.
+pub(crate) type Row = (&'static [u8], &'static [End]);
 
 /// More steps than any of the sessions makes.
 const STEPS: u32 = 200_000;
@@ -29,19 +32,19 @@ fn program_of(alloc: Global, text: &Text) -> Result<Program, Fail>
     Ok(read(alloc, &file)?)
 }
 
-/// What the first session of a job printed, and how it ended.
-fn ended(alloc: Global, text: &[u8]) -> Result<(Vec<u8>, Ending), Fail> {
+/// What session `k` of a job, counted from 0, prints when it runs alone, and how it ends.
+fn ended(alloc: Global, text: &[u8], k: usize) -> Result<(Vec<u8>, Ending), Fail> {
     if text.len() > 1_048_576 {
         return Err(Fail::new("a job is too long"));
     }
     let job = read_job(alloc, text, false)?;
-    let Some(sources) = job.programs.first() else {
-        return Err(Fail::new("a job has no program"));
+    let Some(seat) = job.seats.get(k) else {
+        return Err(Fail::new("a session is wanting"));
+    };
+    let Some(sources) = job.programs.get(seat.program as usize) else {
+        return Err(Fail::new("a program is wanting"));
     };
     let program = program_of(alloc, sources)?;
-    let Some(seat) = job.seats.first() else {
-        return Err(Fail::new("a job has no session"));
-    };
     let mut session = Flat::open(
         alloc,
         &program,
@@ -61,12 +64,14 @@ fn ended(alloc: Global, text: &[u8]) -> Result<(Vec<u8>, Ending), Fail> {
     Ok((session.printed, session.ending))
 }
 
-/// Each job's session prints and ends so.
+/// Each job's sessions print and end so, each run alone.
 pub(crate) fn all_end_so(rt: &impl Abort, alloc: Global, rows: &[Row]) -> Result<(), Fail> {
-    for (text, printed, ending) in rows {
-        let (bytes, end) = ended(alloc, text)?;
-        assert_eq!(rt; end, *ending);
-        assert_eq!(rt; bytes.as_slice(), *printed);
+    for (text, ends) in rows {
+        for (k, (printed, ending)) in ends.iter().enumerate() {
+            let (bytes, end) = ended(alloc, text, k)?;
+            assert_eq!(rt; end, *ending);
+            assert_eq!(rt; bytes.as_slice(), *printed);
+        }
     }
     Ok(())
 }

@@ -1,15 +1,17 @@
--- A job keeps within its limits, so its first program does.
-use Rattle.std.proofs.Common.{List, false, sym, ap, ◌∙◌}
-use Rattle.std.specs.Prelude.{slice_get}
+-- A job keeps within its limits, so the program of each of its sessions does.
+use Rattle.std.proofs.Common.{List, ◌<◌, false, length, map, sym, subst, arith}
+use Rattle.std.proofs.lemmas.Bool.Decides.{nat_tests}
 use Rattle.job_text.specs.declared.job.Text.{Text}
-use Rattle.job_text.specs.Fits.{ProgramFits}
+use Rattle.job_text.specs.Fits.{Each, ProgramFits}
 use Rattle.job_text.specs.Views.{text_value}
 use Rattle.hp3000_top.proofs.AnswerLemmas.{fits_so}
-use Rattle.hp3000_top.proofs.Loops.{each_slice}
+use Rattle.hp3000_top.proofs.Loops.{each_at}
 use Rattle.spl_run_tests.proofs.runs.ended.Goals as goal
 
 pub program_of-requires : goal.program_of-requires
 program_of-requires c =
     let fits = fits_so c.args.text.now false c.in_ok-job.job c.if-text-gt1048576.false c.in_ok-job.ensures.ok in
-    each_slice (ProgramFits 1048576) text_value c.in_ok-job.job.programs.items 0 c.in-Some.sources.now fits.each_program
-    (ap (λ (ts : List Text). slice_get ts 0) (sym c.deref.ensures.value) ∙ sym c.in-Some.ensures.value)
+    let found = c.in-Some-get.ensures.lookup in
+    let there : c.in-Some.seat.now.program < length c.deref-2.result.now = let t = found.0 in grind (arith, nat_tests, t) in
+    each_at (ProgramFits 1048576) text_value c.deref-2.result.now c.in-Some.seat.now.program c.in-Some-get.sources.now
+    (subst (λ (ts : List Text). Each (ProgramFits 1048576) (map text_value ts)) (sym c.deref-2.ensures.value) fits.each_program) there found.1
