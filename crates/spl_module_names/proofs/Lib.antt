@@ -1,0 +1,3 @@
+pub mod OutlineLaws
+pub mod Through
+pub mod FaultLaws

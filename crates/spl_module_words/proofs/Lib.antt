@@ -1,0 +1,4 @@
+pub mod Sizes
+pub mod Bodies
+pub mod Declared
+pub mod Segments
