@@ -15,13 +15,20 @@ use Rattle.mpe_turns.specs.declared.fault.OpenFault.{OpenFault}
 use Rattle.mpe_turns.specs.declared.fault.OpenFault.TheVariants.{MemoryTooSmall}
 use Rattle.mpe_turns.specs.Opening.{refusal}
 use Rattle.spl_meaning.specs.Tables.{Source}
+use Rattle.mpe_segmenter.specs.declared.faults.PrepFault.{PrepFault}
+use Rattle.spl_build.specs.Built.{IsBuilt, IsUnlinked}
+use Rattle.spl_module_names.specs.Faults.{tells_words}
+use Rattle.spl_module_names.proofs.FaultLaws.{one_told, none_built}
+use Rattle.spl_linkable.specs.Linkable as l
+use Rattle.spl_linkable.proofs.LinkLaws.{none_told}
+use Rattle.spl_program.proofs.ListLemmas.{all_spelled}
 use Rattle.spl_program.proofs.ProgramLaws.{programs_unique, faults_are_one, program_has_none}
 use Rattle.thin_jobs.specs.ThinUnits as u
 use Rattle.thin_jobs.specs.ThinShapes.{thin_in}
 use Rattle.thin_compiler.specs.ProgramViews.{IsMadeOf}
 use Rattle.spl_program.specs.declared.faults.ProgramFault.{ProgramFault}
 use Rattle.spl_program.specs.Programs.{IsFault}
-use Rattle.hp3000_top.specs.Programs.{IsThin, IsWithin, IsBeyond, IsMade, IsRefused, faulty, unlinked, fault_line, AreMade, FirstRefused, AreWithin, FirstFaulty}
+use Rattle.hp3000_top.specs.Programs.{IsThin, IsWithin, IsBeyond, IsMade, IsRefused, faulty, unlinked, fault_line, link_line, AreMade, FirstRefused, AreWithin, IsSure, AreSure, FirstFaulty}
 use Rattle.hp3000_top.specs.Programs as p
 use Rattle.hp3000_top.specs.declared.verbs.Verb.{Verb}
 use Rattle.hp3000_top.specs.declared.verbs.Verb.TheVariants as verb
@@ -90,15 +97,48 @@ within_not_first p.AreWithin.none w = elim w [ ]
 within_not_first (p.AreWithin.more {t = t} unit k ks) (p.FirstRefused.here {line = line} w) = within_not_refused t unit line k w
 within_not_first (p.AreWithin.more unit k ks) (p.FirstRefused.behind q w ws) = within_not_first ks ws
 
+-- texts are of one list of units
+same_units : (texts : List (List ℕ)) (us vs : List Source) → IsBeyond texts us → IsBeyond texts vs → us ≡ vs
+same_units texts us vs k h = programs_unique texts us vs k.program h.program
+
+within_rules : (texts : List (List ℕ)) (us : List Source) → IsBeyond texts us → l.AreWithin us
+within_rules texts us k = record { sound = k.program.sound; spelled = all_spelled k.program.spell.cut k.program.spell.units; limits = k.program.within }
+
+sure_not_refused : (t : TextValue) (line : List ℕ) → IsSure t → IsRefused t line → ⊥
+sure_not_refused t line (p.IsSure.is_thin unit k) w = within_not_refused t unit line k w
+sure_not_refused t line (p.IsSure.is_linkable us k h) (faulty {f = f} w) = program_has_none t.units us f k.program w
+sure_not_refused t line (p.IsSure.is_linkable us k h) (unlinked {f = f} vs w x) =
+    none_told us f (within_rules t.units us k) h (subst (λ (ys : List Source). IsUnlinked ys f) (same_units t.units vs us w k) x)
+
+sure_not_first : {ts : List TextValue} {line : List ℕ} → AreSure ts → FirstRefused ts line → ⊥
+sure_not_first p.AreSure.none w = elim w [ ]
+sure_not_first (p.AreSure.more {t = t} k ks) (p.FirstRefused.here {line = line} w) = sure_not_refused t line k w
+sure_not_first (p.AreSure.more k ks) (p.FirstRefused.behind q w ws) = sure_not_first ks ws
+
+-- a fault of modules that counts no words is that of all modules of the units
+unlinkable_not_made : (t : TextValue) (us : List Source) (f : PrepFault) (q : Program) → IsBeyond t.units us → IsUnlinked us f → tells_words f ≡ false → IsMade t.units q → ⊥
+unlinkable_not_made t us f q k x e (p.IsMade.thin unit w m) = within_not_beyond t.units unit us w k
+unlinkable_not_made t us f q k x e (p.IsMade.built vs w b) =
+    none_built us f q e x (subst (λ (ys : List Source). IsBuilt ys q) (same_units t.units vs us w k) b)
+
+unlinkable_same : (t : TextValue) (us : List Source) (f : PrepFault) (line : List ℕ) → IsBeyond t.units us → IsUnlinked us f → tells_words f ≡ false → IsRefused t line
+    → link_line t.name f ≡ line
+unlinkable_same t us f line k x e (faulty {f = g} w) = absurd (program_has_none t.units us g k.program w)
+unlinkable_same t us f line k x e (unlinked {f = g} vs w y) =
+    ap (link_line t.name) (sym (one_told us f g e x (subst (λ (ys : List Source). IsUnlinked ys g) (same_units t.units vs us w k) y)))
+
 first_not_made : {ts : List TextValue} {xs : List Program} {line : List ℕ} → FirstFaulty ts line → AreMade ts xs → ⊥
 first_not_made (p.FirstFaulty.here {t = t} {f = f} v) (p.AreMade.more {p = q} w ws) = fault_not_made t f q v w
-first_not_made (p.FirstFaulty.behind unit k ks) (p.AreMade.more w ws) = first_not_made ks ws
+first_not_made (p.FirstFaulty.unlinkable {t = t} {f = f} us k x e) (p.AreMade.more {p = q} w ws) = unlinkable_not_made t us f q k x e w
+first_not_made (p.FirstFaulty.behind k ks) (p.AreMade.more w ws) = first_not_made ks ws
 
 first_same : {ts : List TextValue} {a b : List ℕ} → FirstFaulty ts a → FirstRefused ts b → a ≡ b
 first_same (p.FirstFaulty.here {t = t} {f = f} v) (p.FirstRefused.here {line = b} w) = fault_same t f b v w
 first_same (p.FirstFaulty.here {t = t} {f = f} v) (p.FirstRefused.behind q w ws) = absurd (fault_not_made t f q v w)
-first_same (p.FirstFaulty.behind {t = t} unit k ks) (p.FirstRefused.here {line = b} w) = absurd (within_not_refused t unit b k w)
-first_same (p.FirstFaulty.behind unit k ks) (p.FirstRefused.behind q w ws) = first_same ks ws
+first_same (p.FirstFaulty.unlinkable {t = t} {f = f} us k x e) (p.FirstRefused.here {line = b} w) = unlinkable_same t us f b k x e w
+first_same (p.FirstFaulty.unlinkable {t = t} {f = f} us k x e) (p.FirstRefused.behind q w ws) = absurd (unlinkable_not_made t us f q k x e w)
+first_same (p.FirstFaulty.behind {t = t} k ks) (p.FirstRefused.here {line = b} w) = absurd (sure_not_refused t b k w)
+first_same (p.FirstFaulty.behind k ks) (p.FirstRefused.behind q w ws) = first_same ks ws
 
 -- ---- jobs
 
@@ -193,10 +233,10 @@ prepared_not_sure bytes line job p v (c.SurelyUnprepared.broken {l = l} {r = r} 
 prepared_not_sure bytes line job p v (c.SurelyUnprepared.unmade other w ws) =
     first_not_made (subst (λ (j : JobValue). FirstFaulty j.programs line) (jobs_are_unique bytes true other job w v.is) ws) v.is_made
 
-thin_not_unprepared : (bytes line : List ℕ) (job : JobValue) (p : Program) → IsPrepared bytes job p → AreWithin job.programs → Unprepared bytes line → ⊥
-thin_not_unprepared bytes line job p v k (c.Unprepared.broken {l = l} {r = r} w) = jobs_break_nothing bytes true job l r v.is w
-thin_not_unprepared bytes line job p v k (c.Unprepared.unmade other w ws) =
-    within_not_first k (subst (λ (j : JobValue). FirstRefused j.programs line) (jobs_are_unique bytes true other job w v.is) ws)
+sure_not_unprepared : (bytes line : List ℕ) (job : JobValue) (p : Program) → IsPrepared bytes job p → AreSure job.programs → Unprepared bytes line → ⊥
+sure_not_unprepared bytes line job p v k (c.Unprepared.broken {l = l} {r = r} w) = jobs_break_nothing bytes true job l r v.is w
+sure_not_unprepared bytes line job p v k (c.Unprepared.unmade other w ws) =
+    sure_not_first k (subst (λ (j : JobValue). FirstRefused j.programs line) (jobs_are_unique bytes true other job w v.is) ws)
 
 -- ---- a program file
 
@@ -236,6 +276,6 @@ sure_same (verb.Gen n) bytes a b k l = sure_cause_same bytes a b k l
 -- and none refuses those of which something is surely made
 pub done_no_cause : (v : Verb) (bytes line : List ℕ) → IsSurelyDoneOf v bytes → CauseOf v bytes line → ⊥
 done_no_cause verb.Run bytes line b k = thin_no_cause bytes line b.0 b.1 b.2 b.3 b.4 k
-done_no_cause verb.Prep bytes line b k = thin_not_unprepared bytes line b.0 b.1 b.2 b.3 k
+done_no_cause verb.Prep bytes line b k = sure_not_unprepared bytes line b.0 b.1 b.2 b.3 k
 done_no_cause verb.List bytes line b k = listed_no_cause bytes line b.0 b.1 k
 done_no_cause (verb.Gen n) bytes line b k = thin_no_cause bytes line b.0 b.1 b.2 b.3 b.4 k

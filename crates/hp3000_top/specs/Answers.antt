@@ -23,7 +23,7 @@ use Rattle.hp3000_top.specs.declared.ran.Ran.{Ran}
 use Rattle.hp3000_top.specs.declared.ran.Ran.TheVariants.{Plain}
 use Rattle.hp3000_top.specs.declared.verbs.Verb.{Verb}
 use Rattle.hp3000_top.specs.declared.verbs.Verb.TheVariants as verb
-use Rattle.hp3000_top.specs.Programs.{IsWithin, AreWithin}
+use Rattle.hp3000_top.specs.Programs.{IsWithin, AreWithin, AreSure}
 use Rattle.hp3000_top.specs.Causes.{IsJob, account_of, Runs, IsPrepared, CauseOf, SureCauseOf, ComesTo}
 
 -- nothing is asked for that takes an input
@@ -152,10 +152,10 @@ Certain (verb.Gen n) left P = P (generated n)
 Certain _ None P = ⊥
 Certain _ (Some bytes) P = (length bytes ≤ 1048576) × P bytes
 
--- the bytes are a job of thin programs within their bounds whose sessions open; or one whose only program is such; or a program's file
+-- the bytes are a job of thin programs within their bounds whose sessions open; or one whose only program no line refuses; or a program's file
 abbrev pub IsSurelyDoneOf : Verb → List ℕ → Type 0
 IsSurelyDoneOf verb.Run bytes = (job : JobValue) × (made : List Program) × (w : World) × Runs bytes job made w × AreWithin job.programs
-IsSurelyDoneOf verb.Prep bytes = (job : JobValue) × (p : Program) × IsPrepared bytes job p × AreWithin job.programs
+IsSurelyDoneOf verb.Prep bytes = (job : JobValue) × (p : Program) × IsPrepared bytes job p × AreSure job.programs
 IsSurelyDoneOf verb.List bytes = (p : Program) × IsFile p bytes
 IsSurelyDoneOf (verb.Gen n) bytes = (job : JobValue) × (made : List Program) × (w : World) × Runs bytes job made w × AreWithin job.programs
 

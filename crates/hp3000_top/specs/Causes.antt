@@ -113,8 +113,8 @@ pub data ComesTo (bytes : List ℕ) : Verb → List ℕ → Type 0 where
 
 -- ---- what is certain
 
--- As a job to be run the bytes can be refused by no other line than this: a line of the job breaks a rule; the first program that is no thin
--- one within its bounds has a fault; or all programs are such, and the sessions don't open.
+-- As a job to be run the bytes can be refused by no other line than this: a line of the job breaks a rule; a program has a fault that is certain,
+-- behind such as no line refuses; or all programs are thin ones within their bounds, and the sessions don't open.
 pub data SureCause (bytes : List ℕ) : List ℕ → Type 0 where
   lines : {l r : ℕ} → JobBreaks bytes false l r → SureCause bytes (job_refused l r)
   program : {line : List ℕ} (job : JobValue) → JobIs bytes false job → FirstFaulty job.programs line → SureCause bytes line

@@ -13,6 +13,8 @@ use Rattle.spl_program.specs.Programs.{IsProgram, IsFault}
 use Rattle.mpe_segmenter.specs.declared.faults.PrepFault.{PrepFault}
 use Rattle.mpe_segmenter.specs.declared.faults.PrepFault.TheVariants as link
 use Rattle.spl_build.specs.Built.{IsBuilt, IsUnlinked}
+use Rattle.spl_module_names.specs.Faults.{tells_words}
+use Rattle.spl_linkable.specs.Linkable.{IsLinkable}
 use Rattle.thin_jobs.specs.ThinUnits as u
 use Rattle.thin_jobs.specs.ThinShapes.{thin_in}
 use Rattle.thin_compiler.specs.ThinCode.{is_in_bounds}
@@ -81,14 +83,27 @@ pub data FirstRefused : List TextValue → List ℕ → Type 0 where
   here : {t : TextValue} {ts : List TextValue} {line : List ℕ} → IsRefused t line → FirstRefused (t ∷ ts) line
   behind : {t : TextValue} {ts : List TextValue} {line : List ℕ} (p : Program) → IsMade t.units p → FirstRefused ts line → FirstRefused (t ∷ ts) line
 
--- ---- what is certain: of thin units within their bounds one program can be made, and a fault of texts is one
+-- ---- what is certain: of thin units within their bounds one program can be made, of linkable units some program, and a fault of texts is one
 
 -- each of these texts is that of a thin unit within its bounds
 pub data AreWithin : List TextValue → Type 0 where
   none : AreWithin []
   more : {t : TextValue} {ts : List TextValue} (unit : u.Unit) → IsWithin t.units unit → AreWithin ts → AreWithin (t ∷ ts)
 
--- the first of them that is no such text has a fault, which this line tells
+-- No line refuses a program: it is a thin unit within its bounds, or other units of which a program can be made whichever form each branch takes.
+pub data IsSure (t : TextValue) : Type 0 where
+  is_thin : (unit : u.Unit) → IsWithin t.units unit → IsSure t
+  is_linkable : (us : List Source) → IsBeyond t.units us → IsLinkable us → IsSure t
+
+-- no line refuses any of them
+pub data AreSure : List TextValue → Type 0 where
+  none : AreSure []
+  more : {t : TextValue} {ts : List TextValue} → IsSure t → AreSure ts → AreSure (t ∷ ts)
+
+-- The first of them of which that is not said has a fault, which this line tells: of its texts; or of the modules of its units, whichever form
+-- each branch takes, so no fault that counts words.
 pub data FirstFaulty : List TextValue → List ℕ → Type 0 where
   here : {t : TextValue} {ts : List TextValue} {f : ProgramFault} → IsFault t.units f → FirstFaulty (t ∷ ts) (fault_line t.name f)
-  behind : {t : TextValue} {ts : List TextValue} {line : List ℕ} (unit : u.Unit) → IsWithin t.units unit → FirstFaulty ts line → FirstFaulty (t ∷ ts) line
+  unlinkable : {t : TextValue} {ts : List TextValue} {f : PrepFault} (us : List Source) → IsBeyond t.units us → IsUnlinked us f → tells_words f ≡ false
+      → FirstFaulty (t ∷ ts) (link_line t.name f)
+  behind : {t : TextValue} {ts : List TextValue} {line : List ℕ} → IsSure t → FirstFaulty ts line → FirstFaulty (t ∷ ts) line
