@@ -1,0 +1,4 @@
+-- In reading order.
+pub mod Beginnings
+pub mod Grounds
+pub mod Laws

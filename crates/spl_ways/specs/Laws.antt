@@ -1,0 +1,33 @@
+-- The laws of this crate.
+use Rattle.std.specs.Prelude.{◌≡◌, ◌+◌, ℕ, Bool, true, false, List, length, Some, slice_get}
+use Rattle.std.specs.List.{list_all}
+use Rattle.spl_branch.specs.declared.pieces.Piece.{Piece}
+use Rattle.spl_branch.specs.declared.modules.Define.{Define}
+use Rattle.spl_branch.specs.declared.modules.Module.{Module}
+use Rattle.spl_branch.specs.Pieces.{is_indexed}
+use Rattle.spl_branch.specs.Modules.{sites}
+use Rattle.mpe_segmenter.specs.Names.{Part}
+use Rattle.mpe_segmenter.specs.Counts.{sizes}
+use Rattle.mpe_segmenter.specs.Programs.{program_words}
+use Rattle.mpe_segmenter.specs.Whole.{IsWhole}
+use Rattle.mpe_segmenter.specs.Sites.{IsModule, module_entries}
+use Rattle.hp_leads.specs.Words.{entry_way, subroutine_way}
+use Rattle.spl_follow.specs.Doing.{body}
+use Rattle.spl_sites.specs.Beginnings.{is_of_kind}
+use Rattle.spl_sites.specs.Grounds.{AllCallsLead}
+use Rattle.spl_ways.specs.Ways.{word_of, module_sites}
+
+-- In the words of whole segments, the entry of a module's define leads to its first word, both a procedure's call and a subroutine's.
+abbrev pub DefineEntriesLead : Type 0
+DefineEntriesLead = (ps : List Part) → IsWhole ps → (seg : ℕ) (front : List Module) (m : Module) (back : List Module) → IsModule ps seg front m back
+    → (index : ℕ) (d : Define) → slice_get m.defines.items index ≡ Some d
+    → (entry_way (program_words ps) seg (module_entries front m back false index) ≡ Some (body (word_of seg (sizes front + d.offset))))
+    × (subroutine_way (program_words ps) seg (module_entries front m back false index) ≡ Some (body (word_of seg (sizes front + d.offset))))
+
+-- So each call in pieces leads where the module's sites say, where it has its want or its define.
+abbrev pub CallsLead : Type 0
+CallsLead = (ps : List Part) → IsWhole ps → (seg : ℕ) (front : List Module) (m : Module) (back : List Module) → IsModule ps seg front m back
+    → (marks : ℕ → ℕ) (xs : List Piece) → list_all is_of_kind xs ≡ true
+    → list_all (is_indexed (length m.wants.items) (length m.defines.items)) xs ≡ true
+    → AllCallsLead (program_words ps) seg (sites (sizes front) marks (module_entries front m back))
+    (module_sites (program_words ps) seg (sizes front) marks (module_entries front m back)) xs
