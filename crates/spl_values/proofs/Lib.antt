@@ -1,0 +1,6 @@
+-- In reading order.
+pub mod GiveLemmas
+pub mod ConstantLemmas
+pub mod VariableLemmas
+pub mod SumLemmas
+pub mod CoverLemmas

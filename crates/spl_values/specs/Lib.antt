@@ -1,0 +1,4 @@
+-- In reading order.
+pub mod Reached
+pub mod Covered
+pub mod Laws

@@ -1,0 +1,6 @@
+//! Values: constants, simple variables and sums, given by their code wherever it stands.
+#![tactic(auto)]
+
+mod laws;
+
+pub use laws::{constants_simulate, covered_values_simulate, sums_simulate, variables_simulate};
