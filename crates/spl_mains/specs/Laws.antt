@@ -1,0 +1,25 @@
+-- The law of this crate.
+use Rattle.std.specs.Prelude.{◌≡◌, ℕ, ◌+◌, ◌≤◌, true, List}
+use Rattle.spl_meaning.specs.Bodies.{Body}
+use Rattle.spl_meaning.specs.Laws.{IsFront}
+use Rattle.spl_meaning.specs.Pending.{statements_most}
+use Rattle.spl_meaning.specs.States.{back}
+use Rattle.spl_meaning.specs.Tables.{Source}
+use Rattle.spl_code.specs.Parts.{Wanted}
+use Rattle.spl_statement_code.specs.Landings.{Context}
+use Rattle.spl_statement_code.specs.Statements.{listed}
+use Rattle.spl_follow.specs.Spots.{Spot, pos, on}
+use Rattle.spl_follow.specs.Standing.{Stands}
+use Rattle.spl_follow.specs.Simulating.{Surroundings}
+use Rattle.spl_followed.specs.Mains.{main_setting, MainStatementsFollow}
+use Rattle.spl_values.specs.Laws.{read_with}
+use Rattle.spl_stores.specs.Covered.{are_covered}
+
+-- Where the code of a main body's statements stands from `first` to `leave`, all are covered, the code was made with the body's names and places,
+-- and the body's room is above all that waits in it, they are followed; RETURN leads to `leave`.
+abbrev pub CoveredMainBodiesFollow : Type 0
+CoveredMainBodiesFollow = (us : List Source) (b : Body) (c : Context) (z : Surroundings) (first leave : Spot) (l : ℕ) (ws : List Wanted)
+    → z.setting ≡ main_setting → z.exits.target back ≡ leave → b.here ≡ read_with c.scope b.here.results main_setting
+    → statements_most c.scope.names b.statements + 1 ≤ b.depth' → are_covered c.scope main_setting b.statements 0 ≡ true
+    → Stands z.ground z.sites (on first) (listed c b.statements 0 l ws).pieces leave → IsFront (listed c b.statements 0 l ws).wants z.wants
+    → pos leave ≤ z.rate.step → MainStatementsFollow z.ground z.rate us b first leave

@@ -1,0 +1,358 @@
+-- Statements that are covered, along the tree: their code is whole, and performs them.
+use Rattle.std.proofs.Common.{◌≡◌, ℕ, zero, suc, ◌+◌, ◌≤◌, Bool, true, false, List, [], ◌∷◌, refl, sym, ap, subst, ◌∙◌, arith}
+use Rattle.std.specs.Prelude.{Option, Some, None, ◌&&◌, if◌then◌else◌}
+use Rattle.std.proofs.lemmas.Bool.{false≢true}
+use Rattle.std.proofs.lemmas.List.{append-nil}
+use Rattle.hp_instr.specs.declared.instruction.Instr.TheVariants as i
+use Rattle.spl_branch.specs.declared.pieces.Piece.{Piece}
+use Rattle.spl_branch.specs.declared.pieces.Piece.TheVariants.{Do, Begin}
+use Rattle.spl_tree.specs.declared.expressions.Kind.{Kind}
+use Rattle.spl_tree.specs.declared.expressions.Kind.TheVariants as kind
+use Rattle.spl_tree.specs.declared.names_and_places.At.{At}
+use Rattle.spl_tree.specs.Trees as tree
+use Rattle.spl_tree.specs.Trees.{Tree}
+use Rattle.spl_tree.specs.StatementTrees as stat
+use Rattle.spl_tree.specs.StatementTrees.{Statement, Statements, Target}
+use Rattle.spl_meaning.specs.Names as n
+use Rattle.spl_meaning.specs.Names.{Sort}
+use Rattle.spl_meaning.specs.Operations.{kept}
+use Rattle.spl_meaning.specs.Laws.{IsFront}
+use Rattle.spl_meaning.specs.Pending.{most}
+use Rattle.spl_meaning.specs.Places.{Place, data_word, above_base, below_base, below_return}
+use Rattle.spl_meaning.specs.References.{Here, Setting, Access, its_own, address_of, variable_located, target_access, own_located, locate_by, locate_target, store}
+use Rattle.spl_meaning.specs.States.{State, Outcome, done, leaves, spent, ends, strays, then_go, step_of, without_code, noted, stopping}
+use Rattle.spl_meaning.specs.Statements.{bears, bears_among, assign, is_intrinsic, is_intrinsic_alone, target_keeps_code, assigned, alone_value, run, run_all, run_from}
+use Rattle.spl_meaning.specs.Stops.{stops}
+use Rattle.spl_meaning.specs.Values.{Callee, value}
+use Rattle.spl_code.specs.Parts.{Part, Wanted, pieces, piece, nothing, ◌⨟◌}
+use Rattle.spl_code.specs.Operands.{at_place}
+use Rattle.spl_code.specs.Calls.{Scope}
+use Rattle.spl_code.specs.Code.{as_value, code}
+use Rattle.spl_code.specs.Stores.{stored}
+use Rattle.spl_statement_code.specs.Assignments.{assigned_access}
+use Rattle.spl_statement_code.specs.Landings.{Context}
+use Rattle.spl_statement_code.specs.Statements.{statement, listed}
+use Rattle.spl_follow.specs.Spots.{on}
+use Rattle.spl_follow.specs.Standing.{Stands, IsClosed, due_after}
+use Rattle.spl_follow.specs.Parts.{Runs}
+use Rattle.spl_follow.specs.Simulating.{Surroundings, Simulates, Performs}
+use Rattle.spl_follow.proofs.StandLemmas.{closed_any, closed_last, due_add}
+use Rattle.spl_control.proofs.SequenceLemmas.{idle_performs, nothing_performs, lists_perform}
+use Rattle.spl_values.specs.Reached.{is_word_kind, is_reached, IsWhole}
+use Rattle.spl_values.specs.Covered.{is_covered_name, is_covered}
+use Rattle.spl_values.specs.Laws.{read_with}
+use Rattle.spl_values.proofs.VariableLemmas.{both}
+use Rattle.spl_values.proofs.SumLemmas.{front_on}
+use Rattle.spl_values.proofs.CoverLemmas.{whole_pieces, covered_width, covered_whole, covered_gives}
+use Rattle.spl_stores.specs.Covered.{is_stored_name, is_covered_statement, are_covered}
+use Rattle.spl_stores.specs.Laws.{CoveredStatementsAreWhole, CoveredStatementsPerform, CoveredListsPerform}
+use Rattle.spl_stores.proofs.StoreLemmas.{assignments}
+use Rattle.spl_stores.proofs.BlockLemmas.{blocks}
+
+-- ---- targets
+
+-- what a covered target is: a variable of one word where it is reached
+record IsTarget (st : Setting) (k : ℕ) (o : Option Sort) (pl : Option Place) : Type 0 where
+  type : Kind
+  place : Place
+  access : target_access o ≡ its_own type
+  made : assigned_access o ≡ its_own type
+  is : pl ≡ Some place
+  word : is_word_kind type ≡ true
+  reached : is_reached st k place ≡ true
+
+-- by what it stands for
+target_case : (st : Setting) (k : ℕ) (o : Option Sort) (pl : Option Place) → is_stored_name st k o pl ≡ true → IsTarget st k o pl
+target_case st k (Some (n.simple t own)) (Some place) e =
+    let two = both (is_word_kind t) (is_reached st k place) e in
+    record { type = t; place = place; access = refl; made = refl; is = refl; word = two.0; reached = two.1 }
+target_case st k (Some (n.value t)) (Some place) e =
+    let two = both (is_word_kind t) (is_reached st k place) e in
+    record { type = t; place = place; access = refl; made = refl; is = refl; word = two.0; reached = two.1 }
+target_case st k (Some (n.simple t own)) None e = absurd (false≢true (both (is_word_kind t) false e).1)
+target_case st k (Some (n.value t)) None e = absurd (false≢true (both (is_word_kind t) false e).1)
+target_case st k None pl e = absurd (false≢true e)
+target_case st k (Some (n.equate v)) pl e = absurd (false≢true e)
+target_case st k (Some (n.array t own low high)) pl e = absurd (false≢true e)
+target_case st k (Some (n.view t own base)) pl e = absurd (false≢true e)
+target_case st k (Some (n.pointer t own)) pl e = absurd (false≢true e)
+target_case st k (Some (n.by_reference t)) pl e = absurd (false≢true e)
+target_case st k (Some (n.array_parameter t)) pl e = absurd (false≢true e)
+target_case st k (Some n.label) pl e = absurd (false≢true e)
+target_case st k (Some (n.intrinsic i)) pl e = absurd (false≢true e)
+target_case st k (Some (n.procedure p)) pl e = absurd (false≢true e)
+target_case st k (Some (n.subroutine p)) pl e = absurd (false≢true e)
+target_case st k (Some n.unknown) pl e = absurd (false≢true e)
+
+-- the store behind the value
+stored_code : (c : Scope) (st : Setting) (x : List ℕ) (k : ℕ) (r : IsTarget st k (c.names x) (c.places x))
+    → at_place (c.places x) (λ place. stored (assigned_access (c.names x)) false k place) ≡ stored (its_own r.type) false k r.place
+stored_code c st x k r =
+    ap (λ (a : Access). at_place (c.places x) (λ place. stored a false k place)) r.made
+    ∙ ap (λ (o : Option Place). at_place o (λ place. stored (its_own r.type) false k place)) r.is
+
+-- a store closes
+stored_closed : (st : Setting) (t : Kind) (k : ℕ) (place : Place) → is_word_kind t ≡ true → is_reached st k place ≡ true
+    → IsClosed (stored (its_own t) false k place)
+stored_closed st kind.Integer k (data_word n) e r = refl
+stored_closed st kind.Integer k (above_base n) e r = refl
+stored_closed st kind.Integer k (below_base n) e r = refl
+stored_closed st kind.Logical k (data_word n) e r = refl
+stored_closed st kind.Logical k (above_base n) e r = refl
+stored_closed st kind.Logical k (below_base n) e r = refl
+stored_closed st t k (below_return n) e r = absurd (false≢true r)
+stored_closed st kind.Byte k place e r = absurd (false≢true e)
+stored_closed st kind.Double k place e r = absurd (false≢true e)
+
+-- ---- values
+
+-- a covered name is no intrinsic
+name_no_intrinsic : (st : Setting) (k : ℕ) (o : Option Sort) (pl : Option Place) → is_covered_name st k o pl ≡ true → is_intrinsic o ≡ false
+name_no_intrinsic st k (Some (n.intrinsic i)) pl e = absurd (false≢true e)
+name_no_intrinsic st k None pl e = refl
+name_no_intrinsic st k (Some (n.simple t own)) pl e = refl
+name_no_intrinsic st k (Some (n.value t)) pl e = refl
+name_no_intrinsic st k (Some (n.equate v)) pl e = refl
+name_no_intrinsic st k (Some (n.array t own low high)) pl e = refl
+name_no_intrinsic st k (Some (n.view t own base)) pl e = refl
+name_no_intrinsic st k (Some (n.pointer t own)) pl e = refl
+name_no_intrinsic st k (Some (n.by_reference t)) pl e = refl
+name_no_intrinsic st k (Some (n.array_parameter t)) pl e = refl
+name_no_intrinsic st k (Some n.label) pl e = refl
+name_no_intrinsic st k (Some (n.procedure p)) pl e = refl
+name_no_intrinsic st k (Some (n.subroutine p)) pl e = refl
+name_no_intrinsic st k (Some n.unknown) pl e = refl
+
+-- so no covered expression is the call of one
+no_intrinsic : (c : Scope) (st : Setting) (e : Tree) (k : ℕ) → is_covered c st e k ≡ true → is_intrinsic_alone c.names e ≡ false
+no_intrinsic c st (tree.Tree.named x tree.Trees.none at) k e = name_no_intrinsic st k (c.names x) (c.places x) e
+no_intrinsic c st (tree.Tree.named x (tree.Trees.and i is) at) k e = absurd (false≢true e)
+no_intrinsic c st (tree.Tree.number v) k e = refl
+no_intrinsic c st (tree.Tree.truth b) k e = refl
+no_intrinsic c st (tree.Tree.binary o a b at) k e = refl
+no_intrinsic c st (tree.Tree.wide v) k e = refl
+no_intrinsic c st (tree.Tree.text bytes) k e = refl
+no_intrinsic c st (tree.Tree.address x es at) k e = refl
+no_intrinsic c st (tree.Tree.unary o a at) k e = refl
+no_intrinsic c st (tree.Tree.shift o a by at) k e = refl
+no_intrinsic c st (tree.Tree.field a start size at) k e = refl
+no_intrinsic c st (tree.Tree.transfer to a at) k e = refl
+no_intrinsic c st (tree.Tree.bytes o a b count at) k e = refl
+
+-- ---- meanings that are the same
+
+-- what comes behind an outcome
+then_same : {A B : Type 0} (o : Outcome A) (f g : A → State → Outcome B) → ((a : A) (s : State) → f a s ≡ g a s) → then_go o f ≡ then_go o g
+then_same (done a s) f g same = same a s
+then_same (leaves x s) f g same = refl
+then_same (spent s) f g same = refl
+then_same (ends e s) f g same = refl
+then_same (strays s) f g same = refl
+
+-- and behind a statement's beginning
+stopping_same : (i : ℕ) (at : At) (s : State) (f g : State → Outcome (Unit {0})) → ((u : State) → f u ≡ g u) → stopping i at s f ≡ stopping i at s g
+stopping_same i at s f g same = by s.left where
+  by : (j : ℕ) → step_of j s (λ u. f (without_code (noted i at u))) ≡ step_of j s (λ u. g (without_code (noted i at u)))
+  by zero = refl
+  by (suc j) = same (without_code (noted i at (record s { left = j })))
+
+-- what is the same is performed the same
+same_performs : (z : Surroundings) (d k need : ℕ) (a b : Part) (f g : State → Outcome (Unit {0})) → a ≡ b → ((s : State) → f s ≡ g s)
+    → Performs z d k need b g → Performs z d k need a f
+same_performs z d k need a b f g code same x = record {
+  does = λ h ws p q s m stands front pays begins.
+      subst (λ (o : Outcome (Unit {0})). Runs z.ground z.rate z.setting z.exits q k s m o) (sym (same s))
+      (x.does h ws p q s m (subst (λ (c : Part). Stands z.ground z.sites (on p) (c h ws).pieces q) code stands)
+      (subst (λ (c : Part). IsFront (c h ws).wants z.wants) code front) pays begins);
+}
+
+-- ---- assignments
+
+-- the code of an assignment to a covered name
+assign_code : (c : Context) (st : Setting) (x : List ℕ) (there : At) (e : Tree) (at : At) (k : ℕ) (r : IsTarget st k (c.scope.names x) (c.scope.places x))
+    → statement c (stat.Statement.assign (stat.Target.plain (tree.Tree.named x tree.Trees.none there)) e at) k
+    ≡ piece (Begin at) ⨟ (nothing ⨟ code c.scope e as_value k ⨟ pieces (stored (its_own r.type) false k r.place))
+assign_code c st x there e at k r =
+    ap (λ (ps : List Piece). piece (Begin at) ⨟ (nothing ⨟ code c.scope e as_value k ⨟ pieces ps)) (stored_code c.scope st x k r)
+
+-- it is whole
+assigned_whole : (at : At) (a : Part) (ps : List Piece) → IsWhole a → IsClosed ps → IsWhole (piece (Begin at) ⨟ (nothing ⨟ a ⨟ pieces ps))
+assigned_whole at a ps whole closed = record {
+  closed = λ l ws. closed_last (a (l + 0 + 0) ws).pieces ps closed;
+  keeps = λ l ws. whole.keeps (l + 0 + 0) ws;
+}
+
+-- its meaning
+assign_is : (c : Scope) (results : List ℕ → Option (Kind × Place)) (st : Setting) (call : Callee) (x : List ℕ) (there : At) (e : Tree) (k : ℕ)
+    (r : IsTarget st k (c.names x) (c.places x)) → is_covered c st e k ≡ true → (u : State)
+    → assign (read_with c results st) call (stat.Target.plain (tree.Tree.named x tree.Trees.none there)) e k u
+    ≡ then_go (value (read_with c results st) call e k u) (λ vs v. store (variable_located r.type (address_of r.place v.now)) (kept r.type vs) v)
+assign_is c results st call x there e k r covered u =
+    ap (λ (b : Bool). if b && target_keeps_code h.names to then assigned h call to (λ j s1. alone_value h call e j s1) k u else assigned h call to (λ j s1. value h call e j s1) k u)
+    (no_intrinsic c st e k covered)
+    ∙ then_same (value h call e k u) (λ vs v. then_go (locate_target h x None v) (λ p t. store p (kept p.kind vs) t))
+    (λ vs v. store (variable_located r.type (address_of r.place v.now)) (kept r.type vs) v)
+    (λ vs v. ap (λ (a : Access). then_go (locate_by h x a None v) (λ p t. store p (kept p.kind vs) t)) r.access
+    ∙ ap (λ (o : Option Place). then_go (own_located r.type o None v) (λ p t. store p (kept p.kind vs) t)) r.is) where
+      h : Here
+      h = read_with c results st
+
+      to : Target
+      to = stat.Target.plain (tree.Tree.named x tree.Trees.none there)
+
+-- and it is performed
+assign_performs : (c : Context) (results : List ℕ → Option (Kind × Place)) (z : Surroundings) (call : Callee) (d number : ℕ) (x : List ℕ) (there : At)
+    (e : Tree) (at : At) (k need : ℕ) → is_stored_name z.setting k (c.scope.names x) (c.scope.places x) ≡ true → is_covered c.scope z.setting e k ≡ true
+    → most c.scope.names e + 1 ≤ need
+    → Performs z d k need (statement c (stat.Statement.assign (stat.Target.plain (tree.Tree.named x tree.Trees.none there)) e at) k)
+    (λ s. run (read_with c.scope results z.setting) call d number (stat.Statement.assign (stat.Target.plain (tree.Tree.named x tree.Trees.none there)) e at) k s)
+assign_performs c results z call d number x there e at k need target covered enough =
+    let r = target_case z.setting k (c.scope.names x) (c.scope.places x) target in
+    let h = read_with c.scope results z.setting in
+    let word = subst (λ (j : ℕ). Simulates z d as_value j k need (code c.scope e as_value k) (λ s. value h call e k s)) (covered_width c.scope z.setting e k covered)
+    (covered_gives c.scope results z call d e k need covered enough) in
+    same_performs z d k need (statement c (stat.Statement.assign (stat.Target.plain (tree.Tree.named x tree.Trees.none there)) e at) k)
+    (piece (Begin at) ⨟ (nothing ⨟ code c.scope e as_value k ⨟ pieces (stored (its_own r.type) false k r.place)))
+    (λ s. run h call d number (stat.Statement.assign (stat.Target.plain (tree.Tree.named x tree.Trees.none there)) e at) k s)
+    (λ s. stopping number at s (λ u. then_go (value h call e k u) (λ vs v. store (variable_located r.type (address_of r.place v.now)) (kept r.type vs) v)))
+    (assign_code c z.setting x there e at k r)
+    (λ s. stopping_same number at s (λ u. assign h call (stat.Target.plain (tree.Tree.named x tree.Trees.none there)) e k u)
+    (λ u. then_go (value h call e k u) (λ vs v. store (variable_located r.type (address_of r.place v.now)) (kept r.type vs) v))
+    (assign_is c.scope results z.setting call x there e k r covered))
+    (assignments z d k need number at r.type r.place (code c.scope e as_value k) (λ u. value h call e k u) r.word r.reached (omega (arith, enough))
+    (covered_whole c.scope z.setting e k covered) word)
+
+-- ---- trees
+
+-- a covered statement bears no label
+bears_none : (c : Scope) (st : Setting) (s : Statement) (k : ℕ) → is_covered_statement c st s k ≡ true → (x : List ℕ) → bears s x ≡ false
+bears_none c st (stat.Statement.labelled y at s) k e x = absurd (false≢true e)
+bears_none c st stat.Statement.empty k e x = refl
+bears_none c st (stat.Statement.block ss) k e x = refl
+bears_none c st (stat.Statement.if_test q s ss at) k e x = refl
+bears_none c st (stat.Statement.while_true v s at) k e x = refl
+bears_none c st (stat.Statement.until_true s v at) k e x = refl
+bears_none c st (stat.Statement.for_values y a b v s at) k e x = refl
+bears_none c st (stat.Statement.case_of v ss at) k e x = refl
+bears_none c st (stat.Statement.go_to y at) k e x = refl
+bears_none c st (stat.Statement.return at) k e x = refl
+bears_none c st (stat.Statement.assign to v at) k e x = refl
+bears_none c st (stat.Statement.assign_effect to v at) k e x = refl
+bears_none c st (stat.Statement.do_effect v at) k e x = refl
+bears_none c st (stat.Statement.call y es at) k e x = refl
+
+-- nor does a list
+pub none_borne : (c : Scope) (st : Setting) (ss : Statements) (k : ℕ) → are_covered c st ss k ≡ true → (x : List ℕ) → bears_among ss x ≡ false
+none_borne c st stat.Statements.none k e x = refl
+none_borne c st (stat.Statements.and s ss) k e x =
+    let two = both (is_covered_statement c st s k) (are_covered c st ss k) e in
+    ap (λ (b : Bool). if b then true else bears_among ss x) (bears_none c st s k two.0 x) ∙ none_borne c st ss k two.1 x
+
+mutual
+  -- what is covered has whole code
+  pub statement_whole : CoveredStatementsAreWhole
+  statement_whole c st stat.Statement.empty k e = whole_pieces (Do (i.Control 8 0) ∷ []) refl
+  statement_whole c st (stat.Statement.block ss) k e = record {
+    closed = λ l ws. list_clear c st ss k e (l + 0) ws;
+    keeps = λ l ws. list_keeps c st ss k e (l + 0) ws;
+  }
+  statement_whole c st (stat.Statement.assign (stat.Target.plain (tree.Tree.named x tree.Trees.none there)) v at) k e =
+      let two = both (is_stored_name st k (c.scope.names x) (c.scope.places x)) (is_covered c.scope st v k) e in
+      let r = target_case st k (c.scope.names x) (c.scope.places x) two.0 in
+      subst (λ (a : Part). IsWhole a) (sym (assign_code c st x there v at k r))
+      (assigned_whole at (code c.scope v as_value k) (stored (its_own r.type) false k r.place) (covered_whole c.scope st v k two.1)
+      (stored_closed st r.type k r.place r.word r.reached))
+  statement_whole c st (stat.Statement.assign (stat.Target.plain (tree.Tree.named x (tree.Trees.and j js) there)) v at) k e = absurd (false≢true e)
+  statement_whole c st (stat.Statement.assign (stat.Target.plain (tree.Tree.number w)) v at) k e = absurd (false≢true e)
+  statement_whole c st (stat.Statement.assign (stat.Target.plain (tree.Tree.wide w)) v at) k e = absurd (false≢true e)
+  statement_whole c st (stat.Statement.assign (stat.Target.plain (tree.Tree.text bytes)) v at) k e = absurd (false≢true e)
+  statement_whole c st (stat.Statement.assign (stat.Target.plain (tree.Tree.truth b)) v at) k e = absurd (false≢true e)
+  statement_whole c st (stat.Statement.assign (stat.Target.plain (tree.Tree.address x es there)) v at) k e = absurd (false≢true e)
+  statement_whole c st (stat.Statement.assign (stat.Target.plain (tree.Tree.unary o a there)) v at) k e = absurd (false≢true e)
+  statement_whole c st (stat.Statement.assign (stat.Target.plain (tree.Tree.binary o a b there)) v at) k e = absurd (false≢true e)
+  statement_whole c st (stat.Statement.assign (stat.Target.plain (tree.Tree.shift o a by there)) v at) k e = absurd (false≢true e)
+  statement_whole c st (stat.Statement.assign (stat.Target.plain (tree.Tree.field a start size there)) v at) k e = absurd (false≢true e)
+  statement_whole c st (stat.Statement.assign (stat.Target.plain (tree.Tree.transfer t a there)) v at) k e = absurd (false≢true e)
+  statement_whole c st (stat.Statement.assign (stat.Target.plain (tree.Tree.bytes o a b count there)) v at) k e = absurd (false≢true e)
+  statement_whole c st (stat.Statement.assign (stat.Target.field r start size) v at) k e = absurd (false≢true e)
+  statement_whole c st (stat.Statement.assign (stat.Target.address x there) v at) k e = absurd (false≢true e)
+  statement_whole c st (stat.Statement.labelled y at s) k e = absurd (false≢true e)
+  statement_whole c st (stat.Statement.if_test q s ss at) k e = absurd (false≢true e)
+  statement_whole c st (stat.Statement.while_true v s at) k e = absurd (false≢true e)
+  statement_whole c st (stat.Statement.until_true s v at) k e = absurd (false≢true e)
+  statement_whole c st (stat.Statement.for_values y a b v s at) k e = absurd (false≢true e)
+  statement_whole c st (stat.Statement.case_of v ss at) k e = absurd (false≢true e)
+  statement_whole c st (stat.Statement.go_to y at) k e = absurd (false≢true e)
+  statement_whole c st (stat.Statement.return at) k e = absurd (false≢true e)
+  statement_whole c st (stat.Statement.assign_effect to v at) k e = absurd (false≢true e)
+  statement_whole c st (stat.Statement.do_effect v at) k e = absurd (false≢true e)
+  statement_whole c st (stat.Statement.call y es at) k e = absurd (false≢true e)
+
+  -- nothing is due behind a list
+  list_clear : (c : Context) (st : Setting) (ss : Statements) (k : ℕ) → are_covered c.scope st ss k ≡ true → (l : ℕ) (ws : List Wanted)
+      → due_after false (listed c ss k l ws).pieces ≡ false
+  list_clear c st stat.Statements.none k e l ws = refl
+  list_clear c st (stat.Statements.and s ss) k e l ws =
+      let two = both (is_covered_statement c.scope st s k) (are_covered c.scope st ss k) e in
+      let a = statement c s k l ws in
+      let b = listed c ss k (l + a.marks) a.wants in
+      due_add false a.pieces b.pieces
+      ∙ ap (λ (x : Bool). due_after x b.pieces) (closed_any false a.pieces ((statement_whole c st s k two.0).closed l ws))
+      ∙ list_clear c st ss k two.1 (l + a.marks) a.wants
+
+  -- and it keeps the names that are wanted
+  list_keeps : (c : Context) (st : Setting) (ss : Statements) (k : ℕ) → are_covered c.scope st ss k ≡ true → (l : ℕ) (ws : List Wanted)
+      → IsFront ws (listed c ss k l ws).wants
+  list_keeps c st stat.Statements.none k e l ws = record { rest = []; is = sym (append-nil ws) }
+  list_keeps c st (stat.Statements.and s ss) k e l ws =
+      let two = both (is_covered_statement c.scope st s k) (are_covered c.scope st ss k) e in
+      let a = statement c s k l ws in
+      front_on ws a.wants (listed c ss k (l + a.marks) a.wants).wants ((statement_whole c st s k two.0).keeps l ws)
+      (list_keeps c st ss k two.1 (l + a.marks) a.wants)
+
+mutual
+  pub statement_performs : CoveredStatementsPerform
+  statement_performs c results z call d number stat.Statement.empty k need e enough = idle_performs z d k need
+  statement_performs c results z call d number (stat.Statement.block ss) k need e enough =
+      let h = read_with c.scope results z.setting in
+      blocks z d k need d (listed c ss k) (bears_among ss) (λ x s. run_from h call d number ss x k s) (λ s. run_all h call d number ss k s)
+      (none_borne c.scope z.setting ss k e) (list_performs c results z call d number ss k need e enough)
+  statement_performs c results z call d number (stat.Statement.assign (stat.Target.plain (tree.Tree.named x tree.Trees.none there)) v at) k need e enough =
+      let two = both (is_stored_name z.setting k (c.scope.names x) (c.scope.places x)) (is_covered c.scope z.setting v k) e in
+      assign_performs c results z call d number x there v at k need two.0 two.1 (omega (arith, enough))
+  statement_performs c results z call d number (stat.Statement.assign (stat.Target.plain (tree.Tree.named x (tree.Trees.and j js) there)) v at) k need e enough = absurd (false≢true e)
+  statement_performs c results z call d number (stat.Statement.assign (stat.Target.plain (tree.Tree.number w)) v at) k need e enough = absurd (false≢true e)
+  statement_performs c results z call d number (stat.Statement.assign (stat.Target.plain (tree.Tree.wide w)) v at) k need e enough = absurd (false≢true e)
+  statement_performs c results z call d number (stat.Statement.assign (stat.Target.plain (tree.Tree.text bytes)) v at) k need e enough = absurd (false≢true e)
+  statement_performs c results z call d number (stat.Statement.assign (stat.Target.plain (tree.Tree.truth b)) v at) k need e enough = absurd (false≢true e)
+  statement_performs c results z call d number (stat.Statement.assign (stat.Target.plain (tree.Tree.address x es there)) v at) k need e enough = absurd (false≢true e)
+  statement_performs c results z call d number (stat.Statement.assign (stat.Target.plain (tree.Tree.unary o a there)) v at) k need e enough = absurd (false≢true e)
+  statement_performs c results z call d number (stat.Statement.assign (stat.Target.plain (tree.Tree.binary o a b there)) v at) k need e enough = absurd (false≢true e)
+  statement_performs c results z call d number (stat.Statement.assign (stat.Target.plain (tree.Tree.shift o a by there)) v at) k need e enough = absurd (false≢true e)
+  statement_performs c results z call d number (stat.Statement.assign (stat.Target.plain (tree.Tree.field a start size there)) v at) k need e enough = absurd (false≢true e)
+  statement_performs c results z call d number (stat.Statement.assign (stat.Target.plain (tree.Tree.transfer t a there)) v at) k need e enough = absurd (false≢true e)
+  statement_performs c results z call d number (stat.Statement.assign (stat.Target.plain (tree.Tree.bytes o a b count there)) v at) k need e enough = absurd (false≢true e)
+  statement_performs c results z call d number (stat.Statement.assign (stat.Target.field r start size) v at) k need e enough = absurd (false≢true e)
+  statement_performs c results z call d number (stat.Statement.assign (stat.Target.address x there) v at) k need e enough = absurd (false≢true e)
+  statement_performs c results z call d number (stat.Statement.labelled y at s) k need e enough = absurd (false≢true e)
+  statement_performs c results z call d number (stat.Statement.if_test q s ss at) k need e enough = absurd (false≢true e)
+  statement_performs c results z call d number (stat.Statement.while_true v s at) k need e enough = absurd (false≢true e)
+  statement_performs c results z call d number (stat.Statement.until_true s v at) k need e enough = absurd (false≢true e)
+  statement_performs c results z call d number (stat.Statement.for_values y a b v s at) k need e enough = absurd (false≢true e)
+  statement_performs c results z call d number (stat.Statement.case_of v ss at) k need e enough = absurd (false≢true e)
+  statement_performs c results z call d number (stat.Statement.go_to y at) k need e enough = absurd (false≢true e)
+  statement_performs c results z call d number (stat.Statement.return at) k need e enough = absurd (false≢true e)
+  statement_performs c results z call d number (stat.Statement.assign_effect to v at) k need e enough = absurd (false≢true e)
+  statement_performs c results z call d number (stat.Statement.do_effect v at) k need e enough = absurd (false≢true e)
+  statement_performs c results z call d number (stat.Statement.call y es at) k need e enough = absurd (false≢true e)
+
+  pub list_performs : CoveredListsPerform
+  list_performs c results z call d number stat.Statements.none k need e enough = nothing_performs z d k need
+  list_performs c results z call d number (stat.Statements.and s ss) k need e enough =
+      let two = both (is_covered_statement c.scope z.setting s k) (are_covered c.scope z.setting ss k) e in
+      let h = read_with c.scope results z.setting in
+      lists_perform z d k need (statement c s k) (listed c ss k) (λ t. run h call d number s k t) (λ t. run_all h call d (number + stops s) ss k t)
+      (λ l ws. closed_any false (statement c s k l ws).pieces ((statement_whole c z.setting s k two.0).closed l ws))
+      (λ l ws. list_keeps c z.setting ss k two.1 l ws)
+      (statement_performs c results z call d number s k need two.0 (omega (arith, enough)))
+      (list_performs c results z call d (number + stops s) ss k need two.1 (omega (arith, enough)))

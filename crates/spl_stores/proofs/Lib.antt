@@ -1,0 +1,4 @@
+-- In reading order.
+pub mod StoreLemmas
+pub mod BlockLemmas
+pub mod CoverLemmas
