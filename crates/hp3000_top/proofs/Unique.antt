@@ -101,7 +101,7 @@ within_not_first (p.AreWithin.more unit k ks) (p.FirstRefused.behind q w ws) = w
 same_units : (texts : List (List ℕ)) (us vs : List Source) → IsBeyond texts us → IsBeyond texts vs → us ≡ vs
 same_units texts us vs k h = programs_unique texts us vs k.program h.program
 
-within_rules : (texts : List (List ℕ)) (us : List Source) → IsBeyond texts us → l.AreWithin us
+within_rules : (texts : List (List ℕ)) (us : List Source) → IsBeyond texts us → l.KeepRules us
 within_rules texts us k = record { sound = k.program.sound; spelled = all_spelled k.program.spell.cut k.program.spell.units; limits = k.program.within }
 
 sure_not_refused : (t : TextValue) (line : List ℕ) → IsSure t → IsRefused t line → ⊥

@@ -75,7 +75,7 @@ kept_wanted [] os vs w h = h
 kept_wanted (v ∷ ws) os vs w h = kept_wanted ws os (if is_met os v then vs else with_want vs v) w (stays_wanted vs v w (is_met os v) h)
 
 -- what no procedure of the segment meets is wanted
-found_wanted : (ws : List Wanted) (os : List Own) (vs : List Wanted) (i : ℕ) (w : Wanted) → slice_get ws i ≡ Some w → is_met os w ≡ false → is_wanted w (wants_from os vs ws) ≡ true
+pub found_wanted : (ws : List Wanted) (os : List Own) (vs : List Wanted) (i : ℕ) (w : Wanted) → slice_get ws i ≡ Some w → is_met os w ≡ false → is_wanted w (wants_from os vs ws) ≡ true
 found_wanted [] os vs i w h n = cc
 found_wanted (v ∷ ws) os vs zero w h n =
     let is : v ≡ w = cc in
@@ -86,7 +86,7 @@ found_wanted (v ∷ ws) os vs zero w h n =
 found_wanted (v ∷ ws) os vs (suc i) w h n = found_wanted ws os (if is_met os v then vs else with_want vs v) i w h n
 
 -- it is at its place
-at_place : (ws : List Wanted) (w d : Wanted) → is_wanted w ws ≡ true → (want_at w ws < length ws) × (get_or ws (want_at w ws) d ≡ w)
+pub at_place : (ws : List Wanted) (w d : Wanted) → is_wanted w ws ≡ true → (want_at w ws < length ws) × (get_or ws (want_at w ws) d ≡ w)
 at_place [] w d h = cc
 at_place (v ∷ ws) w d h = by (is_same w v) refl h (λ g. at_place ws w d g) where
   by : (b : Bool) → is_same w v ≡ b → (b || is_wanted w ws) ≡ true → (is_wanted w ws ≡ true → (want_at w ws < length ws) × (get_or ws (want_at w ws) d ≡ w))
@@ -103,12 +103,12 @@ got_left [] ys i x h = cc
 got_left (y ∷ xs) ys zero x h = h
 got_left (y ∷ xs) ys (suc i) x h = got_left xs ys i x h
 
-index_map : {A : Type 0} (f : A → ℕ) (xs : List A) (i : ℕ) (x : A) → slice_get xs i ≡ Some x → slice_index (map f xs) i ≡ f x
+pub index_map : {A : Type 0} (f : A → ℕ) (xs : List A) (i : ℕ) (x : A) → slice_get xs i ≡ Some x → slice_index (map f xs) i ≡ f x
 index_map f [] i x h = cc
 index_map f (y ∷ xs) zero x h = let is : y ≡ x = cc in ap f is
 index_map f (y ∷ xs) (suc i) x h = index_map f xs i x h
 
-got_within : {A : Type 0} (xs : List A) (i : ℕ) (x : A) → slice_get xs i ≡ Some x → i < length xs
+pub got_within : {A : Type 0} (xs : List A) (i : ℕ) (x : A) → slice_get xs i ≡ Some x → i < length xs
 got_within [] i x h = cc
 got_within (y ∷ xs) zero x h = omega arith
 got_within (y ∷ xs) (suc i) x h = omega (arith, got_within xs i x h)
@@ -119,7 +119,7 @@ all_index f n (x ∷ xs) zero some h = h x
 all_index f n (x ∷ xs) (suc i) some h = all_index f n xs i some h
 
 -- a module's want is one of its segment's
-want_in : (front : List Module) (m : Module) (back : List Module) (i : ℕ) (w : Want) → slice_get m.wants.items i ≡ Some w → (j : ℕ) × (slice_get (all_wants (front ++ m ∷ back)) j ≡ Some (wanted_of w))
+pub want_in : (front : List Module) (m : Module) (back : List Module) (i : ℕ) (w : Want) → slice_get m.wants.items i ≡ Some w → (j : ℕ) × (slice_get (all_wants (front ++ m ∷ back)) j ≡ Some (wanted_of w))
 want_in [] m back i w h = (i, got_left (map wanted_of m.wants.items) (all_wants back) i (wanted_of w) (got_map wanted_of m.wants.items i w h))
 want_in (x ∷ front) m back i w h =
     let r = want_in front m back i w h in
@@ -130,7 +130,7 @@ main_length None base = refl
 main_length (Some k) base = refl
 
 -- the own entry of a module's define
-own_in : (front : List Module) (m : Module) (back : List Module) (base i : ℕ) (d : Define) → slice_get m.defines.items i ≡ Some d → get_or (owns base (front ++ m ∷ back)) (owned front + i) no_entry ≡ own_of (base + sizes front) d
+pub own_in : (front : List Module) (m : Module) (back : List Module) (base i : ℕ) (d : Define) → slice_get m.defines.items i ≡ Some d → get_or (owns base (front ++ m ∷ back)) (owned front + i) no_entry ≡ own_of (base + sizes front) d
 own_in [] m back base i d h =
     let here : List Own = map (own_of base) m.defines.items in
     let lt : i < length here = omega (arith, length-map m.defines.items (own_of base), got_within m.defines.items i d h) in
@@ -153,7 +153,7 @@ own_in (x ∷ front) m back base i d h =
     ∙ own_in front m back (base + x.size) i d h
     ∙ ap (λ b. own_of b d) start
 
-owned_append : (front : List Module) (m : Module) (back : List Module) → owned (front ++ m ∷ back) ≡ owned front + (own_count m + owned back)
+pub owned_append : (front : List Module) (m : Module) (back : List Module) → owned (front ++ m ∷ back) ≡ owned front + (own_count m + owned back)
 owned_append [] m back = omega arith
 owned_append (x ∷ front) m back = omega (arith, owned_append front m back)
 

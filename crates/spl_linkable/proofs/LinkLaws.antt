@@ -23,7 +23,7 @@ use Rattle.spl_module_names.specs.Outlines.{counted}
 use Rattle.spl_module_names.specs.Faults.{counts_words}
 use Rattle.spl_module_names.proofs.Through.{one_count}
 use Rattle.spl_module_names.proofs.FaultLaws.{faults_agree, counts_none}
-use Rattle.spl_linkable.specs.Linkable.{part_bound, is_low, AreWithin, NoModulesFail, NoFaultIsTold, SegmentsKeepBounds}
+use Rattle.spl_linkable.specs.Linkable.{part_bound, is_low, KeepRules, NoModulesFail, NoFaultIsTold, SegmentsKeepBounds}
 
 -- ---- 1. the words of a segment
 
@@ -95,7 +95,7 @@ all_within us ms (x ∷ names) few low =
     at_most : (a b c : ℕ) → a ≤ b → b ≤ c → a ≤ c
     at_most a b c le more = omega (arith, le, more)
 
-words_few : (us : List Source) (ms : List Module) → AreWithin us → AreModules us ms → (x : List ℕ) → words_in x ms ≤ sum (unit_weight x) us
+words_few : (us : List Source) (ms : List Module) → KeepRules us → AreModules us ms → (x : List ℕ) → words_in x ms ≤ sum (unit_weight x) us
 words_few us ms w are x = few_words us ms x w.sound w.spelled w.limits are
 
 pub none_fail : NoModulesFail

@@ -36,20 +36,20 @@ pub record IsLinkable (us : List Source) : Type 0 where
   pub low : list_all (is_low us) (parts modules) ≡ true
 
 -- units that break no rule and pass no limit
-pub record AreWithin (us : List Source) : Type 0 where
+pub record KeepRules (us : List Source) : Type 0 where
   pub sound : IsSound us
   pub spelled : AreSpelled us
   pub limits : first_full us ≡ None
 
 -- modules of linkable units have no fault
 abbrev pub NoModulesFail : Type 0
-NoModulesFail = (us : List Source) (ms : List Module) → AreWithin us → IsLinkable us → AreModules us ms → first_fault ms ≡ None
+NoModulesFail = (us : List Source) (ms : List Module) → KeepRules us → IsLinkable us → AreModules us ms → first_fault ms ≡ None
 
 -- so none may be told
 abbrev pub NoFaultIsTold : Type 0
-NoFaultIsTold = (us : List Source) (f : PrepFault) → AreWithin us → IsLinkable us → IsUnlinked us f → ⊥
+NoFaultIsTold = (us : List Source) (f : PrepFault) → KeepRules us → IsLinkable us → IsUnlinked us f → ⊥
 
 -- each segment of a program that is built has at most as many words as it may have
 abbrev pub SegmentsKeepBounds : Type 0
-SegmentsKeepBounds = (us : List Source) (p : Program) (b : IsBuilt us p) (s : ℕ) (q : Part) → AreWithin us → slice_get (parts b.modules) s ≡ Some q
+SegmentsKeepBounds = (us : List Source) (p : Program) (b : IsBuilt us p) (s : ℕ) (q : Part) → KeepRules us → slice_get (parts b.modules) s ≡ Some q
     → length (words_of (segments_of p) s) ≤ part_bound us q

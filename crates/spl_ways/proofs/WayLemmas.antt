@@ -35,12 +35,12 @@ use Rattle.mpe_segmenter.proofs.FitLemmas.{fits_at}
 use Rattle.mpe_segmenter.proofs.WholeLemmas.{words_count, own_local}
 use Rattle.mpe_segmenter.proofs.ValidLemmas.{got, got_map}
 use Rattle.mpe_segmenter.proofs.SiteLaws as site_laws
+use Rattle.mpe_segmenter.proofs.SiteLaws.{found_wanted, at_place, index_map, got_within, want_in, owned_append, own_in}
 use Rattle.hp_leads.specs.Words.{way_of, entry_way, local_way, subroutine_way}
 use Rattle.spl_follow.specs.Doing.{Way, gate, body}
 use Rattle.spl_stands.specs.Fitting.{CallLeads}
 use Rattle.spl_sites.specs.Beginnings.{is_of_kind, is_call_of}
 use Rattle.spl_sites.specs.Grounds.{LeadsIfCall, AllCallsLead}
-use Rattle.spl_ways.proofs.EntryPlaces.{found_wanted, at_place, index_map, got_within, want_in, owned_append, own_in}
 use Rattle.spl_ways.specs.Ways.{word_of, way_of_entry, module_sites}
 
 -- ---- 1. labels
