@@ -1,0 +1,10 @@
+pub mod Tables
+pub mod Covers
+pub mod Own
+pub mod Modules
+pub mod Entries
+pub mod Words
+pub mod Order
+pub mod Few
+pub mod Data
+pub mod Programs

@@ -1,0 +1,3 @@
+-- In reading order.
+pub mod Called
+pub mod Laws

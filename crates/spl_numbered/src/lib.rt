@@ -1,0 +1,6 @@
+//! The units of texts number their segments.
+#![tactic(auto)]
+
+mod laws;
+
+pub use laws::texts_number_segments;
