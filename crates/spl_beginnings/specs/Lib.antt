@@ -1,0 +1,4 @@
+-- In reading order.
+pub mod Opens
+pub mod Found
+pub mod Laws

@@ -1,0 +1,5 @@
+-- In reading order.
+pub mod PartLaws
+pub mod ExpressionLaws
+pub mod StatementLaws
+pub mod ModuleLaws

@@ -1,0 +1,3 @@
+-- In reading order.
+pub mod FoundBodies
+pub mod Laws
