@@ -3,4 +3,4 @@ pub mod GiveLemmas
 pub mod ConstantLemmas
 pub mod VariableLemmas
 pub mod SumLemmas
-pub mod CoverLemmas
+pub mod WholeLemmas

@@ -48,21 +48,21 @@ Operates code f = (g : Ground) (w : Rate) (p q : Spot) (st : Setting) (s : State
     → Follows g w (pos q - pos p) 0 w.reach (tally s) m (IsValue st q 1 k d0 m0) NoExit (f v u s)
 
 -- the words on top are those of the value
-lower_is : (st : Setting) (p : Spot) (k : ℕ) (d : Data) (m : Machine) (v u : ℕ) (s : State) (n : Machine) → IsValue st p 2 k d m (v ∷ u ∷ []) s n
+pub lower_is : (st : Setting) (p : Spot) (k : ℕ) (d : Data) (m : Machine) (v u : ℕ) (s : State) (n : Machine) → IsValue st p 2 k d m (v ∷ u ∷ []) s n
     → word 1 n ≡ v
 lower_is st p k d m v u s n x = value_word st p 2 k 1 0 d m (v ∷ u ∷ []) s n x refl
 
-upper_is : (st : Setting) (p : Spot) (k : ℕ) (d : Data) (m : Machine) (v u : ℕ) (s : State) (n : Machine) → IsValue st p 2 k d m (v ∷ u ∷ []) s n
+pub upper_is : (st : Setting) (p : Spot) (k : ℕ) (d : Data) (m : Machine) (v u : ℕ) (s : State) (n : Machine) → IsValue st p 2 k d m (v ∷ u ∷ []) s n
     → word 0 n ≡ u
 upper_is st p k d m v u s n x = value_word st p 2 k 0 1 d m (v ∷ u ∷ []) s n x refl
 
 -- there are two
-two_there : (st : Setting) (p : Spot) (k : ℕ) (d : Data) (m : Machine) (v u : ℕ) (s : State) (n : Machine) → IsValue st p 2 k d m (v ∷ u ∷ []) s n
+pub two_there : (st : Setting) (p : Spot) (k : ℕ) (d : Data) (m : Machine) (v u : ℕ) (s : State) (n : Machine) → IsValue st p 2 k d m (v ∷ u ∷ []) s n
     → 2 ≤ length n.stack
 two_there st p k d m v u s n x = let words = x.matches.words in omega (arith, words)
 
 -- an operation that traps where its result is out of range
-settling : (code : ℕ) (r : ℕ → ℕ → Arith) → ((m : Machine) → 2 ≤ length m.stack → Settles 2 (r (word 1 m) (word 0 m)) m (operated code m))
+pub settling : (code : ℕ) (r : ℕ → ℕ → Arith) → ((m : Machine) → 2 ≤ length m.stack → Settles 2 (r (word 1 m) (word 0 m)) m (operated code m))
     → ((v u : ℕ) → (r v u).value < 65536) → Operates code (λ v u s. word_done (r v u) s)
 settling code r row small g w p q st s m d0 m0 k v u leads x = by (r v u).overflow refl where
   settled : Settles 2 (r v u) m (operated code m)
@@ -82,7 +82,7 @@ settling code r row small g w p q st s m d0 m0 k v u leads x = by (r v u).overfl
       (settled.result e) (small v u)
 
 -- one that never does
-yielding : (code : ℕ) (r : ℕ → ℕ → ℕ) → ((m : Machine) → 2 ≤ length m.stack → Yields 2 (r (word 1 m) (word 0 m) ∷ []) m (operated code m))
+pub yielding : (code : ℕ) (r : ℕ → ℕ → ℕ) → ((m : Machine) → 2 ≤ length m.stack → Yields 2 (r (word 1 m) (word 0 m) ∷ []) m (operated code m))
     → ((v u : ℕ) → r v u < 65536) → Operates code (λ v u s. done (r v u ∷ []) s)
 yielding code r row small g w p q st s m d0 m0 k v u leads x =
     value_row g w p q (doing g.segments (i.Pair (op code) (op 0)) q) st s m d0 m0 k 2 (v ∷ u ∷ []) (r v u) (operated code m) leads refl x
@@ -111,32 +111,33 @@ logically_subtracted_small b a = word_of-below _
 
 -- ---- operands
 
--- two operands, one word each, and the operation behind them
-operands_follow : (g : Ground) (w : Rate) (st : Setting) (marks : ℕ → Spot) (p : Point) (r q t : Spot) (k : ℕ) (s : State) (l : List Begun)
-    (m : Machine) (first : Outcome (List ℕ)) (other : State → Outcome (List ℕ)) (last : List ℕ → List ℕ → State → Outcome (List ℕ))
+-- Two operands, one word each, and what stands behind them, whatever that leaves.
+pub operands_follow : (g : Ground) (w : Rate) (st : Setting) (marks : ℕ → Spot) (p : Point) (r q t : Spot) (k : ℕ) (s : State) (l : List Begun)
+    (m : Machine) (P : List ℕ → State → Machine → Type 0) (first : Outcome (List ℕ)) (other : State → Outcome (List ℕ))
+    (last : List ℕ → List ℕ → State → Outcome (List ℕ))
     → pos p.at ≤ pos r → pos r ≤ pos q → pos q ≤ pos t → Gives g w st marks as_value 1 p r k s l m first
     → ((vs : List ℕ) (s1 : State) (m1 : Machine) → IsValue st r 1 k s.now m vs s1 m1 → s1.left ≤ s.left
     → Gives g w st marks as_value 1 (on r) q (k + 1) s1 s1.begun m1 (other s1))
     → ((vs us : List ℕ) (s2 : State) (m2 : Machine) → length vs ≡ 1 → length us ≡ 1 → IsValue st q 2 k s.now m (vs ++ us) s2 m2
-    → Follows g w (pos t - pos q) 0 w.reach (tally s2) m2 (IsValue st t 1 k s.now m) NoExit (last vs us s2))
-    → Gives g w st marks as_value 1 p t k s l m (then_go first (λ vs s1. then_go (other s1) (λ us s2. last vs us s2)))
-operands_follow g w st marks p r q t k s l m first other last before between behind f rest end =
+    → Follows g w (pos t - pos q) 0 w.reach (tally s2) m2 P NoExit (last vs us s2))
+    → Follows g w (pos t - pos p.at) 1 w.reach (tally_with l s) m P NoExit (then_go first (λ vs s1. then_go (other s1) (λ us s2. last vs us s2)))
+operands_follow g w st marks p r q t k s l m P first other last before between behind f rest end =
     let many = w.enough in
     bind_follows g w (pos r - pos p.at) 1 w.reach (pos t - pos r) 1 w.reach (pos t - pos p.at) 1 w.reach (tally_with l s) m (IsValue st r 1 k s.now m)
-    (IsValue st t 1 k s.now m) NoExit first (λ vs s1. then_go (other s1) (λ us s2. last vs us s2)) f (λ vs s1 m1 v fewer. ends_so vs s1 m1 v (rest vs s1 m1 v fewer))
+    P NoExit first (λ vs s1. then_go (other s1) (λ us s2. last vs us s2)) f (λ vs s1 m1 v fewer. ends_so vs s1 m1 v (rest vs s1 m1 v fewer))
     (omega (arith, before, between, behind)) (omega arith) (omega (arith, many)) (omega (arith, many)) where
       ends_so : (vs : List ℕ) (s1 : State) (m1 : Machine) → IsValue st r 1 k s.now m vs s1 m1
           → Gives g w st marks as_value 1 (on r) q (k + 1) s1 s1.begun m1 (other s1)
-          → Follows g w (pos t - pos r) 1 w.reach (tally s1) m1 (IsValue st t 1 k s.now m) NoExit (then_go (other s1) (λ us s2. last vs us s2))
+          → Follows g w (pos t - pos r) 1 w.reach (tally s1) m1 P NoExit (then_go (other s1) (λ us s2. last vs us s2))
       ends_so vs s1 m1 v h =
           let many = w.enough in
           bind_follows g w (pos q - pos r) 1 w.reach (pos t - pos q) 0 w.reach (pos t - pos r) 1 w.reach (tally s1) m1
-          (IsValue st q 1 (k + 1) s1.now m1) (IsValue st t 1 k s.now m) NoExit (other s1) (λ us s2. last vs us s2) h
+          (IsValue st q 1 (k + 1) s1.now m1) P NoExit (other s1) (λ us s2. last vs us s2) h
           (λ us s2 m2 u fewer. end vs us s2 m2 v.wide u.wide (values_join st r q 1 1 k s.now m vs us s1 m1 s2 m2 v u))
           (omega (arith, between, behind)) (omega arith) (omega (arith, many)) (omega (arith, many))
 
 -- two words by their lists
-by_words : (g : Ground) (w : Rate) (p q : Spot) (st : Setting) (s : State) (m : Machine) (d0 : Data) (m0 : Machine) (k code : ℕ)
+pub by_words : (g : Ground) (w : Rate) (p q : Spot) (st : Setting) (s : State) (m : Machine) (d0 : Data) (m0 : Machine) (k code : ℕ)
     (f : List ℕ → List ℕ → State → Outcome (List ℕ)) → Operates code (λ v u t. f (v ∷ []) (u ∷ []) t)
     → Leads g (on p) q (doing g.segments (i.Pair (op code) (op 0)) q) → (vs us : List ℕ) → length vs ≡ 1 → length us ≡ 1
     → IsValue st p 2 k d0 m0 (vs ++ us) s m
@@ -155,7 +156,7 @@ front_on xs ys zs a b = record {
 }
 
 -- two parts and an operation of one instruction
-operation_gives : (z : Surroundings) (d k need more code : ℕ) (a b : Part) (first other : State → Outcome (List ℕ))
+pub operation_gives : (z : Surroundings) (d k need more code : ℕ) (a b : Part) (first other : State → Outcome (List ℕ))
     (f : List ℕ → List ℕ → State → Outcome (List ℕ)) → Operates code (λ v u t. f (v ∷ []) (u ∷ []) t) → IsWhole a → IsWhole b
     → Simulates z d as_value 1 k need a first → Simulates z d as_value 1 (k + 1) more b other → more + 1 ≤ need
     → Simulates z d as_value 1 k need (a ⨟ b ⨟ pieces (Do (i.Pair (op code) (op 0)) ∷ []))
@@ -168,7 +169,7 @@ operation_gives z d k need more code a b first other f operates wa wb sa sb enou
       (closed_last x.pieces y.pieces (wb.closed (h + x.marks) x.wants)) stands in
       let cut = stand_in_order z.ground z.sites x.pieces y.pieces p last.0 (wa.closed h ws) last.1 in
       let room : 1 + more ≤ need = omega (arith, enough) in
-      operands_follow z.ground z.rate z.setting z.sites.marks p cut.0 last.0 q k s l m (first s) other f cut.3 cut.4 last.4
+      operands_follow z.ground z.rate z.setting z.sites.marks p cut.0 last.0 q k s l m (IsValue z.setting q 1 k s.now m) (first s) other f cut.3 cut.4 last.4
       (sa.does h ws p cut.0 s l m cut.1 (front_on x.wants y.wants z.wants (wb.keeps (h + x.marks) x.wants) front) ready)
       (λ vs s1 m1 v fewer. sb.does (h + x.marks) x.wants (on cut.0) last.0 s1 s1.begun m1 cut.2 front
       (value_ready z.setting d p cut.0 k need 1 more s l m vs s1 m1 ready v fewer room))

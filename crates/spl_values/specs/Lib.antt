@@ -1,4 +1,3 @@
 -- In reading order.
 pub mod Reached
-pub mod Covered
 pub mod Laws

@@ -1,5 +1,5 @@
 //! The laws of this crate, as the contracts of functions that do nothing.
-ghost use Rattle.spl_values.specs.Laws.{ConstantsSimulate, VariablesSimulate, SumsSimulate, CoveredCodeIsWhole, CoveredValuesSimulate};
+ghost use Rattle.spl_values.specs.Laws.{ConstantsSimulate, VariablesSimulate, SumsSimulate};
 
 /// A word that is pushed.
 pub fn constants_simulate()
@@ -14,10 +14,4 @@ pub fn variables_simulate()
 /// Sums and differences of two single words.
 pub fn sums_simulate()
     ensures { SumsSimulate }
-{}
-
-/// All expressions that are covered.
-pub fn covered_values_simulate()
-    ensures whole { CoveredCodeIsWhole }
-    ensures value { CoveredValuesSimulate }
 {}

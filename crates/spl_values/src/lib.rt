@@ -3,4 +3,4 @@
 
 mod laws;
 
-pub use laws::{constants_simulate, covered_values_simulate, sums_simulate, variables_simulate};
+pub use laws::{constants_simulate, sums_simulate, variables_simulate};

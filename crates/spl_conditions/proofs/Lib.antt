@@ -1,0 +1,6 @@
+-- In reading order.
+pub mod BranchLemmas
+pub mod ConditionLemmas
+pub mod RelationLemmas
+pub mod ComplementLemmas
+pub mod ConnectiveLemmas

@@ -1,0 +1,5 @@
+-- In reading order.
+pub mod NameLemmas
+pub mod OperatorLemmas
+pub mod UnaryLemmas
+pub mod CoverLemmas

@@ -1,0 +1,6 @@
+//! Expressions that are covered, given and tested by their code wherever it stands.
+#![tactic(auto)]
+
+mod laws;
+
+pub use laws::{covered_tests_simulate, covered_values_simulate};

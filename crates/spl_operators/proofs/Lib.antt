@@ -1,0 +1,5 @@
+-- In reading order.
+pub mod RowLemmas
+pub mod OperandLemmas
+pub mod BitLemmas
+pub mod SingleLemmas
