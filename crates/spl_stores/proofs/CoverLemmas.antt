@@ -39,15 +39,19 @@ use Rattle.spl_follow.specs.Simulating.{Surroundings, Simulates, Performs}
 use Rattle.spl_follow.proofs.StandLemmas.{closed_any, closed_last, due_add}
 use Rattle.spl_control.proofs.SequenceLemmas.{idle_performs, nothing_performs, lists_perform}
 use Rattle.spl_values.specs.Reached.{is_word_kind, is_reached, IsWhole}
-use Rattle.spl_values.specs.Covered.{is_covered_name, is_covered}
-use Rattle.spl_values.specs.Laws.{read_with}
+use Rattle.spl_covered.specs.Covered.{is_covered_name, is_covered}
+use Rattle.spl_covered.specs.Laws.{read_with}
 use Rattle.spl_values.proofs.VariableLemmas.{both}
 use Rattle.spl_values.proofs.SumLemmas.{front_on}
-use Rattle.spl_values.proofs.CoverLemmas.{whole_pieces, covered_width, covered_whole, covered_gives}
+use Rattle.spl_values.proofs.WholeLemmas.{whole_pieces}
+use Rattle.spl_covered.proofs.CoverLemmas.{covered_width, covered_whole, covered_gives}
 use Rattle.spl_stores.specs.Covered.{is_stored_name, is_covered_statement, are_covered}
 use Rattle.spl_stores.specs.Laws.{CoveredStatementsAreWhole, CoveredStatementsPerform, CoveredListsPerform}
 use Rattle.spl_stores.proofs.StoreLemmas.{assignments}
 use Rattle.spl_stores.proofs.BlockLemmas.{blocks}
+use Rattle.spl_stores.proofs.SameLemmas.{then_same, stopping_same, same_performs}
+use Rattle.spl_stores.proofs.CallLemmas.{call_whole, call_performs}
+use Rattle.spl_stores.proofs.ChoiceLemmas.{if_whole, if_performs, else_whole, else_performs, loop_whole, while_performs, repeat_whole, until_performs}
 
 -- ---- targets
 
@@ -139,33 +143,6 @@ no_intrinsic c st (tree.Tree.field a start size at) k e = refl
 no_intrinsic c st (tree.Tree.transfer to a at) k e = refl
 no_intrinsic c st (tree.Tree.bytes o a b count at) k e = refl
 
--- ---- meanings that are the same
-
--- what comes behind an outcome
-then_same : {A B : Type 0} (o : Outcome A) (f g : A → State → Outcome B) → ((a : A) (s : State) → f a s ≡ g a s) → then_go o f ≡ then_go o g
-then_same (done a s) f g same = same a s
-then_same (leaves x s) f g same = refl
-then_same (spent s) f g same = refl
-then_same (ends e s) f g same = refl
-then_same (strays s) f g same = refl
-
--- and behind a statement's beginning
-stopping_same : (i : ℕ) (at : At) (s : State) (f g : State → Outcome (Unit {0})) → ((u : State) → f u ≡ g u) → stopping i at s f ≡ stopping i at s g
-stopping_same i at s f g same = by s.left where
-  by : (j : ℕ) → step_of j s (λ u. f (without_code (noted i at u))) ≡ step_of j s (λ u. g (without_code (noted i at u)))
-  by zero = refl
-  by (suc j) = same (without_code (noted i at (record s { left = j })))
-
--- what is the same is performed the same
-same_performs : (z : Surroundings) (d k need : ℕ) (a b : Part) (f g : State → Outcome (Unit {0})) → a ≡ b → ((s : State) → f s ≡ g s)
-    → Performs z d k need b g → Performs z d k need a f
-same_performs z d k need a b f g code same x = record {
-  does = λ h ws p q s m stands front pays begins.
-      subst (λ (o : Outcome (Unit {0})). Runs z.ground z.rate z.setting z.exits q k s m o) (sym (same s))
-      (x.does h ws p q s m (subst (λ (c : Part). Stands z.ground z.sites (on p) (c h ws).pieces q) code stands)
-      (subst (λ (c : Part). IsFront (c h ws).wants z.wants) code front) pays begins);
-}
-
 -- ---- assignments
 
 -- the code of an assignment to a covered name
@@ -203,7 +180,7 @@ assign_is c results st call x there e k r covered u =
 -- and it is performed
 assign_performs : (c : Context) (results : List ℕ → Option (Kind × Place)) (z : Surroundings) (call : Callee) (d number : ℕ) (x : List ℕ) (there : At)
     (e : Tree) (at : At) (k need : ℕ) → is_stored_name z.setting k (c.scope.names x) (c.scope.places x) ≡ true → is_covered c.scope z.setting e k ≡ true
-    → most c.scope.names e + 1 ≤ need
+    → most c.scope.names e + 8 ≤ need
     → Performs z d k need (statement c (stat.Statement.assign (stat.Target.plain (tree.Tree.named x tree.Trees.none there)) e at) k)
     (λ s. run (read_with c.scope results z.setting) call d number (stat.Statement.assign (stat.Target.plain (tree.Tree.named x tree.Trees.none there)) e at) k s)
 assign_performs c results z call d number x there e at k need target covered enough =
@@ -277,19 +254,31 @@ mutual
   statement_whole c st (stat.Statement.assign (stat.Target.field r start size) v at) k e = absurd (false≢true e)
   statement_whole c st (stat.Statement.assign (stat.Target.address x there) v at) k e = absurd (false≢true e)
   statement_whole c st (stat.Statement.labelled y at s) k e = absurd (false≢true e)
-  statement_whole c st (stat.Statement.if_test q s ss at) k e = absurd (false≢true e)
-  statement_whole c st (stat.Statement.while_true v s at) k e = absurd (false≢true e)
-  statement_whole c st (stat.Statement.until_true s v at) k e = absurd (false≢true e)
+  statement_whole c st (stat.Statement.if_test (stat.Test.condition v) s stat.Statements.none at) k e =
+      let two = both (is_covered c.scope st v k) (is_covered_statement c.scope st s k) e in
+      if_whole c st v s at k two.0 (statement_whole c st s k two.1)
+  statement_whole c st (stat.Statement.if_test (stat.Test.condition v) s (stat.Statements.and other stat.Statements.none) at) k e =
+      let two = both (is_covered c.scope st v k && is_covered_statement c.scope st s k) (is_covered_statement c.scope st other k) e in
+      let first = both (is_covered c.scope st v k) (is_covered_statement c.scope st s k) two.0 in
+      else_whole c st v s other at k first.0 (statement_whole c st s k first.1) (statement_whole c st other k two.1)
+  statement_whole c st (stat.Statement.if_test (stat.Test.condition v) s (stat.Statements.and other (stat.Statements.and more ss)) at) k e = absurd (false≢true e)
+  statement_whole c st (stat.Statement.if_test (stat.Test.code o) s ss at) k e = absurd (false≢true e)
+  statement_whole c st (stat.Statement.while_true v s at) k e =
+      let two = both (is_covered c.scope st v k) (is_covered_statement c.scope st s k) e in
+      loop_whole c st v s at k two.0 (statement_whole c st s k two.1)
+  statement_whole c st (stat.Statement.until_true s v at) k e =
+      let two = both (is_covered c.scope st v k) (is_covered_statement c.scope st s k) e in
+      repeat_whole c st s v at k two.0 (statement_whole c st s k two.1)
   statement_whole c st (stat.Statement.for_values y a b v s at) k e = absurd (false≢true e)
   statement_whole c st (stat.Statement.case_of v ss at) k e = absurd (false≢true e)
   statement_whole c st (stat.Statement.go_to y at) k e = absurd (false≢true e)
   statement_whole c st (stat.Statement.return at) k e = absurd (false≢true e)
   statement_whole c st (stat.Statement.assign_effect to v at) k e = absurd (false≢true e)
   statement_whole c st (stat.Statement.do_effect v at) k e = absurd (false≢true e)
-  statement_whole c st (stat.Statement.call y es at) k e = absurd (false≢true e)
+  statement_whole c st (stat.Statement.call y es at) k e = call_whole c st y es at k e
 
   -- nothing is due behind a list
-  list_clear : (c : Context) (st : Setting) (ss : Statements) (k : ℕ) → are_covered c.scope st ss k ≡ true → (l : ℕ) (ws : List Wanted)
+  pub list_clear : (c : Context) (st : Setting) (ss : Statements) (k : ℕ) → are_covered c.scope st ss k ≡ true → (l : ℕ) (ws : List Wanted)
       → due_after false (listed c ss k l ws).pieces ≡ false
   list_clear c st stat.Statements.none k e l ws = refl
   list_clear c st (stat.Statements.and s ss) k e l ws =
@@ -312,47 +301,64 @@ mutual
 
 mutual
   pub statement_performs : CoveredStatementsPerform
-  statement_performs c results z call d number stat.Statement.empty k need e enough = idle_performs z d k need
-  statement_performs c results z call d number (stat.Statement.block ss) k need e enough =
+  statement_performs c results z call d number stat.Statement.empty k need e enough may = idle_performs z d k need
+  statement_performs c results z call d number (stat.Statement.block ss) k need e enough may =
       let h = read_with c.scope results z.setting in
       blocks z d k need d (listed c ss k) (bears_among ss) (λ x s. run_from h call d number ss x k s) (λ s. run_all h call d number ss k s)
-      (none_borne c.scope z.setting ss k e) (list_performs c results z call d number ss k need e enough)
-  statement_performs c results z call d number (stat.Statement.assign (stat.Target.plain (tree.Tree.named x tree.Trees.none there)) v at) k need e enough =
+      (none_borne c.scope z.setting ss k e) (list_performs c results z call d number ss k need e enough may)
+  statement_performs c results z call d number (stat.Statement.assign (stat.Target.plain (tree.Tree.named x tree.Trees.none there)) v at) k need e enough may =
       let two = both (is_stored_name z.setting k (c.scope.names x) (c.scope.places x)) (is_covered c.scope z.setting v k) e in
       assign_performs c results z call d number x there v at k need two.0 two.1 (omega (arith, enough))
-  statement_performs c results z call d number (stat.Statement.assign (stat.Target.plain (tree.Tree.named x (tree.Trees.and j js) there)) v at) k need e enough = absurd (false≢true e)
-  statement_performs c results z call d number (stat.Statement.assign (stat.Target.plain (tree.Tree.number w)) v at) k need e enough = absurd (false≢true e)
-  statement_performs c results z call d number (stat.Statement.assign (stat.Target.plain (tree.Tree.wide w)) v at) k need e enough = absurd (false≢true e)
-  statement_performs c results z call d number (stat.Statement.assign (stat.Target.plain (tree.Tree.text bytes)) v at) k need e enough = absurd (false≢true e)
-  statement_performs c results z call d number (stat.Statement.assign (stat.Target.plain (tree.Tree.truth b)) v at) k need e enough = absurd (false≢true e)
-  statement_performs c results z call d number (stat.Statement.assign (stat.Target.plain (tree.Tree.address x es there)) v at) k need e enough = absurd (false≢true e)
-  statement_performs c results z call d number (stat.Statement.assign (stat.Target.plain (tree.Tree.unary o a there)) v at) k need e enough = absurd (false≢true e)
-  statement_performs c results z call d number (stat.Statement.assign (stat.Target.plain (tree.Tree.binary o a b there)) v at) k need e enough = absurd (false≢true e)
-  statement_performs c results z call d number (stat.Statement.assign (stat.Target.plain (tree.Tree.shift o a by there)) v at) k need e enough = absurd (false≢true e)
-  statement_performs c results z call d number (stat.Statement.assign (stat.Target.plain (tree.Tree.field a start size there)) v at) k need e enough = absurd (false≢true e)
-  statement_performs c results z call d number (stat.Statement.assign (stat.Target.plain (tree.Tree.transfer t a there)) v at) k need e enough = absurd (false≢true e)
-  statement_performs c results z call d number (stat.Statement.assign (stat.Target.plain (tree.Tree.bytes o a b count there)) v at) k need e enough = absurd (false≢true e)
-  statement_performs c results z call d number (stat.Statement.assign (stat.Target.field r start size) v at) k need e enough = absurd (false≢true e)
-  statement_performs c results z call d number (stat.Statement.assign (stat.Target.address x there) v at) k need e enough = absurd (false≢true e)
-  statement_performs c results z call d number (stat.Statement.labelled y at s) k need e enough = absurd (false≢true e)
-  statement_performs c results z call d number (stat.Statement.if_test q s ss at) k need e enough = absurd (false≢true e)
-  statement_performs c results z call d number (stat.Statement.while_true v s at) k need e enough = absurd (false≢true e)
-  statement_performs c results z call d number (stat.Statement.until_true s v at) k need e enough = absurd (false≢true e)
-  statement_performs c results z call d number (stat.Statement.for_values y a b v s at) k need e enough = absurd (false≢true e)
-  statement_performs c results z call d number (stat.Statement.case_of v ss at) k need e enough = absurd (false≢true e)
-  statement_performs c results z call d number (stat.Statement.go_to y at) k need e enough = absurd (false≢true e)
-  statement_performs c results z call d number (stat.Statement.return at) k need e enough = absurd (false≢true e)
-  statement_performs c results z call d number (stat.Statement.assign_effect to v at) k need e enough = absurd (false≢true e)
-  statement_performs c results z call d number (stat.Statement.do_effect v at) k need e enough = absurd (false≢true e)
-  statement_performs c results z call d number (stat.Statement.call y es at) k need e enough = absurd (false≢true e)
+  statement_performs c results z call d number (stat.Statement.assign (stat.Target.plain (tree.Tree.named x (tree.Trees.and j js) there)) v at) k need e enough may = absurd (false≢true e)
+  statement_performs c results z call d number (stat.Statement.assign (stat.Target.plain (tree.Tree.number w)) v at) k need e enough may = absurd (false≢true e)
+  statement_performs c results z call d number (stat.Statement.assign (stat.Target.plain (tree.Tree.wide w)) v at) k need e enough may = absurd (false≢true e)
+  statement_performs c results z call d number (stat.Statement.assign (stat.Target.plain (tree.Tree.text bytes)) v at) k need e enough may = absurd (false≢true e)
+  statement_performs c results z call d number (stat.Statement.assign (stat.Target.plain (tree.Tree.truth b)) v at) k need e enough may = absurd (false≢true e)
+  statement_performs c results z call d number (stat.Statement.assign (stat.Target.plain (tree.Tree.address x es there)) v at) k need e enough may = absurd (false≢true e)
+  statement_performs c results z call d number (stat.Statement.assign (stat.Target.plain (tree.Tree.unary o a there)) v at) k need e enough may = absurd (false≢true e)
+  statement_performs c results z call d number (stat.Statement.assign (stat.Target.plain (tree.Tree.binary o a b there)) v at) k need e enough may = absurd (false≢true e)
+  statement_performs c results z call d number (stat.Statement.assign (stat.Target.plain (tree.Tree.shift o a by there)) v at) k need e enough may = absurd (false≢true e)
+  statement_performs c results z call d number (stat.Statement.assign (stat.Target.plain (tree.Tree.field a start size there)) v at) k need e enough may = absurd (false≢true e)
+  statement_performs c results z call d number (stat.Statement.assign (stat.Target.plain (tree.Tree.transfer t a there)) v at) k need e enough may = absurd (false≢true e)
+  statement_performs c results z call d number (stat.Statement.assign (stat.Target.plain (tree.Tree.bytes o a b count there)) v at) k need e enough may = absurd (false≢true e)
+  statement_performs c results z call d number (stat.Statement.assign (stat.Target.field r start size) v at) k need e enough may = absurd (false≢true e)
+  statement_performs c results z call d number (stat.Statement.assign (stat.Target.address x there) v at) k need e enough may = absurd (false≢true e)
+  statement_performs c results z call d number (stat.Statement.labelled y at s) k need e enough may = absurd (false≢true e)
+  statement_performs c results z call d number (stat.Statement.if_test (stat.Test.condition v) s stat.Statements.none at) k need e enough may =
+      let two = both (is_covered c.scope z.setting v k) (is_covered_statement c.scope z.setting s k) e in
+      if_performs c results z call d number v s at k need two.0 (omega (arith, enough)) (statement_whole c z.setting s k two.1)
+      (statement_performs c results z call d (number + 1) s k need two.1 (omega (arith, enough)) may)
+  statement_performs c results z call d number (stat.Statement.if_test (stat.Test.condition v) s (stat.Statements.and other stat.Statements.none) at) k need e enough may =
+      let two = both (is_covered c.scope z.setting v k && is_covered_statement c.scope z.setting s k) (is_covered_statement c.scope z.setting other k) e in
+      let first = both (is_covered c.scope z.setting v k) (is_covered_statement c.scope z.setting s k) two.0 in
+      else_performs c results z call d number v s other at k need first.0 (omega (arith, enough)) (statement_whole c z.setting s k first.1)
+      (statement_whole c z.setting other k two.1) (statement_performs c results z call d (number + 1) s k need first.1 (omega (arith, enough)) may)
+      (statement_performs c results z call d (number + 1 + stops s) other k need two.1 (omega (arith, enough)) may)
+  statement_performs c results z call d number (stat.Statement.if_test (stat.Test.condition v) s (stat.Statements.and other (stat.Statements.and more ss)) at) k need e enough may = absurd (false≢true e)
+  statement_performs c results z call d number (stat.Statement.if_test (stat.Test.code o) s ss at) k need e enough may = absurd (false≢true e)
+  statement_performs c results z call d number (stat.Statement.while_true v s at) k need e enough may =
+      let two = both (is_covered c.scope z.setting v k) (is_covered_statement c.scope z.setting s k) e in
+      while_performs c results z call d number v s at k need two.0 (omega (arith, enough)) (statement_whole c z.setting s k two.1)
+      (statement_performs c results z call d number s k need two.1 (omega (arith, enough)) may)
+  statement_performs c results z call d number (stat.Statement.until_true s v at) k need e enough may =
+      let two = both (is_covered c.scope z.setting v k) (is_covered_statement c.scope z.setting s k) e in
+      until_performs c results z call d number s v at k need two.0 (omega (arith, enough)) (statement_whole c z.setting s k two.1)
+      (statement_performs c results z call d number s k need two.1 (omega (arith, enough)) may)
+  statement_performs c results z call d number (stat.Statement.for_values y a b v s at) k need e enough may = absurd (false≢true e)
+  statement_performs c results z call d number (stat.Statement.case_of v ss at) k need e enough may = absurd (false≢true e)
+  statement_performs c results z call d number (stat.Statement.go_to y at) k need e enough may = absurd (false≢true e)
+  statement_performs c results z call d number (stat.Statement.return at) k need e enough may = absurd (false≢true e)
+  statement_performs c results z call d number (stat.Statement.assign_effect to v at) k need e enough may = absurd (false≢true e)
+  statement_performs c results z call d number (stat.Statement.do_effect v at) k need e enough may = absurd (false≢true e)
+  statement_performs c results z call d number (stat.Statement.call y es at) k need e enough may = call_performs c results z call d number y es at k need e enough may
 
   pub list_performs : CoveredListsPerform
-  list_performs c results z call d number stat.Statements.none k need e enough = nothing_performs z d k need
-  list_performs c results z call d number (stat.Statements.and s ss) k need e enough =
+  list_performs c results z call d number stat.Statements.none k need e enough may = nothing_performs z d k need
+  list_performs c results z call d number (stat.Statements.and s ss) k need e enough may =
       let two = both (is_covered_statement c.scope z.setting s k) (are_covered c.scope z.setting ss k) e in
       let h = read_with c.scope results z.setting in
       lists_perform z d k need (statement c s k) (listed c ss k) (λ t. run h call d number s k t) (λ t. run_all h call d (number + stops s) ss k t)
       (λ l ws. closed_any false (statement c s k l ws).pieces ((statement_whole c z.setting s k two.0).closed l ws))
       (λ l ws. list_keeps c z.setting ss k two.1 l ws)
-      (statement_performs c results z call d number s k need two.0 (omega (arith, enough)))
-      (list_performs c results z call d (number + stops s) ss k need two.1 (omega (arith, enough)))
+      (statement_performs c results z call d number s k need two.0 (omega (arith, enough)) may)
+      (list_performs c results z call d (number + stops s) ss k need two.1 (omega (arith, enough)) may)

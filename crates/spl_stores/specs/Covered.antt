@@ -1,15 +1,18 @@
 -- Which statements are proved: those whose every part has a law. A further construct makes it larger.
-use Rattle.std.specs.Prelude.{ℕ, ◌&&◌, Bool, true, false, Option, Some}
+use Rattle.std.specs.Prelude.{ℕ, ◌&&◌, not, Bool, true, false, List, Option, Some}
+use Rattle.hp_word.specs.declared.intrinsics.Intrinsic.{Intrinsic}
+use Rattle.hp_word.specs.declared.intrinsics.Intrinsic.TheVariants as gate
 use Rattle.spl_tree.specs.Trees as tree
+use Rattle.spl_tree.specs.Trees.{Trees}
 use Rattle.spl_tree.specs.StatementTrees as stat
 use Rattle.spl_tree.specs.StatementTrees.{Statement, Statements, Target}
 use Rattle.spl_meaning.specs.Names as n
-use Rattle.spl_meaning.specs.Names.{Sort}
+use Rattle.spl_meaning.specs.Names.{Sort, intrinsic_named}
 use Rattle.spl_meaning.specs.Places.{Place}
 use Rattle.spl_meaning.specs.References.{Setting}
 use Rattle.spl_code.specs.Calls.{Scope}
 use Rattle.spl_values.specs.Reached.{is_word_kind}
-use Rattle.spl_values.specs.Covered.{has_reached, is_covered}
+use Rattle.spl_covered.specs.Covered.{has_reached, is_covered}
 
 -- a name on the left of :=, a simple variable or a parameter by value of one word, where it is reached
 abbrev pub is_stored_name : Setting → ℕ → Option Sort → Option Place → Bool
@@ -22,12 +25,36 @@ abbrev pub is_covered_target : Scope → Setting → Target → ℕ → Bool
 is_covered_target c st (stat.Target.plain (tree.Tree.named x tree.Trees.none at)) k = is_stored_name st k (c.names x) (c.places x)
 is_covered_target c st _ k = false
 
+-- the intrinsic of a name is TERMINATE, or QUIT
+abbrev pub is_terminate : Option Intrinsic → Bool
+is_terminate (Some gate.Terminate) = true
+is_terminate _ = false
+
+abbrev pub is_quit : Option Intrinsic → Bool
+is_quit (Some gate.Quit) = true
+is_quit _ = false
+
+-- a call by itself that ends the session, in no split mode: TERMINATE, or QUIT with a value that is covered
+abbrev pub is_covered_call : Scope → Setting → List ℕ → Option Sort → Trees → ℕ → Bool
+is_covered_call c st x (Some (n.intrinsic gate.Terminate)) tree.Trees.none k = not st.split && is_terminate (intrinsic_named x)
+is_covered_call c st x (Some (n.intrinsic gate.Quit)) (tree.Trees.and e tree.Trees.none) k =
+    not st.split && (is_quit (intrinsic_named x) && is_covered c st e k)
+is_covered_call c st x sort es k = false
+
 abbrev mutual
-  -- a statement, in a body with this setting and while k words wait: the empty one, assignments of what is covered, and blocks of such
+  -- A statement, in a body with this setting and while k words wait: the empty one, assignments of what is covered, blocks of such, IF, WHILE
+  -- and DO of such with a condition that is covered, and calls that end the session.
   pub is_covered_statement : Scope → Setting → Statement → ℕ → Bool
   is_covered_statement c st stat.Statement.empty k = true
   is_covered_statement c st (stat.Statement.block ss) k = are_covered c st ss k
   is_covered_statement c st (stat.Statement.assign to e at) k = is_covered_target c st to k && is_covered c st e k
+  is_covered_statement c st (stat.Statement.if_test (stat.Test.condition e) s stat.Statements.none at) k =
+      is_covered c st e k && is_covered_statement c st s k
+  is_covered_statement c st (stat.Statement.if_test (stat.Test.condition e) s (stat.Statements.and other stat.Statements.none) at) k =
+      is_covered c st e k && is_covered_statement c st s k && is_covered_statement c st other k
+  is_covered_statement c st (stat.Statement.while_true e s at) k = is_covered c st e k && is_covered_statement c st s k
+  is_covered_statement c st (stat.Statement.until_true s e at) k = is_covered c st e k && is_covered_statement c st s k
+  is_covered_statement c st (stat.Statement.call x es at) k = is_covered_call c st x (c.names x) es k
   is_covered_statement c st _ k = false
 
   -- a list of such

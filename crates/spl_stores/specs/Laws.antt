@@ -17,8 +17,9 @@ use Rattle.spl_code.specs.Stores.{stored}
 use Rattle.spl_statement_code.specs.Landings.{Context}
 use Rattle.spl_statement_code.specs.Statements.{idle, statement, listed}
 use Rattle.spl_follow.specs.Simulating.{Surroundings, Simulates, Performs, PerformsAll}
+use Rattle.spl_endings.specs.Gates.{GatesLead}
 use Rattle.spl_values.specs.Reached.{is_word_kind, is_reached, IsWhole}
-use Rattle.spl_values.specs.Laws.{read_with}
+use Rattle.spl_covered.specs.Laws.{read_with}
 use Rattle.spl_stores.specs.Covered.{is_covered_statement, are_covered}
 
 -- ---- constructs
@@ -43,14 +44,18 @@ BlocksPerform = (z : Surroundings) (d k need fuel : ℕ) (a : Part) (has : List 
 abbrev pub CoveredStatementsAreWhole : Type 0
 CoveredStatementsAreWhole = (c : Context) (st : Setting) (s : Statement) (k : ℕ) → is_covered_statement c.scope st s k ≡ true → IsWhole (statement c s k)
 
+-- What the calls of a body find around it: the intrinsics that its module wants.
+pub record MayCall (z : Surroundings) : Type 0 where
+  pub gates : GatesLead z.sites z.wants
+
 -- The code of a statement that is covered performs it, wherever it stands.
 abbrev pub CoveredStatementsPerform : Type 0
 CoveredStatementsPerform = (c : Context) (results : List ℕ → Option (Kind × Place)) (z : Surroundings) (call : Callee) (d number : ℕ) (st : Statement)
-    (k need : ℕ) → is_covered_statement c.scope z.setting st k ≡ true → statement_most c.scope.names st + 1 ≤ need
+    (k need : ℕ) → is_covered_statement c.scope z.setting st k ≡ true → statement_most c.scope.names st + 8 ≤ need → MayCall z
     → Performs z d k need (statement c st k) (λ s. run (read_with c.scope results z.setting) call d number st k s)
 
 -- and so does that of a list of such
 abbrev pub CoveredListsPerform : Type 0
 CoveredListsPerform = (c : Context) (results : List ℕ → Option (Kind × Place)) (z : Surroundings) (call : Callee) (d number : ℕ) (ss : Statements)
-    (k need : ℕ) → are_covered c.scope z.setting ss k ≡ true → statements_most c.scope.names ss + 1 ≤ need
+    (k need : ℕ) → are_covered c.scope z.setting ss k ≡ true → statements_most c.scope.names ss + 8 ≤ need → MayCall z
     → PerformsAll z d k need (listed c ss k) (λ s. run_all (read_with c.scope results z.setting) call d number ss k s)

@@ -1,0 +1,4 @@
+-- In reading order.
+pub mod PartLemmas
+pub mod ChoiceLemmas
+pub mod LoopLemmas

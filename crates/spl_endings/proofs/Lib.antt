@@ -1,0 +1,4 @@
+-- In reading order.
+pub mod WantLemmas
+pub mod GateLemmas
+pub mod CallLemmas
