@@ -16,7 +16,7 @@ use Rattle.spl_follow.specs.Simulating.{Surroundings}
 use Rattle.spl_follow.proofs.FollowLemmas.{weaken}
 use Rattle.spl_follow.proofs.RowLemmas.{shown}
 use Rattle.spl_followed.specs.Mains.{main_setting}
-use Rattle.spl_values.specs.Laws.{read_with}
+use Rattle.spl_covered.specs.Laws.{read_with}
 use Rattle.spl_stores.proofs.BlockLemmas.{landing_none}
 use Rattle.spl_stores.proofs.CoverLemmas.{none_borne, list_performs}
 use Rattle.spl_mains.specs.Laws.{CoveredMainBodiesFollow}
@@ -31,12 +31,12 @@ left_returns x leave s m to (to_label y) t n a = shown main_setting t n (min (x.
 
 -- its list is performed, and bears no label
 pub bodies_follow : CoveredMainBodiesFollow
-bodies_follow us b c z first leave l ws setting to here room covered stands front pays d s m begins =
+bodies_follow us b c z first leave l ws setting to here room covered stands front pays may d s m begins =
     let y : Surroundings = record z { setting = main_setting } in
     let h = read_with c.scope b.here.results main_setting in
     let call : Callee = calls (program_of us).procedures d b in
     let all = run_all h call d b.number b.statements 0 s in
-    let run = (list_performs c b.here.results y call d b.number b.statements 0 b.depth' covered room).does l ws first leave s m stands front pays begins in
+    let run = (list_performs c b.here.results y call d b.number b.statements 0 b.depth' covered room (record { gates = may.gates })).does l ws first leave s m stands front pays begins in
     let body = weaken z.ground z.rate 0 3 0 (tally s) m (Completes main_setting leave 0 s.now m) (Completes main_setting leave 0 s.now m)
     (Leaving main_setting z.exits 0 s.now m) (Returning main_setting leave 0 s.now m) all run (λ u t n a less. a) (left_returns z.exits leave s m to) in
     subst (λ (i : Here). Follows z.ground z.rate 0 3 0 (tally s) m (Completes main_setting leave 0 s.now m) (Returning main_setting leave 0 s.now m) (run_body i call d b.number b.statements s))

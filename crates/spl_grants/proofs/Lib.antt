@@ -1,0 +1,4 @@
+-- In reading order.
+pub mod StepLemmas
+pub mod PushLemmas
+pub mod GrantLemmas
