@@ -1,1 +1,3 @@
+-- In reading order.
 pub mod WayLemmas
+pub mod MainLemmas

@@ -28,7 +28,7 @@ use Rattle.mpe_segmenter.specs.Counts.{entries_in, sizes}
 use Rattle.mpe_segmenter.specs.Programs.{tables_of, part_words, program_words}
 use Rattle.mpe_segmenter.specs.Homes.{home_at}
 use Rattle.mpe_segmenter.specs.Whole.{is_resolved, IsWhole}
-use Rattle.mpe_segmenter.specs.Sites.{Site, Gate, label_at, label_site, site_of, no_entry, IsModule, module_entries, Links}
+use Rattle.mpe_segmenter.specs.Sites.{Site, Gate, label_at, local_site, label_site, site_of, no_entry, IsModule, module_entries, Links}
 use Rattle.mpe_segmenter.proofs.EntryLemmas.{length-owns}
 use Rattle.mpe_segmenter.proofs.HomeLemmas.{called_within}
 use Rattle.mpe_segmenter.proofs.FitLemmas.{fits_at}
@@ -72,6 +72,22 @@ leads_somewhere segments seg (External s entry) x is = by (s == 255) where
   by true = (gate entry, refl)
   by false = (body (word_of s (label_of (words_of segments s) entry)), refl)
 leads_somewhere segments seg (Bad w) x is = cc
+
+-- a label that leads to the gate leads to that entry of it
+gate_way : (segments : List (List ℕ)) (seg : ℕ) (l : Label) (entry : ℕ) → label_site segments seg l ≡ Some (Gate entry)
+    → way_of segments seg l ≡ Some (gate entry)
+gate_way segments seg (Local offset) entry is = cc
+gate_way segments seg (External s k) entry is = by (s == 255) is where
+  none : (l : Label) → local_site s l ≡ Some (Gate entry) → ⊥
+  none (Local offset) is = cc
+  none (External t k) is = cc
+  none (Bad w) is = cc
+
+  by : (c : Bool) → (if c then Some (Gate k) else local_site s (label_at segments s k)) ≡ Some (Gate entry)
+      → (if c then Some (gate k) else Some (body (word_of s (label_of (words_of segments s) k)))) ≡ Some (gate entry)
+  by true is = let same : k ≡ entry = cc in ap (λ (n : ℕ). Some (gate n)) same
+  by false is = absurd (none (label_at segments s k) is)
+gate_way segments seg (Bad w) entry is = cc
 
 -- ---- 2. entries
 
@@ -126,19 +142,33 @@ module _ (ps : List Part) (w : IsWhole ps) (seg : ℕ) (front : List Module) (m 
     by false g = let found = (site_laws.links ps w).wants seg front m back is index v there g in (found.0, found.1)
     by true g = (Gate (gate_of v.name.text.items), (site_laws.links ps w).gates seg front m back is index v there g)
 
-  want_leads : (index : ℕ) (v : Want) → slice_get m.wants.items index ≡ Some v
-      → (way : Way) × (entry_way (program_words ps) seg (module_entries front m back true index) ≡ Some way)
-  want_leads index v there =
+  -- the entry of a want is one of its segment's, so it leads where its label does
+  want_way : (index : ℕ) (v : Want) → slice_get m.wants.items index ≡ Some v
+      → entry_way (program_words ps) seg (module_entries front m back true index)
+      ≡ way_of (program_words ps) seg (label_at (program_words ps) seg (module_entries front m back true index))
+  want_way index v there =
       let among = want_in front m back index v there in
       let wanted : slice_get (all_wants is.part.modules) among.0 ≡ Some (wanted_of v) = ap (λ ms. slice_get (all_wants ms) among.0) is.among ∙ among.1 in
       let entry : module_entries front m back true index ≡ entry_of (table_of is.part.modules) (wanted_of v) =
       index_map (λ x. entry_of (table_of (front ++ m ∷ back)) (wanted_of x)) m.wants.items index v there ∙ ap (λ ms. entry_of (table_of ms) (wanted_of v)) (sym is.among) in
       let within = entry_within is.part.modules among.0 (wanted_of v) wanted in
       let some : 0 < entry_of (table_of is.part.modules) (wanted_of v) = omega arith in
-      let by = by_label (program_words ps) seg (module_entries front m back true index) (omega (arith, entry, some)) (omega (arith, entry, count_at, within)) in
+      (by_label (program_words ps) seg (module_entries front m back true index) (omega (arith, entry, some)) (omega (arith, entry, count_at, within))).0
+
+  want_leads : (index : ℕ) (v : Want) → slice_get m.wants.items index ≡ Some v
+      → (way : Way) × (entry_way (program_words ps) seg (module_entries front m back true index) ≡ Some way)
+  want_leads index v there =
       let site = site_there index v there in
       let way = leads_somewhere (program_words ps) seg (label_at (program_words ps) seg (module_entries front m back true index)) site.0 site.1 in
-      (way.0, by.0 ∙ way.1)
+      (way.0, want_way index v there ∙ way.1)
+
+  -- that of an intrinsic leads to the gate
+  pub gate_leads : (index : ℕ) (v : Want) → slice_get m.wants.items index ≡ Some v → v.gate ≡ true
+      → entry_way (program_words ps) seg (module_entries front m back true index) ≡ Some (gate (gate_of v.name.text.items))
+  gate_leads index v there g =
+      want_way index v there
+      ∙ gate_way (program_words ps) seg (label_at (program_words ps) seg (module_entries front m back true index)) (gate_of v.name.text.items)
+      ((site_laws.links ps w).gates seg front m back is index v there g)
 
   -- what leads somewhere leads where it is said to
   said : (o p : Option Way) (way : Way) → o ≡ Some way → p ≡ Some way → p ≡ Some (unwrap_or o (gate 0))

@@ -2,17 +2,21 @@
 use Rattle.std.specs.Prelude.{◌≡◌, ◌+◌, ℕ, Bool, true, false, List, length, Some, slice_get}
 use Rattle.std.specs.List.{list_all}
 use Rattle.spl_branch.specs.declared.pieces.Piece.{Piece}
+use Rattle.hp_program.specs.Programs.{words_of}
+use Rattle.hp_program.specs.Valid.{label_of}
 use Rattle.spl_branch.specs.declared.modules.Define.{Define}
+use Rattle.spl_branch.specs.declared.modules.Want.{Want}
 use Rattle.spl_branch.specs.declared.modules.Module.{Module}
 use Rattle.spl_branch.specs.Pieces.{is_indexed}
 use Rattle.spl_branch.specs.Modules.{sites}
 use Rattle.mpe_segmenter.specs.Names.{Part}
+use Rattle.mpe_segmenter.specs.Entries.{owned, gate_of}
 use Rattle.mpe_segmenter.specs.Counts.{sizes}
 use Rattle.mpe_segmenter.specs.Programs.{program_words}
 use Rattle.mpe_segmenter.specs.Whole.{IsWhole}
 use Rattle.mpe_segmenter.specs.Sites.{IsModule, module_entries}
 use Rattle.hp_leads.specs.Words.{entry_way, subroutine_way}
-use Rattle.spl_follow.specs.Doing.{body}
+use Rattle.spl_follow.specs.Doing.{gate, body}
 use Rattle.spl_sites.specs.Beginnings.{is_of_kind}
 use Rattle.spl_sites.specs.Grounds.{AllCallsLead}
 use Rattle.spl_ways.specs.Ways.{word_of, module_sites}
@@ -31,3 +35,15 @@ CallsLead = (ps : List Part) → IsWhole ps → (seg : ℕ) (front : List Module
     → list_all (is_indexed (length m.wants.items) (length m.defines.items)) xs ≡ true
     → AllCallsLead (program_words ps) seg (sites (sizes front) marks (module_entries front m back))
     (module_sites (program_words ps) seg (sizes front) marks (module_entries front m back)) xs
+
+-- The entry of a module's want for an intrinsic leads to that one's entry of the gate.
+abbrev pub GatesLead : Type 0
+GatesLead = (ps : List Part) → IsWhole ps → (seg : ℕ) (front : List Module) (m : Module) (back : List Module) → IsModule ps seg front m back
+    → (index : ℕ) (v : Want) → slice_get m.wants.items index ≡ Some v → v.gate ≡ true
+    → entry_way (program_words ps) seg (module_entries front m back true index) ≡ Some (gate (gate_of v.name.text.items))
+
+-- The entry of a main body, behind those of its module's defines, has the offset at which that starts.
+abbrev pub MainEntriesStart : Type 0
+MainEntriesStart = (ps : List Part) → IsWhole ps → (seg : ℕ) (front : List Module) (m : Module) (back : List Module) → IsModule ps seg front m back
+    → (offset : ℕ) → m.main ≡ Some offset
+    → label_of (words_of (program_words ps) seg) (1 + (owned front + length m.defines.items)) ≡ sizes front + offset

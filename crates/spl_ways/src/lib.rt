@@ -3,4 +3,4 @@
 
 mod laws;
 
-pub use laws::{define_entries_lead, module_calls_lead};
+pub use laws::{define_entries_lead, gate_calls_lead, main_entries_start, module_calls_lead};
