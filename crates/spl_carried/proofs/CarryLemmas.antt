@@ -1,0 +1,424 @@
+-- A program whose main body is covered follows the run of its units.
+use Rattle.std.proofs.Common.{◌≡◌, ℕ, zero, suc, ◌+◌, ◌-◌, ◌*◌, ◌<◌, ◌≤◌, Bool, true, false, List, [], ◌∷◌, ◌++◌, length, Option, Some, None, refl, sym, ap, subst, ◌∙◌, arith, inl}
+use Rattle.std.specs.Prelude.{◌==◌, ◌&&◌, ◌||◌, not, nat_eq, nat_le, nat_lt, slice_get, unwrap_or, option_map, codes, if◌then◌else◌}
+use Rattle.std.specs.List.{list_all}
+use Rattle.std.proofs.lemmas.Bool.{and_parts, eqb-true, ltb-true, leb-true, false≢true}
+use Rattle.hp_word.specs.declared.endings.Ending.TheVariants.{Running, Terminated}
+use Rattle.hp_word.specs.declared.intrinsics.Intrinsic.TheVariants as gate
+use Rattle.hp_instr.specs.declared.instruction.Instr.TheVariants as i
+use Rattle.hp_program.specs.declared.program.Program.{Program}
+use Rattle.hp_program.specs.Programs.{segments_of, words_of}
+use Rattle.hp_program.specs.Valid.{label_of}
+use Rattle.hp_session.specs.State.{Machine}
+use Rattle.hp_flat.specs.Views.{start_of}
+use Rattle.hp_steady.specs.Laws.{WordsAreNear}
+use Rattle.hp_steady.proofs.ProgramLaws.{words_near}
+use Rattle.spl_tree.specs.declared.expressions.Kind.{Kind}
+use Rattle.spl_meaning.specs.Names.{Names, or_else}
+use Rattle.spl_meaning.specs.Places.{Place}
+use Rattle.spl_meaning.specs.References.{Here}
+use Rattle.spl_meaning.specs.Tables.{Source}
+use Rattle.spl_meaning.specs.Bodies.{Body, main_body, program_of}
+use Rattle.spl_meaning.specs.Runs.{Seat}
+use Rattle.spl_branch.specs.declared.pieces.Piece.{Piece}
+use Rattle.spl_branch.specs.declared.pieces.Piece.TheVariants.{Mark, Call}
+use Rattle.spl_branch.specs.declared.modules.Module.{Module}
+use Rattle.spl_branch.specs.declared.buffer.Code.{Code}
+use Rattle.spl_branch.specs.Modules.{Finished}
+use Rattle.spl_code.specs.Parts.{Wanted, wants_of, wanted_place, with_wanted}
+use Rattle.spl_body_code.specs.Frames.{granted}
+use Rattle.spl_statement_code.specs.Statements.{listed}
+use Rattle.spl_scopes.specs.Entries.{main, Entry, module_entries}
+use Rattle.spl_scopes.specs.Scopes.{Placed, first_reached, placed_units, global_places, outer_body}
+use Rattle.spl_module_code.specs.Bodies.{is_called, seen_results, assigned_place, statements_scope, context_of}
+use Rattle.spl_module_code.specs.Modules.{holds_main, main_mark, module_written, IsCodeOf, IsModuleOf}
+use Rattle.mpe_segmenter.specs.Names.{Part, parts}
+use Rattle.mpe_segmenter.specs.Entries.{owned}
+use Rattle.mpe_segmenter.specs.Counts.{sizes, is_fitting}
+use Rattle.mpe_segmenter.specs.Programs.{program_words}
+use Rattle.mpe_segmenter.specs.Sites.{IsModule, module_entries as entries_of}
+use Rattle.mpe_segmenter.specs.Whole.{IsWhole}
+use Rattle.mpe_segmenter.proofs.FitLemmas.{fits_at}
+use Rattle.std.specs.Global.{Vec}
+use Rattle.std.proofs.lemmas.List.{append-nil, length-map}
+use Rattle.spl_branch.specs.declared.modules.Define.{Define}
+use Rattle.spl_branch.specs.declared.modules.Want.{Want}
+use Rattle.spl_branch.specs.Pieces.{is_indexed}
+use Rattle.spl_branch.specs.Modules.{define_of, sites as decoded}
+use Rattle.spl_branch.specs.Stands.{at_left}
+use Rattle.spl_code.specs.Parts.{Written}
+use Rattle.spl_meaning.specs.Laws.{IsFront}
+use Rattle.spl_complete_codes.proofs.Complete.{complete}
+use Rattle.spl_follow.specs.Spots.{Spot, spot, pos, on, Ground}
+use Rattle.spl_follow.specs.Standing.{Sites, Stands, due_after}
+use Rattle.spl_follow.specs.Following.{Rate}
+use Rattle.spl_follow.specs.Doing.{calling}
+use Rattle.spl_follow.specs.Simulating.{Surroundings}
+use Rattle.spl_stands.specs.Fitting.{placed}
+use Rattle.spl_sites.specs.Beginnings.{begins_well, is_of_kind}
+use Rattle.spl_sites.specs.Grounds.{ground_of, AllCallsLead}
+use Rattle.spl_sites.proofs.ProgramLemmas.{programs_stand}
+use Rattle.spl_ways.specs.Ways.{word_of, module_sites}
+use Rattle.spl_ways.proofs.WayLemmas.{calls_lead}
+use Rattle.spl_ways.proofs.MainLemmas.{main_starts}
+use Rattle.mpe_segmenter.specs.Programs.{main_from}
+use Rattle.mpe_segmenter.specs.Sites.{Links}
+use Rattle.spl_module_code.specs.Modules.{AreModules}
+use Rattle.spl_endings.specs.Gates.{Served, GatesLead}
+use Rattle.spl_endings.proofs.WantLemmas.{wanted_there, wanted_keeps}
+use Rattle.spl_endings.proofs.GateLemmas.{last_ends}
+use Rattle.spl_grants.proofs.GrantLemmas.{pieces_grant}
+use Rattle.spl_followed.specs.Mains.{MainFramed, MainStatementsFollow}
+use Rattle.spl_stores.proofs.CoverLemmas.{list_clear}
+use Rattle.spl_mains.proofs.MainLemmas.{bodies_follow}
+use Rattle.mpe_segmenter.specs.Faults.{first_fault}
+use Rattle.spl_piece_kinds.specs.Laws.{CodesHaveKinds}
+use Rattle.spl_sound_beginnings.specs.Laws.{SoundCodesBeginWell}
+use Rattle.spl_bounds.specs.Programs.{IsOf, ProgramsKeepBounds, DataWordsAreInitial}
+use Rattle.spl_followed.specs.Laws.{FollowedProgramsCarry}
+use Rattle.spl_carried.specs.Laws.{CoveredProgramsCarry}
+use Rattle.spl_carried.proofs.WholeLemmas.{whole_parts}
+use Rattle.spl_carried.proofs.MainLemmas.{IsIn, at_front, behind, in_all, MainThere, main_there, main_is}
+use Rattle.spl_carried.proofs.GateLemmas.{module_gates_lead}
+use Rattle.spl_carried.proofs.PieceLemmas.{MainPieces, main_pieces, MainStands, main_stands}
+use Rattle.spl_covered.specs.Laws.{read_with}
+use Rattle.spl_stores.specs.Covered.{are_covered}
+use Rattle.spl_followed.specs.Mains.{main_setting}
+use Rattle.spl_carries.specs.Segments.{initial_words}
+use Rattle.spl_carries.specs.Carries.{words_in, weight, MaySit}
+use Rattle.spl_followed.specs.Followed.{Followed}
+use Rattle.spl_followed.specs.Mains.{FramedProgramsFollow}
+use Rattle.spl_carried.specs.Covered.{main_count, is_covered_body, is_covered_unit, is_covered_program}
+
+-- ---- the scope of a main body
+
+-- in a main body what is assigned stands where it is read
+places_same : (at : List ℕ → Option Place) (names : Names) (x : List ℕ)
+    → or_else (option_map (λ (r : Kind × Place). r.1) (seen_results names (λ y. None) x)) (at x) ≡ at x
+places_same at names x = by (is_called (names x)) where
+  by : (b : Bool) → or_else (option_map (λ (r : Kind × Place). r.1) (if b then None else None)) (at x) ≡ at x
+  by true = refl
+  by false = refl
+
+places_equal : (at : List ℕ → Option Place) (names : Names)
+    → (λ (x : List ℕ). or_else (option_map (λ (r : Kind × Place). r.1) (seen_results names (λ y. None) x)) (at x)) ≡ at
+places_equal at names j x = places_same at names x j
+
+-- so it is read with the names and places with which its statements' code is made
+here_is : (es : List Entry) (p : Placed)
+    → (main_body (global_places p) p.unit).here
+    ≡ read_with (statements_scope es main (main_body (global_places p) p.unit)) (main_body (global_places p) p.unit).here.results main_setting
+here_is es p = ap (λ (at : List ℕ → Option Place). record { names = b.here.names; places = at; results = b.here.results; setting = main_setting })
+    (sym (places_equal b.here.places b.here.names)) where
+      b : Body
+      b = main_body (global_places p) p.unit
+
+-- ---- the module of a main body
+
+-- a module that has a main body is that of a unit which is no subprogram, in the segment of its main body
+record OfMain (unit : Placed) (number : ℕ) (offset : ℕ) (marks : ℕ → ℕ) : Type 0 where
+  whole : unit.unit.subprogram ≡ false
+  holds : holds_main unit unit.unit.tree.segment ≡ true
+  segment : unit.unit.tree.segment ≡ number
+  starts : offset ≡ marks (length (module_entries unit.unit unit.unit.tree.segment))
+
+not_true : (b : Bool) → not b ≡ true → b ≡ false
+not_true false e = refl
+not_true true e = absurd (false≢true e)
+
+some_same : (a b : ℕ) → Some a ≡ Some b → a ≡ b
+some_same a b e = ap (λ (o : Option ℕ). unwrap_or o 0) e
+
+of_main : (unit : Placed) (number offset : ℕ) (marks : ℕ → ℕ) → option_map marks (main_mark unit number) ≡ Some offset → OfMain unit number offset marks
+of_main unit number offset marks e = by (holds_main unit number) refl e where
+  by : (b : Bool) → holds_main unit number ≡ b
+      → option_map marks (if b then Some (length (module_entries unit.unit number)) else None) ≡ Some offset → OfMain unit number offset marks
+  by false h e = cc
+  by true h e =
+      let two = and_parts (not unit.unit.subprogram) (nat_eq unit.unit.tree.segment number) h in
+      let same = eqb-true unit.unit.tree.segment number two.1 in
+      record {
+        whole = not_true unit.unit.subprogram two.0;
+        holds = subst (λ (k : ℕ). holds_main unit k ≡ true) (sym same) h;
+        segment = same;
+        starts = sym (some_same (marks (length (module_entries unit.unit number))) offset e)
+            ∙ ap (λ (k : ℕ). marks (length (module_entries unit.unit k))) (sym same);
+      }
+
+-- the main body of such a unit
+outer_is : (p : Placed) → p.unit.subprogram ≡ false → outer_body p main ≡ Some (main_body (global_places p) p.unit)
+outer_is p whole = ap (λ (b : Bool). if b then None else Some (main_body (global_places p) p.unit)) whole
+
+-- ---- words
+
+-- a segment has no more words than all
+segment_words : (segments : List (List ℕ)) (seg : ℕ) → length (words_of segments seg) ≤ words_in segments
+segment_words [] seg = omega arith
+segment_words (s ∷ segments) zero = omega arith
+segment_words (s ∷ segments) (suc seg) = let rest = segment_words segments seg in omega (arith, rest)
+
+sizes_append : (front : List Module) (m : Module) (back : List Module) → sizes (front ++ m ∷ back) ≡ sizes front + (m.size + sizes back)
+sizes_append [] m back = omega arith
+sizes_append (x ∷ front) m back = let rest = sizes_append front m back in omega (arith, rest)
+
+-- a module is no longer than a segment that has it
+module_fits : (ps : List Part) (w : IsWhole ps) (seg : ℕ) (front : List Module) (m : Module) (back : List Module) → IsModule ps seg front m back
+    → m.size ≤ 16383
+module_fits ps w seg front m back is =
+    let f = fits_at ps seg is.part w.fitting is.there in
+    let words = f.words in
+    let all = ap sizes is.among in
+    let here = sizes_append front m back in
+    omega (arith, words, all, here)
+
+-- ---- a program of modules
+
+-- what is known of a program that is made of modules of units, and of the pieces of their code
+pub record MadeOf (us : List Source) (p : Program) (ms : List Module) : Type 0 where
+  pub are : AreModules us ms
+  pub whole : IsWhole (parts ms)
+  pub segments : segments_of p ≡ program_words (parts ms)
+  pub links : Links (parts ms) (segments_of p)
+  pub main : main_from 0 (parts ms) ≡ Some (p.main, p.entry)
+  pub kinds : (q : Placed) (g : ℕ) → list_all is_of_kind (module_written q g).pieces ≡ true
+  pub well : (q : Placed) (g : ℕ) → IsIn q (placed_units (first_reached us) us) → begins_well false (module_written q g).pieces ≡ true
+
+module _ (us : List Source) (p : Program) (ms : List Module) (f : MadeOf us p ms) (seg : ℕ) (front : List Module) (m : Module) (back : List Module)
+    (is : IsModule (parts ms) seg front m back) (unit : Placed) (there : IsIn unit (placed_units (first_reached us) us)) (name : List ℕ)
+    (of : IsModuleOf unit name unit.unit.tree.segment m) (whole : unit.unit.subprogram ≡ false) (holds : holds_main unit unit.unit.tree.segment ≡ true)
+    (covered : is_covered_body (module_entries unit.unit unit.unit.tree.segment) (main_body (global_places unit) unit.unit) ≡ true) where
+  abbrev es : List Entry
+  es = module_entries unit.unit unit.unit.tree.segment
+
+  abbrev body : Body
+  body = main_body (global_places unit) unit.unit
+
+  abbrev finished : Finished of.code m
+  finished = of.finished (module_fits (parts ms) f.whole seg front m back is)
+
+  abbrev ground : Ground
+  ground = ground_of p (words_near p) ms
+
+  abbrev sites : Sites
+  sites = module_sites (program_words (parts ms)) seg (sizes front) finished.marks (entries_of front m back)
+
+  abbrev wants : List Wanted
+  wants = wants_of of.code.wants.items
+
+  parts_of : MainPieces unit unit.unit.tree.segment body
+  parts_of = main_pieces unit unit.unit.tree.segment body holds (outer_is unit whole)
+
+  abbrev statements : Written
+  statements = listed (context_of es main body parts_of.table (length es)) body.statements 0 parts_of.marks parts_of.wants
+
+  abbrev index : ℕ
+  index = wanted_place (codes "TERMINATE") true statements.wants
+
+  abbrev start : Spot
+  start = placed seg (at_left (sizes front))
+
+  abbrev end : Spot
+  end = placed seg (at_left (sizes front + length m.words.items))
+
+  well : begins_well false of.code.pieces.items ≡ true
+  well = ap (λ (ps : List Piece). begins_well false ps) of.is.pieces ∙ f.well unit unit.unit.tree.segment there
+
+  kinds : list_all is_of_kind of.code.pieces.items ≡ true
+  kinds = ap (λ (ps : List Piece). list_all is_of_kind ps) of.is.pieces ∙ f.kinds unit unit.unit.tree.segment
+
+  indexed : list_all (is_indexed (length m.wants.items) (length m.defines.items)) of.code.pieces.items ≡ true
+  indexed =
+      ap (λ (k : ℕ). list_all (is_indexed k (length m.defines.items)) of.code.pieces.items) (ap (λ (w : Vec Want). length w.items) of.wants)
+      ∙ ap (λ (k : ℕ). list_all (is_indexed (length of.code.wants.items) k) of.code.pieces.items)
+      (ap (λ (ds : List Define). length ds) finished.defines ∙ length-map of.code.entries.items (define_of finished.marks))
+      ∙ (complete unit name unit.unit.tree.segment of.code of.is).calls
+
+  calls : AllCallsLead (segments_of p) seg (decoded (sizes front) finished.marks (entries_of front m back)) sites of.code.pieces.items
+  calls =
+      subst (λ (segments : List (List ℕ)). AllCallsLead segments seg (decoded (sizes front) finished.marks (entries_of front m back)) sites of.code.pieces.items)
+      (sym f.segments) (calls_lead (parts ms) f.whole seg front m back is finished.marks of.code.pieces.items kinds indexed)
+
+  module_stands : Stands ground sites (on start) of.code.pieces.items end
+  module_stands =
+      programs_stand p (words_near p) ms f.links seg front m back is of.code finished sites (λ l. refl) well kinds
+      (complete unit name unit.unit.tree.segment of.code of.is).pieces calls
+
+  room_fits : body.depth' < 65536
+  room_fits = ltb-true body.depth' 65536 (and_parts (nat_lt body.depth' 65536) (are_covered (statements_scope es main body) main_setting body.statements 0) covered).0
+
+  all_covered : are_covered (statements_scope es main body) main_setting body.statements 0 ≡ true
+  all_covered = (and_parts (nat_lt body.depth' 65536) (are_covered (statements_scope es main body) main_setting body.statements 0) covered).1
+
+  clear : due_after false statements.pieces ≡ false
+  clear = list_clear (context_of es main body parts_of.table (length es)) main_setting body.statements 0 all_covered parts_of.marks parts_of.wants
+
+  stands : MainStands ground sites (length es) (granted body.depth') statements.pieces index end
+  stands =
+      main_stands ground sites parts_of.before (length es) body.depth' statements.pieces index start end
+      (ap (λ (ps : List Piece). begins_well false ps) (sym parts_of.pieces) ∙ f.well unit unit.unit.tree.segment there) clear
+      (subst (λ (ps : List Piece). Stands ground sites (on start) ps end) (of.is.pieces ∙ parts_of.pieces) module_stands)
+
+  -- ---- rates
+
+  far : pos end ≤ weight p
+  far =
+      let within = (f.links.lies seg front m back is).within in
+      let few = segment_words (segments_of p) seg in
+      omega (arith, within, few)
+
+  abbrev rate : Rate
+  rate = record {
+    step = weight p;
+    reach = 8;
+    word = let rise = stands.call.rise in omega (arith, rise, far);
+    enough = omega arith;
+  }
+
+  -- ---- names
+
+  last : wants ≡ with_wanted (codes "TERMINATE") true statements.wants
+  last = of.is.wants ∙ parts_of.last
+
+  gates : GatesLead sites wants
+  gates =
+      subst (λ (ws : List Want). GatesLead sites (wants_of ws)) (ap (λ (w : Vec Want). w.items) of.wants)
+      (module_gates_lead (parts ms) f.whole seg front m back is finished.marks)
+
+  wanted : IsFront statements.wants wants
+  wanted = subst (λ (ws : List Wanted). IsFront statements.wants ws) (sym last) (wanted_keeps (codes "TERMINATE") true statements.wants)
+
+  serves : Served (sites.ways true index) gate.Terminate
+  serves =
+      gates index (codes "TERMINATE") gate.Terminate
+      (wanted_there (codes "TERMINATE") true statements.wants wants
+      (record { rest = []; is = last ∙ sym (append-nil (with_wanted (codes "TERMINATE") true statements.wants)) })) refl
+
+  -- ---- the main body
+
+  framed : MainFramed ground rate body.depth' (sites.marks (length es)) stands.first stands.leave
+  framed =
+      let entered = stands.entered in
+      let left = stands.left in
+      let within = stands.within in
+      record {
+        room = pieces_grant ground rate sites (sites.marks (length es)) stands.first body.depth' (omega arith) room_fits stands.room_stands;
+        paid = omega (arith, left, within, far);
+        behind = end;
+        stop = calling (i.Control 0 0) (sites.ways true index) end;
+        ends = stands.call;
+        stops = λ n split runs. last_ends (sites.ways true index) end n serves split runs;
+        last = omega (arith, far);
+      }
+
+  abbrev around : Surroundings
+  around = record {
+    ground = ground;
+    rate = rate;
+    sites = sites;
+    wants = wants;
+    setting = main_setting;
+    exits = record { target = λ e. stands.leave; held = λ e. 0 };
+  }
+
+  followed : MainStatementsFollow ground rate us body stands.first stands.leave
+  followed =
+      let within = stands.within in
+      bodies_follow us body (context_of es main body parts_of.table (length es)) around stands.first stands.leave parts_of.marks parts_of.wants refl refl
+      (here_is es unit) (omega arith) all_covered stands.statements_stand wanted (omega (arith, within, far)) (record { gates = gates })
+
+-- ---- the program
+
+-- a program whose main body is covered follows the run of its units, from each seat
+module _ (us : List Source) (p : Program) (ms : List Module) (f : MadeOf us p ms) (covered : is_covered_program us ≡ true) where
+  abbrev main_module : MainThere us ms p.main p.entry
+  main_module = main_there us ms p.main p.entry f.are f.main
+
+  abbrev main_unit : Placed
+  main_unit = main_module.of.unit
+
+  abbrev main_small : main_module.here.size ≤ 16383
+  main_small = module_fits (parts ms) f.whole p.main main_module.front main_module.here main_module.back main_module.is
+
+  -- a finished module of this unit has its main body at the mark behind those of its entries
+  main_mark_is : (g : ℕ) (of : IsModuleOf main_unit main_module.of.name g main_module.here)
+      → option_map (of.finished main_small).marks (main_mark main_unit g) ≡ Some main_module.offset
+  main_mark_is g of =
+      ap (λ (o : Option ℕ). option_map (of.finished main_small).marks o) (sym of.is.main) ∙ sym (of.finished main_small).main ∙ main_module.main
+
+  first_of : OfMain main_unit main_module.of.number main_module.offset (main_module.of.is.finished main_small).marks
+  first_of =
+      of_main main_unit main_module.of.number main_module.offset (main_module.of.is.finished main_small).marks
+      (main_mark_is main_module.of.number main_module.of.is)
+
+  in_segment : IsModuleOf main_unit main_module.of.name main_unit.unit.tree.segment main_module.here
+  in_segment = subst (λ (k : ℕ). IsModuleOf main_unit main_module.of.name k main_module.here) (sym first_of.segment) main_module.of.is
+
+  main_of : OfMain main_unit main_unit.unit.tree.segment main_module.offset (in_segment.finished main_small).marks
+  main_of =
+      of_main main_unit main_unit.unit.tree.segment main_module.offset (in_segment.finished main_small).marks
+      (main_mark_is main_unit.unit.tree.segment in_segment)
+
+  both_of : (main_count us ≡ 1) × (list_all is_covered_unit (placed_units (first_reached us) us) ≡ true)
+  both_of =
+      let two = and_parts (main_count us == 1) (list_all is_covered_unit (placed_units (first_reached us) us)) covered in
+      (eqb-true (main_count us) 1 two.0, two.1)
+
+  body_covered : is_covered_body (module_entries main_unit.unit main_unit.unit.tree.segment) (main_body (global_places main_unit) main_unit.unit) ≡ true
+  body_covered =
+      sym (ap (λ (b : Bool). b || is_covered_body (module_entries main_unit.unit main_unit.unit.tree.segment) (main_body (global_places main_unit) main_unit.unit)) main_of.whole)
+      ∙ in_all is_covered_unit main_unit (placed_units (first_reached us) us) main_module.of.there both_of.1
+
+  starts : start_of p ≡ sizes main_module.front + (in_segment.finished main_small).marks (length (module_entries main_unit.unit main_unit.unit.tree.segment))
+  starts =
+      ap (λ (segments : List (List ℕ)). label_of (words_of segments p.main) p.entry) f.segments
+      ∙ ap (λ (k : ℕ). label_of (words_of (program_words (parts ms)) p.main) k) main_module.place
+      ∙ main_starts (parts ms) f.whole p.main main_module.front main_module.here main_module.back main_module.is main_module.offset main_module.main
+      ∙ ap (λ (k : ℕ). sizes main_module.front + k) main_of.starts
+
+  pub program_follows : FramedProgramsFollow → p.globals.items ≡ initial_words us → (seat : Seat) → MaySit us seat → Followed p us seat
+  program_follows law globals seat sits =
+      let front = main_module.front in
+      let m = main_module.here in
+      let back = main_module.back in
+      let is = main_module.is in
+      let there = main_module.of.there in
+      let name = main_module.of.name in
+      law p us seat (ground us p ms f p.main front m back is main_unit there name in_segment main_of.whole main_of.holds body_covered)
+      (rate us p ms f p.main front m back is main_unit there name in_segment main_of.whole main_of.holds body_covered)
+      (body us p ms f p.main front m back is main_unit there name in_segment main_of.whole main_of.holds body_covered)
+      ((sites us p ms f p.main front m back is main_unit there name in_segment main_of.whole main_of.holds body_covered).marks
+      (length (module_entries main_unit.unit main_unit.unit.tree.segment)))
+      (stands us p ms f p.main front m back is main_unit there name in_segment main_of.whole main_of.holds body_covered).first
+      (stands us p ms f p.main front m back is main_unit there name in_segment main_of.whole main_of.holds body_covered).leave
+      refl (omega arith) globals sits (main_is us main_unit both_of.0 there main_of.whole)
+      (ap (λ (k : ℕ). word_of p.main k) starts)
+      (framed us p ms f p.main front m back is main_unit there name in_segment main_of.whole main_of.holds body_covered)
+      (followed us p ms f p.main front m back is main_unit there name in_segment main_of.whole main_of.holds body_covered)
+
+-- ---- all of it
+
+-- an element has a place
+place_of : {A : Type 0} (x : A) (xs : List A) → IsIn x xs → (k : ℕ) × (slice_get xs k ≡ Some x)
+place_of x [] k = elim k [ ]
+place_of x (y ∷ xs) (at_front e) = (0, ap (λ z. Some z) (sym e))
+place_of x (y ∷ xs) (behind k) = let r = place_of x xs k in (suc r.0, r.1)
+
+-- what is known of what modules of units make
+made_of : (us : List Source) (ms : List Module) (globals : List ℕ) (p : Program) → IsOf us ms globals p → first_fault ms ≡ None → CodesHaveKinds
+    → SoundCodesBeginWell → MadeOf us p ms
+made_of us ms globals p is none kinds well = record {
+  are = is.are_modules;
+  whole = whole_parts us ms is.are_modules none;
+  segments = is.makes.segments;
+  links = is.links;
+  main = is.makes.main;
+  kinds = kinds;
+  well = λ q g there. let at = place_of q (placed_units (first_reached us) us) there in well us is.spelled is.sound at.0 q at.1 g;
+}
+
+pub carried : CodesHaveKinds → SoundCodesBeginWell → ProgramsKeepBounds → DataWordsAreInitial → FramedProgramsFollow → FollowedProgramsCarry
+    → CoveredProgramsCarry
+carried kinds well bounds initial framed carry us ms globals p is numbers none laid covered =
+    let words = is.makes.data_words ∙ (initial us globals laid).1 in
+    carry p us (bounds us ms globals p is numbers) words
+    (program_follows us p ms (made_of us ms globals p is none kinds well) covered framed words)

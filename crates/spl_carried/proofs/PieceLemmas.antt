@@ -1,0 +1,155 @@
+-- The pieces of a main body, among those of its module, and where each part of them stands.
+use Rattle.std.proofs.Common.{◌≡◌, ℕ, suc, ◌+◌, ◌-◌, ◌/◌, ◌%◌, ◌<◌, ◌≤◌, Bool, true, false, List, [], ◌∷◌, ◌++◌, length, Option, Some, None, refl, sym, ap, subst, ◌∙◌, arith}
+use Rattle.std.specs.Prelude.{◌&&◌, ◌||◌, not, nat_lt, nat_eq, min, codes, if◌then◌else◌}
+use Rattle.std.proofs.lemmas.Bool.{and_parts, false≢true, ltb-true}
+use Rattle.hp_instr.specs.declared.instruction.Instr.TheVariants as i
+use Rattle.spl_tree.specs.DeclarationTrees.{declarations}
+use Rattle.spl_meaning.specs.Names.{Table}
+use Rattle.spl_meaning.specs.Bodies.{Body, main_body}
+use Rattle.spl_branch.specs.declared.pieces.Piece.{Piece}
+use Rattle.spl_branch.specs.declared.pieces.Piece.TheVariants.{Do, Literal, Place, Branch, Mark, Call, Begin}
+use Rattle.spl_code.specs.Constants.{constant}
+use Rattle.spl_code.specs.Instructions.{LDI, LDNI, LSL, ORI}
+use Rattle.spl_code.specs.Parts.{Part, Wanted, nothing, ◌⨟◌, wanted_place, with_wanted}
+use Rattle.spl_body_code.specs.Frames.{ROOM, granted}
+use Rattle.spl_statement_code.specs.Landings.{Landing}
+use Rattle.spl_statement_code.specs.Statements.{listed}
+use Rattle.spl_scopes.specs.Entries.{main, Entry, module_entries}
+use Rattle.spl_scopes.specs.Scopes.{Placed, global_places, outer_body}
+use Rattle.spl_module_code.specs.LabelsOfBodies.{Label, labels_among, with_landings}
+use Rattle.spl_module_code.specs.Bodies.{context_of, main_part}
+use Rattle.spl_module_code.specs.Modules.{declared_parts, holds_main, main_at, marks_before, module_written}
+use Rattle.spl_follow.specs.Spots.{Spot, spot, pos, Point, on, Ground, next_word, Real}
+use Rattle.spl_follow.specs.Leading.{Leads}
+use Rattle.spl_follow.specs.Doing.{calling}
+use Rattle.spl_follow.specs.Following.{Rate}
+use Rattle.spl_follow.specs.Rooms.{Grants}
+use Rattle.spl_follow.specs.Standing.{Sites, Stands, due_after, due_behind}
+use Rattle.spl_follow.proofs.PartLemmas.{stand_from_place}
+use Rattle.spl_follow.proofs.StandLemmas.{due_add}
+use Rattle.spl_sites.specs.Beginnings.{is_run, is_beginning, begins_well}
+use Rattle.spl_followed.specs.Mains.{main_setting}
+use Rattle.spl_stores.specs.Covered.{are_covered}
+use Rattle.spl_stores.proofs.CoverLemmas.{list_clear}
+
+-- ---- what is due
+
+-- what is due behind a piece, where pieces begin well from there on
+well_first : (due : Bool) (x : Piece) (ps : List Piece) → begins_well due (x ∷ ps) ≡ true
+    → (due_behind due x ≡ is_beginning x) × (begins_well (is_beginning x) ps ≡ true)
+well_first due (Do by) ps e = (refl, (and_parts true (begins_well false ps) e).1)
+well_first due (Branch by l) ps e = (refl, (and_parts true (begins_well false ps) e).1)
+well_first due (Call by wanted index) ps e = (refl, (and_parts true (begins_well false ps) e).1)
+well_first due (Begin at) ps e = (refl, (and_parts (not due) (begins_well true ps) e).1)
+well_first due (Literal v) ps e = (refl, (and_parts (not due) (begins_well false ps) e).1)
+well_first due (Place l) ps e = (refl, (and_parts (not due) (begins_well false ps) e).1)
+well_first due (Mark l) ps e =
+    let two = and_parts (not due) (begins_well false ps) e in (none due two.0, two.1) where
+      none : (b : Bool) → not b ≡ true → b ≡ false
+      none false e = refl
+      none true e = absurd (false≢true e)
+
+-- nothing is due at a mark, where pieces begin well
+pub clear_before : (due : Bool) (a b : List Piece) (l : ℕ) → begins_well due (a ++ Mark l ∷ b) ≡ true → due_after due a ≡ false
+clear_before due [] b l e = (well_first due (Mark l) b e).0
+clear_before due (x ∷ a) b l e =
+    let first = well_first due x (a ++ Mark l ∷ b) e in
+    ap (λ (d : Bool). due_after d a) first.0 ∙ clear_before (is_beginning x) a b l first.1
+
+-- nor behind the code that grants room
+granted_clear : (need : ℕ) → due_after false (granted need) ≡ false
+granted_clear need = by (nat_lt 0 need && nat_lt need 256) where
+  by : (b : Bool) → due_after false (if b then ROOM need ∷ [] else constant (min need 65535) ++ ROOM 0 ∷ []) ≡ false
+  by true = refl
+  by false = due_add false (constant (min need 65535)) (ROOM 0 ∷ [])
+
+-- ---- the pieces of a main body
+
+-- a part with marks for labels is that part with some table of them
+record Landed (part : Table Landing → Part) (made : Part) (l : ℕ) (ws : List Wanted) : Type 0 where
+  table : Table Landing
+  marks : ℕ
+  pieces : (made l ws).pieces ≡ (part table marks ws).pieces
+  wants : (made l ws).wants ≡ (part table marks ws).wants
+
+landed : (xs : List Label) (part : Table Landing → Part) (l : ℕ) (ws : List Wanted) → Landed part (with_landings xs part) l ws
+landed [] part l ws = record { table = []; marks = l; pieces = refl; wants = refl }
+landed (x ∷ xs) part l ws =
+    let entry : List ℕ × Landing = (x.name, record { mark = l; pending = x.pending }) in
+    let r = landed xs (λ t. part (entry ∷ t)) (suc l) ws in
+    record { table = entry ∷ r.table; marks = r.marks; pieces = r.pieces; wants = r.wants }
+
+-- The pieces of a module that holds a main body: others, the mark of the body's entry, its room, its statements, and the call that ends it.
+-- No name is wanted behind that.
+pub record MainPieces (p : Placed) (g : ℕ) (b : Body) : Type 0 where
+  pub before : List Piece
+  pub table : Table Landing
+  pub marks : ℕ
+  pub wants : List Wanted
+  pub pieces : (module_written p g).pieces
+      ≡ before ++ Mark (length (module_entries p.unit g)) ∷ ((granted b.depth' ++ (listed (context_of (module_entries p.unit g) main b table (length (module_entries p.unit g))) b.statements 0 marks wants).pieces)
+      ++ Call (i.Control 0 0) true (wanted_place (codes "TERMINATE") true (listed (context_of (module_entries p.unit g) main b table (length (module_entries p.unit g))) b.statements 0 marks wants).wants) ∷ [])
+  pub last : (module_written p g).wants ≡ with_wanted (codes "TERMINATE") true (listed (context_of (module_entries p.unit g) main b table (length (module_entries p.unit g))) b.statements 0 marks wants).wants
+
+pub main_pieces : (p : Placed) (g : ℕ) (b : Body) → holds_main p g ≡ true → outer_body p main ≡ Some b → MainPieces p g b
+main_pieces p g b holds is =
+    let es : List Entry = module_entries p.unit g in
+    let mark = length es in
+    let front = declared_parts p g 0 0 0 (declarations p.unit.tree.items) (marks_before p g) [] in
+    let l = marks_before p g + front.marks in
+    let call : List Wanted → List Piece = λ ws. Call (i.Control 0 0) true (wanted_place (codes "TERMINATE") true ws) ∷ [] in
+    let r = landed (labels_among b.statements 0) (λ labels. listed (context_of es main b labels mark) b.statements 0) (l + 0) front.wants in
+    let body : (if holds_main p g then main_at es (outer_body p main) else nothing) ≡ main_part es mark b =
+    ap (λ (c : Bool). if c then main_at es (outer_body p main) else nothing) holds ∙ ap (λ (o : Option Body). main_at es o) is in
+    record {
+      before = front.pieces;
+      table = r.table;
+      marks = r.marks;
+      wants = front.wants;
+      pieces = ap (λ (x : Part). front.pieces ++ (x l front.wants).pieces) body
+          ∙ ap (λ (ps : List Piece). front.pieces ++ Mark mark ∷ ((granted b.depth' ++ ps) ++ call (with_landings (labels_among b.statements 0) (λ labels. listed (context_of es main b labels mark) b.statements 0) (l + 0) front.wants).wants)) r.pieces
+          ∙ ap (λ (ws : List Wanted). front.pieces ++ Mark mark ∷ ((granted b.depth' ++ (listed (context_of es main b r.table mark) b.statements 0 r.marks front.wants).pieces) ++ call ws)) r.wants;
+      last = ap (λ (x : Part). (x l front.wants).wants) body ∙ ap (λ (ws : List Wanted). with_wanted (codes "TERMINATE") true ws) r.wants;
+    }
+
+-- ---- where they stand
+
+-- the parts of a main body stand one behind the other
+pub record MainStands (g : Ground) (w : Sites) (entry : ℕ) (room : List Piece) (statements : List Piece) (index : ℕ) (end : Spot) : Type 0 where
+  pub first : Spot
+  pub leave : Spot
+  pub room_stands : Stands g w (on (w.marks entry)) room first
+  pub statements_stand : Stands g w (on first) statements leave
+  pub call : Leads g (on leave) end (calling (i.Control 0 0) (w.ways true index) end)
+  pub entered : pos (w.marks entry) ≤ pos first
+  pub left : pos first ≤ pos leave
+  pub within : pos leave ≤ pos end
+
+pub main_stands : (g : Ground) (w : Sites) (before : List Piece) (entry need : ℕ) (statements : List Piece) (index : ℕ) (start end : Spot)
+    → begins_well false (before ++ Mark entry ∷ ((granted need ++ statements) ++ Call (i.Control 0 0) true index ∷ [])) ≡ true
+    → due_after false statements ≡ false
+    → Stands g w (on start) (before ++ Mark entry ∷ ((granted need ++ statements) ++ Call (i.Control 0 0) true index ∷ [])) end
+    → MainStands g w entry (granted need) statements index end
+main_stands g w before entry need statements index start end well clear stands =
+    let call : List Piece = Call (i.Control 0 0) true index ∷ [] in
+    let room = granted need in
+    let cut = stand_from_place g w before (Mark entry ∷ ((room ++ statements) ++ call)) start end (clear_before false before ((room ++ statements) ++ call) entry well) stands in
+    let marked = cut.2 in
+    let behind : due_after false (room ++ statements) ≡ false =
+    due_add false room statements ∙ ap (λ (d : Bool). due_after d statements) (granted_clear need) ∙ clear in
+    let inner = stand_from_place g w (room ++ statements) call cut.0 end behind marked.2 in
+    let parts = stand_from_place g w room statements cut.0 inner.0 (granted_clear need) inner.1 in
+    let last = inner.2 in
+    let from = parts.3 in
+    let to = parts.4 in
+    let at : pos (w.marks entry) ≡ pos cut.0 = ap pos marked.0 in
+    record {
+      first = parts.0;
+      leave = inner.0;
+      room_stands = subst (λ (p : Spot). Stands g w (on p) room parts.0) (sym marked.0) parts.1;
+      statements_stand = parts.2;
+      call = subst (λ (r : Spot). Leads g (on inner.0) r (calling (i.Control 0 0) (w.ways true index) r)) (ap (λ (x : Point). x.at) last.4) last.1;
+      entered = omega (arith, at, from);
+      left = to;
+      within = inner.4;
+    }

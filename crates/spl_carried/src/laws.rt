@@ -1,0 +1,19 @@
+//! The law of this crate, as the contract of a function that does nothing.
+ghost use Rattle.spl_carried.specs.Laws.{CoveredProgramsCarry};
+
+use spl_bounds::{data_words_are_initial, programs_keep_bounds};
+use spl_followed::{followed_programs_carry, main_bodies_follow};
+use spl_piece_kinds::modules_have_kinds;
+use spl_sound_beginnings::sound_units_begin_well;
+
+/// A program that is made of units whose main body is covered carries them.
+pub fn covered_programs_carry()
+    ensures { CoveredProgramsCarry }
+{
+    modules_have_kinds();
+    sound_units_begin_well();
+    programs_keep_bounds();
+    data_words_are_initial();
+    main_bodies_follow();
+    followed_programs_carry();
+}

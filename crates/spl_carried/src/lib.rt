@@ -1,0 +1,6 @@
+//! Programs whose main bodies are covered carry their units.
+#![tactic(auto)]
+
+mod laws;
+
+pub use laws::covered_programs_carry;
