@@ -94,7 +94,7 @@ record Fits (w : ℕ) (s : State) : Type 0 where
   sessions : length s.sessions ≤ 16
   each_session : Each (SeatFits (length s.programs)) s.sessions
 
-each_append : {X : Type 0} (P : X → Type 0) (xs ys : List X) → Each P xs → Each P ys → Each P (xs ++ ys)
+pub each_append : {X : Type 0} (P : X → Type 0) (xs ys : List X) → Each P xs → Each P ys → Each P (xs ++ ys)
 each_append P [] ys a b = b
 each_append P (x ∷ xs) ys a b = (a.0, each_append P xs ys a.1 b)
 
@@ -102,7 +102,7 @@ all_weaken : {X : Type 0} (P Q : X → Type 0) (xs : List X) → ((x : X) → P 
 all_weaken P Q [] f a = tt
 all_weaken P Q (x ∷ xs) f a = (f x a.0, all_weaken P Q xs f a.1)
 
-last_all : {X : Type 0} (P Q : X → Type 0) (f : X → X) (xs : List X) → ((x : X) → P x → Q x) → ((x : X) → P x → Q (f x)) → Each P xs → Each Q (at_last f xs)
+pub last_all : {X : Type 0} (P Q : X → Type 0) (f : X → X) (xs : List X) → ((x : X) → P x → Q x) → ((x : X) → P x → Q (f x)) → Each P xs → Each Q (at_last f xs)
 last_all P Q f [] g h a = tt
 last_all P Q f (x ∷ []) g h a = (h x a.0, tt)
 last_all P Q f (x ∷ y ∷ xs) g h a = (g x a.0, last_all P Q f (y ∷ xs) g h a.1)
@@ -120,7 +120,7 @@ units_longer w v p l k = record { few = k.few; short = longer w v p.units l k.sh
 
 seats_more : (m n : ℕ) (xs : List SeatValue) → m ≤ n → Each (SeatFits m) xs → Each (SeatFits n) xs
 seats_more m n xs l a =
-    all_weaken (SeatFits m) (SeatFits n) xs (λ x k. let t = k.program in record { program = omega (arith, l, t); stack = k.stack; extra = k.extra; room = k.room }) a
+    all_weaken (SeatFits m) (SeatFits n) xs (λ x k. let t = k.program in record { program = omega (arith, l, t); least_stack = k.least_stack; stack = k.stack; extra = k.extra; least_room = k.least_room; room = k.room }) a
 
 -- nothing new was said
 stays : (w v : ℕ) (s : State) → w ≤ v → Fits w s → Fits v s
@@ -158,7 +158,8 @@ after_unit_line w v line s l k = record {
 
 -- a terminal line
 seat_line_fits : (n : ℕ) (line : List ℕ) (x : SeatValue) → SeatFits n x → SeatFits n (with_terminal_line line x)
-seat_line_fits n line x k = record { program = k.program; stack = k.stack; extra = k.extra; room = k.room }
+seat_line_fits n line x k =
+    record { program = k.program; least_stack = k.least_stack; stack = k.stack; extra = k.extra; least_room = k.least_room; room = k.room }
 
 after_terminal_line : (w v : ℕ) (line : List ℕ) (s : State) → w ≤ v → Fits w s → Fits v (record s { sessions = at_last (with_terminal_line line) s.sessions })
 after_terminal_line w v line s l k = let t = stays w v s l k in record {
@@ -262,8 +263,23 @@ seat_opens n number sizes l h =
     let a = and_first (fits_if_given sz.Stack sizes.stack) (fits_if_given sz.Extra sizes.extra) both in
     let c = and_second (fits_if_given sz.Stack sizes.stack) (fits_if_given sz.Extra sizes.extra) both in
     let d = and_second (fits_if_given sz.Stack sizes.stack && fits_if_given sz.Extra sizes.extra) (fits_if_given sz.Print sizes.print) h in
-    record { program = l; stack = stack sizes.stack a; extra = extra sizes.extra c; room = room sizes.print d }
+    record {
+      program = l;
+      least_stack = least_stack sizes.stack a;
+      stack = stack sizes.stack a;
+      extra = extra sizes.extra c;
+      least_room = least_room sizes.print d;
+      room = room sizes.print d;
+    }
   where
+    least_stack : (o : Option ℕ) → fits_if_given sz.Stack o ≡ true → 64 ≤ unwrap_or o 1024
+    least_stack None h = omega arith
+    least_stack (Some n) h = between_at_least 64 32000 n h
+
+    least_room : (o : Option ℕ) → fits_if_given sz.Print o ≡ true → 1 ≤ unwrap_or o 16384
+    least_room None h = omega arith
+    least_room (Some n) h = between_at_least 1 1048576 n h
+
     stack : (o : Option ℕ) → fits_if_given sz.Stack o ≡ true → unwrap_or o 1024 ≤ 32000
     stack None h = omega arith
     stack (Some n) h = between_at_most 64 32000 n h

@@ -4,5 +4,6 @@ pub mod ReadingLemmas
 pub mod JobLaws
 pub mod AnswerLemmas
 pub mod FitLemmas
+pub mod LineBytes
 pub mod PrepLemmas
 pub mod KnownJobs

@@ -16,8 +16,10 @@ pub record ProgramFits (bytes : ℕ) (p : TextValue) : Type 0 where
 -- a session is of one of so many programs, and its sizes are within their limits
 pub record SeatFits (programs : ℕ) (s : SeatValue) : Type 0 where
   pub program : s.program < programs
+  pub least_stack : 64 ≤ s.stack
   pub stack : s.stack ≤ 32000
   pub extra : s.extra ≤ 32000
+  pub least_room : 1 ≤ s.room
   pub room : s.room ≤ 1048576
 
 -- a job that a text of so many bytes says

@@ -1,7 +1,9 @@
 -- The laws of job texts.
 use Rattle.std.specs.Prelude.{◌≡◌, ℕ, ◌⊎◌, Bool, true, List, [], length}
 use Rattle.job_text.specs.Jobs.{JobValue, JobIs, JobBreaks}
-use Rattle.job_text.specs.Fits.{JobFits}
+use Rattle.std.specs.List.{list_all}
+use Rattle.job_text.specs.States.{SeatValue}
+use Rattle.job_text.specs.Fits.{Each, JobFits}
 
 -- each text is a job or breaks a rule first at a line
 abbrev pub TextsAreRead : Type 0
@@ -26,3 +28,8 @@ JobsFit = (bytes : List ℕ) (prep : Bool) (job : JobValue) → JobIs bytes prep
 -- a job to be prepared has one program, and no session
 abbrev pub PreparedJobsAreSingle : Type 0
 PreparedJobsAreSingle = (bytes : List ℕ) (job : JobValue) → JobIs bytes true job → (length job.programs ≡ 1) × (job.sessions ≡ [])
+
+-- What holds of each byte of a text holds of each that the job's sessions are to be typed.
+abbrev pub LinesAreOfTexts : Type 0
+LinesAreOfTexts = (bytes : List ℕ) (prep : Bool) (job : JobValue) → JobIs bytes prep job → (holds : ℕ → Bool) → list_all holds bytes ≡ true
+    → Each (λ (s : SeatValue). list_all (λ line. list_all holds line) s.lines ≡ true) job.sessions

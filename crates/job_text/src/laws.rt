@@ -1,5 +1,5 @@
 //! Laws of job texts, each as the contract of a function that does nothing.
-ghost use Rattle.job_text.specs.Laws.{TextsAreRead, JobsBreakNothing, JobsAreUnique, FaultsAreUnique, JobsFit, PreparedJobsAreSingle};
+ghost use Rattle.job_text.specs.Laws.{TextsAreRead, JobsBreakNothing, JobsAreUnique, FaultsAreUnique, JobsFit, PreparedJobsAreSingle, LinesAreOfTexts};
 
 /// Each text is a job, or breaks a rule first at a line.
 pub fn texts_are_read()
@@ -29,4 +29,9 @@ pub fn jobs_fit()
 /// A job to be prepared has one program, and no session.
 pub fn prepared_jobs_are_single()
     ensures { PreparedJobsAreSingle }
+{}
+
+/// What sessions are to be typed are bytes of the text.
+pub fn lines_are_of_texts()
+    ensures { LinesAreOfTexts }
 {}

@@ -13,7 +13,7 @@ mod taking;
 pub use faults::JobFault;
 pub use job::{Job, Text};
 pub use laws::{
-    faults_are_unique, jobs_are_unique, jobs_break_nothing, jobs_fit, prepared_jobs_are_single,
-    texts_are_read,
+    faults_are_unique, jobs_are_unique, jobs_break_nothing, jobs_fit, lines_are_of_texts,
+    prepared_jobs_are_single, texts_are_read,
 };
 pub use reader::read_job;
