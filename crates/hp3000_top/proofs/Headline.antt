@@ -31,8 +31,14 @@ use Rattle.hp3000_top.specs.Programs.{IsWithin, IsMade, AreMade}
 use Rattle.hp3000_top.specs.Programs as p
 use Rattle.hp3000_top.specs.Causes.{Runs}
 use Rattle.hp3000_top.specs.Answers.{seat_of, IsAsAlone, EachIsAsAlone}
+use Rattle.std.specs.List.{list_all}
+use Rattle.spl_meaning.specs.Tables.{Source}
+use Rattle.job_text.proofs.LineBytes.{lines_of_texts}
+use Rattle.hp3000_top.specs.Carried.{is_byte, IsCovered, FollowsUnits}
+use Rattle.hp3000_top.proofs.CarriedSessions.{CoveredTextsCarry, SourceLaws, follows_units}
+use Rattle.hp3000_top.proofs.Loops.{each_slice}
 use Rattle.hp3000_top.proofs.ClosedJobs.{kept}
-use Rattle.hp3000_top.proofs.Unique.{thin_made}
+use Rattle.hp3000_top.proofs.Sureness.{thin_made}
 
 some_is : {A : Type 0} {x y : A} → Some x ≡ Some y → x ≡ y
 some_is {A} {x} {y} e = ap (from x) e
@@ -165,8 +171,29 @@ each_at bytes job made w v fit goes k value t r here of_text there unit thin =
     let is = thin_made t.units unit m.made_program thin m.is in
     subst (λ (x : SeatValue). IsAsAlone unit x r) s.is (as_alone t.units unit made m.made_program s.seat r thin is at l g)
 
-pub each_is_as_alone : (bytes : List ℕ) (job : JobValue) (made : List Program) (w : World) → Runs bytes job made w → EachIsAsAlone job w.runs
-each_is_as_alone bytes job made w v =
+-- each that is one of covered units follows the run of these
+each_follows : CoveredTextsCarry → (bytes : List ℕ) → list_all is_byte bytes ≡ true → (job : JobValue) (made : List Program) (w : World)
+    → (v : Runs bytes job made w) → Each (SeatFits (length made)) (map seat_value v.seats) → EachGoesOn (codes_of made) (opening job.memory v.seats made) w
+    → (k : ℕ) (value : SeatValue) (t : TextValue) (r : Run) → slice_get job.sessions k ≡ Some value → slice_get job.programs value.program ≡ Some t
+    → slice_get w.runs k ≡ Some r → (us : List Source) → IsCovered t.units us → FollowsUnits us value r
+each_follows law bytes small job made w v fit goes k value t r here of_text there us covered =
+    let s = seat_at v.seats k value (ap (λ xs. slice_get xs k) v.is.are_seats ∙ here) in
+    let m = made_at value.program t v.is.are_made of_text in
+    let at : slice_get made s.seat.program ≡ Some m.made_program = ap (λ (x : SeatValue). slice_get made x.program) s.is ∙ m.at in
+    let smalls = first_none (small_stack_from 0 made v.seats) (small_memory _ job.memory) v.opens in
+    let l = stack_holds 0 made v.seats k s.seat m.made_program smalls.0 s.at at in
+    let g = goes.each k (opening_run m.made_program s.seat) r (opened_at made v.seats k s.seat m.made_program fit s.at at) there in
+    let typed : Each (λ (x : SeatValue). list_all (λ line. list_all is_byte line) x.lines ≡ true) (map seat_value v.seats) =
+    subst (λ xs. Each (λ (x : SeatValue). list_all (λ line. list_all is_byte line) x.lines ≡ true) xs) (sym v.is.are_seats)
+    (lines_of_texts bytes false job v.is.is is_byte small) in
+    subst (λ (x : SeatValue). FollowsUnits us x r) s.is
+    (follows_units law (length made) t.units us m.made_program s.seat r covered m.is (each_slice (SeatFits (length made)) seat_value v.seats k s.seat fit s.at)
+    (each_slice (λ (x : SeatValue). list_all (λ line. list_all is_byte line) x.lines ≡ true) seat_value v.seats k s.seat typed s.at) l
+    (flat_run made m.made_program s.seat r at g))
+
+pub each_is_as_alone : SourceLaws → (bytes : List ℕ) → list_all is_byte bytes ≡ true → (job : JobValue) (made : List Program) (w : World)
+    → Runs bytes job made w → EachIsAsAlone job w.runs
+each_is_as_alone law bytes small job made w v =
     let fits = jobs_fit bytes false job v.is.is in
     let count : length made ≡ length job.programs = made_count v.is.are_made in
     let fit : Each (SeatFits (length made)) (map seat_value v.seats) =
@@ -177,4 +204,6 @@ each_is_as_alone bytes job made w v =
     record {
       count = goes.same_count ∙ opened_count made v.seats fit ∙ sym (length-map v.seats seat_value) ∙ ap length v.is.are_seats;
       each = each_at bytes job made w v fit goes;
+      follows = each_follows law.carry bytes small job made w v fit goes;
+      thin_too = λ texts unit w. law.thin w.thin.source unit w.thin.thin;
     }

@@ -3,7 +3,10 @@ pub mod Loops
 pub mod Making
 pub mod Copies
 pub mod LineLemmas
+pub mod Sureness
+pub mod Needs
 pub mod Unique
+pub mod CarriedSessions
 pub mod Headline
 pub mod Opening
 pub mod AnswerLemmas

@@ -23,6 +23,9 @@ use Rattle.hp3000_top.specs.Answers.{Over, Certain, IsWhole, Refuses, BreaksOff,
 use Rattle.hp3000_top.specs.Steps.{IsInput, IsAnswered, IsTaken, text_of, exit_of, made_by, ran_by}
 use Rattle.hp3000_top.specs.Steps as s
 use Rattle.hp3000_top.proofs.Unique.{crowded_cause, jobs_refuse, jobs_are_not_refused, prepared_not_sure, listed_no_cause, sure_same, done_no_cause}
+use Rattle.std.specs.List.{list_all}
+use Rattle.hp3000_top.proofs.CarriedSessions.{SourceLaws}
+use Rattle.hp3000_top.specs.Carried.{is_byte}
 use Rattle.hp3000_top.proofs.Headline.{each_is_as_alone}
 
 -- ---- what was written
@@ -164,29 +167,29 @@ done_so v left rest bytes a old new faults m0 m1 r0 r1 x r k (s.IsTaken.whole q 
     over_so (λ bs. DeliversOf v bs m1 r1 old new) v left rest bytes r (delivered v bytes a old new m0 m1 r0 r1 k (sym q ∙ w) t m d)
 done_so v left rest bytes a old new faults m0 m1 r0 r1 x r k (s.IsTaken.cut q t f m d) w = let n = sym q ∙ w in cc
 
-alone_of : (v : Verb) (bytes : List ℕ) (job : JobValue) (made : List Program) (w : World) (text : List ℕ) (old new : Option (List ℕ)) → Runs bytes job made w
+alone_of : SourceLaws → (v : Verb) (bytes : List ℕ) → list_all is_byte bytes ≡ true → (job : JobValue) (made : List Program) (w : World) (text : List ℕ) (old new : Option (List ℕ)) → Runs bytes job made w
     → text ≡ account_of v bytes job w → Appends old new text → ReportsAsAlone v bytes made old new
-alone_of v bytes job made w text old new k t p = record {
+alone_of law v bytes small job made w text old new k t p = record {
   job = job;
   world = w;
   runs = k;
-  each = each_is_as_alone bytes job made w k;
+  each = each_is_as_alone law bytes small job made w k;
   appends = subst (λ (t : List ℕ). Appends old new t) t p;
 }
 
-reported_alone : (v : Verb) (bytes : List ℕ) (job : JobValue) (made m1 : List Program) (w : World) (text : List ℕ) (old new : Option (List ℕ))
+reported_alone : SourceLaws → (v : Verb) (bytes : List ℕ) → list_all is_byte bytes ≡ true → (job : JobValue) (made m1 : List Program) (w : World) (text : List ℕ) (old new : Option (List ℕ))
     → Runs bytes job made w → text ≡ account_of v bytes job w → Appends old new text → m1 ≡ made → ReportsAsAlone v bytes m1 old new
-reported_alone v bytes job made m1 w text old new k t p m =
-    subst (λ (ms : List Program). ReportsAsAlone v bytes ms old new) (sym m) (alone_of v bytes job made w text old new k t p)
+reported_alone law v bytes small job made m1 w text old new k t p m =
+    subst (λ (ms : List Program). ReportsAsAlone v bytes ms old new) (sym m) (alone_of law v bytes small job made w text old new k t p)
 
-alone : (v : Verb) (bytes : List ℕ) (a : Answer) (old new : Option (List ℕ)) (m0 m1 : List Program) → RunsJobs v → IsAnswered bytes v a → exit_of a ≡ e.Done
+alone : SourceLaws → (v : Verb) (bytes : List ℕ) → list_all is_byte bytes ≡ true → (a : Answer) (old new : Option (List ℕ)) (m0 m1 : List Program) → RunsJobs v → IsAnswered bytes v a → exit_of a ≡ e.Done
     → Appends old new (text_of a) → m1 ≡ made_by a m0 → ReportsAsAlone v bytes m1 old new
-alone v bytes a old new m0 m1 is (s.IsAnswered.report {made = made} {monitor = monitor} {text = text} job runs k t) h p m =
-    reported_alone v bytes job made.items m1 (world_of monitor) text.items old new k t p m
-alone v bytes a old new m0 m1 is (s.IsAnswered.crowded need given runs t c) h p m = cc
-alone v bytes a old new m0 m1 is (s.IsAnswered.file job q k n f) h p m = absurd is
-alone v bytes a old new m0 m1 is (s.IsAnswered.listing q k t) h p m = absurd is
-alone v bytes a old new m0 m1 is (s.IsAnswered.refuses k c) h p m = cc
+alone law v bytes small a old new m0 m1 is (s.IsAnswered.report {made = made} {monitor = monitor} {text = text} job runs k t) h p m =
+    reported_alone law v bytes small job made.items m1 (world_of monitor) text.items old new k t p m
+alone law v bytes small a old new m0 m1 is (s.IsAnswered.crowded need given runs t c) h p m = cc
+alone law v bytes small a old new m0 m1 is (s.IsAnswered.file job q k n f) h p m = absurd is
+alone law v bytes small a old new m0 m1 is (s.IsAnswered.listing q k t) h p m = absurd is
+alone law v bytes small a old new m0 m1 is (s.IsAnswered.refuses k c) h p m = cc
 
 -- an answer that ends done was taken whole
 taken_done : (a : Answer) (old new : Option (List ℕ)) (faults : Type 0) (m0 m1 : List Program) (r0 r1 : Option Ran) (x : Exit)
@@ -194,20 +197,20 @@ taken_done : (a : Answer) (old new : Option (List ℕ)) (faults : Type 0) (m0 m1
 taken_done a old new faults m0 m1 r0 r1 x (s.IsTaken.whole q t m d) w = (sym q ∙ w, t, m)
 taken_done a old new faults m0 m1 r0 r1 x (s.IsTaken.cut q t f m d) w = let n = sym q ∙ w in cc
 
-run_headline : (v : Verb) (left rest : Option (List ℕ)) (bytes : List ℕ) (a : Answer) (old new : Option (List ℕ)) (faults : Type 0) (m0 m1 : List Program) (r0 r1 : Option Ran) (x : Exit)
+run_headline : SourceLaws → (v : Verb) (left rest : Option (List ℕ)) (bytes : List ℕ) → list_all is_byte bytes ≡ true → (a : Answer) (old new : Option (List ℕ)) (faults : Type 0) (m0 m1 : List Program) (r0 r1 : Option Ran) (x : Exit)
     → RunsJobs v → IsInput 1048576 v left rest bytes → IsAnswered bytes v a → IsTaken a old new faults m0 m1 r0 r1 x → x ≡ e.Done
     → Over v left (λ bs. ReportsAsAlone v bs m1 old new)
-run_headline v left rest bytes a old new faults m0 m1 r0 r1 x is r k u w =
+run_headline law v left rest bytes small a old new faults m0 m1 r0 r1 x is r k u w =
     let d = taken_done a old new faults m0 m1 r0 r1 x u w in
-    over_so (λ bs. ReportsAsAlone v bs m1 old new) v left rest bytes r (alone v bytes a old new m0 m1 is k d.0 d.1 d.2)
+    over_so (λ bs. ReportsAsAlone v bs m1 old new) v left rest bytes r (alone law v bytes small a old new m0 m1 is k d.0 d.1 d.2)
 
-pub headline_so : (v : Verb) (left rest : Option (List ℕ)) (bytes : List ℕ) (a : Answer) (old new : Option (List ℕ)) (faults : Type 0) (m0 m1 : List Program) (r0 r1 : Option Ran) (x : Exit)
+pub headline_so : SourceLaws → (v : Verb) (left rest : Option (List ℕ)) (bytes : List ℕ) → list_all is_byte bytes ≡ true → (a : Answer) (old new : Option (List ℕ)) (faults : Type 0) (m0 m1 : List Program) (r0 r1 : Option Ran) (x : Exit)
     → IsInput 1048576 v left rest bytes → IsAnswered bytes v a → IsTaken a old new faults m0 m1 r0 r1 x → x ≡ e.Done → AreAsAlone (Some v) left m1 old new
-headline_so verb.Run left rest bytes a old new faults m0 m1 r0 r1 x r k u w = run_headline verb.Run left rest bytes a old new faults m0 m1 r0 r1 x tt r k u w
-headline_so (verb.Gen n) left rest bytes a old new faults m0 m1 r0 r1 x r k u w =
-    run_headline (verb.Gen n) left rest bytes a old new faults m0 m1 r0 r1 x tt r k u w
-headline_so verb.Prep left rest bytes a old new faults m0 m1 r0 r1 x r k u w = tt
-headline_so verb.List left rest bytes a old new faults m0 m1 r0 r1 x r k u w = tt
+headline_so law verb.Run left rest bytes small a old new faults m0 m1 r0 r1 x r k u w = run_headline law verb.Run left rest bytes small a old new faults m0 m1 r0 r1 x tt r k u w
+headline_so law (verb.Gen n) left rest bytes small a old new faults m0 m1 r0 r1 x r k u w =
+    run_headline law (verb.Gen n) left rest bytes small a old new faults m0 m1 r0 r1 x tt r k u w
+headline_so law verb.Prep left rest bytes small a old new faults m0 m1 r0 r1 x r k u w = tt
+headline_so law verb.List left rest bytes small a old new faults m0 m1 r0 r1 x r k u w = tt
 
 -- what bytes come to is one thing
 surely_done : (v : Verb) (bytes : List ℕ) (a : Answer) → IsAnswered bytes v a → IsSurelyDoneOf v bytes → exit_of a ≡ e.Done

@@ -1,8 +1,9 @@
 -- What is certain of bytes comes to one thing: a line that refuses them, or a job that runs.
-use Rattle.std.proofs.Common.{◌≡◌, ℕ, true, false, List, [], ◌∷◌, Option, None, Some, Result, Ok, Err, sym, ap, subst, ◌∙◌}
+use Rattle.std.proofs.Common.{◌≡◌, ℕ, true, false, ◌+◌, ◌≤◌, List, [], ◌∷◌, map, Option, None, Some, Result, Ok, Err, sym, ap, subst, ◌∙◌}
 use Rattle.hp_program.specs.declared.program.Program.{Program}
 use Rattle.job_text.specs.Jobs.{JobValue, JobIs, JobBreaks}
-use Rattle.job_text.specs.States.{TextValue}
+use Rattle.job_text.specs.States.{TextValue, SeatValue}
+use Rattle.job_text.specs.Views.{seat_value}
 use Rattle.job_text.proofs.JobLaws.{jobs_are_unique, jobs_break_nothing, faults_are_unique}
 use Rattle.job_report.specs.Refusals.{job_refused, memory_refused}
 use Rattle.mpe_progfile.specs.declared.faults.FileFault.{FileFault}
@@ -34,111 +35,14 @@ use Rattle.hp3000_top.specs.declared.verbs.Verb.{Verb}
 use Rattle.hp3000_top.specs.declared.verbs.Verb.TheVariants as verb
 use Rattle.hp3000_top.specs.Causes.{RunsJobs, IsJob, Cause, SureCause, Runs, open_line, IsPrepared, Unprepared, SurelyUnprepared, Unlisted, CauseOf, SureCauseOf, file_line}
 use Rattle.hp3000_top.specs.Causes as c
-use Rattle.hp3000_top.specs.Answers.{IsCrowded, IsSurelyCrowded, IsSurelyDoneOf}
+use Rattle.hp3000_top.specs.Answers.{IsCrowded, IsSurelyCrowded, SurelyRuns, IsSurelyDoneOf}
+use Rattle.hp3000_top.specs.Answers as an
 use Rattle.hp3000_top.specs.Steps.{IsCopy, AreCopies, IsOfStack}
 use Rattle.hp3000_top.specs.Steps as s
 use Rattle.hp3000_top.proofs.Copies.{same_refusal}
-
-some_is : {A : Type 0} {x y : A} → Some x ≡ Some y → x ≡ y
-some_is {A} {x} {y} e = ap (from x) e
-  where
-    from : A → Option A → A
-    from z None = z
-    from z (Some w) = w
-
--- ---- programs
-
-one_source : (x y : Source) → x ∷ [] ≡ y ∷ [] → x ≡ y
-one_source x y e = cc
-
-thin_same : (texts : List (List ℕ)) (a b : u.Unit) → IsThin texts a → IsThin texts b → a ≡ b
-thin_same texts a b v w =
-    let same : v.source ≡ w.source = one_source v.source w.source (programs_unique texts (v.source ∷ []) (w.source ∷ []) v.program w.program) in
-    some_is (sym v.thin ∙ ap (λ (s : Source). thin_in s.subprogram s.segments s.tree) same ∙ w.thin)
-
-within_not_beyond : (texts : List (List ℕ)) (unit : u.Unit) (us : List Source) → IsWithin texts unit → IsBeyond texts us → ⊥
-within_not_beyond texts unit us v w = let n = sym v.fits ∙ w.beyond unit v.thin in cc
-
--- what is made of a thin unit within its bounds is its program
-pub thin_made : (texts : List (List ℕ)) (unit : u.Unit) (q : Program) → IsWithin texts unit → IsMade texts q → IsMadeOf unit.names unit.statements q
-thin_made texts unit q v (p.IsMade.thin other w m) = subst (λ (t : u.Unit). IsMadeOf t.names t.statements q) (thin_same texts other unit w.thin v.thin) m
-thin_made texts unit q v (p.IsMade.built us w b) = absurd (within_not_beyond texts unit us v w)
-
-made_same : (texts : List (List ℕ)) (unit : u.Unit) (a b : Program) → IsWithin texts unit → IsMade texts a → IsMade texts b → IsCopy a b
-made_same texts unit a b k v w =
-    let m = thin_made texts unit a k v in
-    let n = thin_made texts unit b k w in
-    record {
-      segments = n.segments ∙ sym m.segments;
-      main = n.main ∙ sym m.main;
-      entry = n.entry ∙ sym m.entry;
-      globals = n.globals ∙ sym m.globals;
-    }
-
-all_made_same : {ts : List TextValue} {xs ys : List Program} → AreWithin ts → AreMade ts xs → AreMade ts ys → AreCopies xs ys
-all_made_same p.AreWithin.none p.AreMade.none p.AreMade.none = s.AreCopies.none
-all_made_same (p.AreWithin.more {t = t} unit k ks) (p.AreMade.more {p = a} v vs) (p.AreMade.more {p = b} w ws) =
-    s.AreCopies.more (made_same t.units unit a b k v w) (all_made_same ks vs ws)
-
-within_not_refused : (t : TextValue) (unit : u.Unit) (line : List ℕ) → IsWithin t.units unit → IsRefused t line → ⊥
-within_not_refused t unit line v (faulty {f = f} w) = program_has_none t.units (v.thin.source ∷ []) f v.thin.program w
-within_not_refused t unit line v (unlinked us w x) = within_not_beyond t.units unit us v w
-
-fault_not_made : (t : TextValue) (f : ProgramFault) (q : Program) → IsFault t.units f → IsMade t.units q → ⊥
-fault_not_made t f q v (p.IsMade.thin unit w m) = program_has_none t.units (w.thin.source ∷ []) f w.thin.program v
-fault_not_made t f q v (p.IsMade.built us w b) = program_has_none t.units us f w.program v
-
-fault_same : (t : TextValue) (f : ProgramFault) (line : List ℕ) → IsFault t.units f → IsRefused t line → fault_line t.name f ≡ line
-fault_same t f line v (faulty {f = g} w) = ap (fault_line t.name) (faults_are_one t.units f g v w)
-fault_same t f line v (unlinked us w x) = absurd (program_has_none t.units us f w.program v)
-
-within_not_first : {ts : List TextValue} {line : List ℕ} → AreWithin ts → FirstRefused ts line → ⊥
-within_not_first p.AreWithin.none w = elim w [ ]
-within_not_first (p.AreWithin.more {t = t} unit k ks) (p.FirstRefused.here {line = line} w) = within_not_refused t unit line k w
-within_not_first (p.AreWithin.more unit k ks) (p.FirstRefused.behind q w ws) = within_not_first ks ws
-
--- texts are of one list of units
-same_units : (texts : List (List ℕ)) (us vs : List Source) → IsBeyond texts us → IsBeyond texts vs → us ≡ vs
-same_units texts us vs k h = programs_unique texts us vs k.program h.program
-
-within_rules : (texts : List (List ℕ)) (us : List Source) → IsBeyond texts us → l.KeepRules us
-within_rules texts us k = record { sound = k.program.sound; spelled = all_spelled k.program.spell.cut k.program.spell.units; limits = k.program.within }
-
-sure_not_refused : (t : TextValue) (line : List ℕ) → IsSure t → IsRefused t line → ⊥
-sure_not_refused t line (p.IsSure.is_thin unit k) w = within_not_refused t unit line k w
-sure_not_refused t line (p.IsSure.is_linkable us k h) (faulty {f = f} w) = program_has_none t.units us f k.program w
-sure_not_refused t line (p.IsSure.is_linkable us k h) (unlinked {f = f} vs w x) =
-    none_told us f (within_rules t.units us k) h (subst (λ (ys : List Source). IsUnlinked ys f) (same_units t.units vs us w k) x)
-
-sure_not_first : {ts : List TextValue} {line : List ℕ} → AreSure ts → FirstRefused ts line → ⊥
-sure_not_first p.AreSure.none w = elim w [ ]
-sure_not_first (p.AreSure.more {t = t} k ks) (p.FirstRefused.here {line = line} w) = sure_not_refused t line k w
-sure_not_first (p.AreSure.more k ks) (p.FirstRefused.behind q w ws) = sure_not_first ks ws
-
--- a fault of modules that counts no words is that of all modules of the units
-unlinkable_not_made : (t : TextValue) (us : List Source) (f : PrepFault) (q : Program) → IsBeyond t.units us → IsUnlinked us f → tells_words f ≡ false → IsMade t.units q → ⊥
-unlinkable_not_made t us f q k x e (p.IsMade.thin unit w m) = within_not_beyond t.units unit us w k
-unlinkable_not_made t us f q k x e (p.IsMade.built vs w b) =
-    none_built us f q e x (subst (λ (ys : List Source). IsBuilt ys q) (same_units t.units vs us w k) b)
-
-unlinkable_same : (t : TextValue) (us : List Source) (f : PrepFault) (line : List ℕ) → IsBeyond t.units us → IsUnlinked us f → tells_words f ≡ false → IsRefused t line
-    → link_line t.name f ≡ line
-unlinkable_same t us f line k x e (faulty {f = g} w) = absurd (program_has_none t.units us g k.program w)
-unlinkable_same t us f line k x e (unlinked {f = g} vs w y) =
-    ap (link_line t.name) (sym (one_told us f g e x (subst (λ (ys : List Source). IsUnlinked ys g) (same_units t.units vs us w k) y)))
-
-first_not_made : {ts : List TextValue} {xs : List Program} {line : List ℕ} → FirstFaulty ts line → AreMade ts xs → ⊥
-first_not_made (p.FirstFaulty.here {t = t} {f = f} v) (p.AreMade.more {p = q} w ws) = fault_not_made t f q v w
-first_not_made (p.FirstFaulty.unlinkable {t = t} {f = f} us k x e) (p.AreMade.more {p = q} w ws) = unlinkable_not_made t us f q k x e w
-first_not_made (p.FirstFaulty.behind k ks) (p.AreMade.more w ws) = first_not_made ks ws
-
-first_same : {ts : List TextValue} {a b : List ℕ} → FirstFaulty ts a → FirstRefused ts b → a ≡ b
-first_same (p.FirstFaulty.here {t = t} {f = f} v) (p.FirstRefused.here {line = b} w) = fault_same t f b v w
-first_same (p.FirstFaulty.here {t = t} {f = f} v) (p.FirstRefused.behind q w ws) = absurd (fault_not_made t f q v w)
-first_same (p.FirstFaulty.unlinkable {t = t} {f = f} us k x e) (p.FirstRefused.here {line = b} w) = unlinkable_same t us f b k x e w
-first_same (p.FirstFaulty.unlinkable {t = t} {f = f} us k x e) (p.FirstRefused.behind q w ws) = absurd (unlinkable_not_made t us f q k x e w)
-first_same (p.FirstFaulty.behind {t = t} k ks) (p.FirstRefused.here {line = b} w) = absurd (sure_not_refused t b k w)
-first_same (p.FirstFaulty.behind k ks) (p.FirstRefused.behind q w ws) = first_same ks ws
+use Rattle.hp3000_top.specs.Needs.{Need, AllNeed, first_small, held_words, most_needed, SurelyOpens}
+use Rattle.hp3000_top.proofs.Sureness.{some_is, all_made_same, within_not_first, sure_not_first, first_not_made, first_same}
+use Rattle.hp3000_top.proofs.Needs.{all_fit, all_sure, smalls_same, opens_so, stacks_refuse}
 
 -- ---- jobs
 
@@ -162,6 +66,28 @@ open_same bytes a b made other xs ys k v w =
     ap (λ m. refusal m ys other) (ap (λ (j : JobValue). j.memory) same)
     ∙ same_refusal a.memory xs ys (all_made_same k v.are_made (subst (λ (j : JobValue). AreMade j.programs other) same w.are_made))
     (v.are_seats ∙ ap (λ (j : JobValue). j.sessions) (sym same) ∙ sym w.are_seats)
+
+-- nor on which programs are made of texts that no line refuses
+sure_not_first_of : (bytes : List ℕ) (a b : JobValue) (line : List ℕ) → JobIs bytes false a → AreSure a.programs → JobIs bytes false b
+    → FirstRefused b.programs line → ⊥
+sure_not_first_of bytes a b line v vs w ws = sure_not_first vs (subst (λ (j : JobValue). FirstRefused j.programs line) (same_job bytes b a w v) ws)
+
+stacks_refuse_of : (bytes : List ℕ) (a b : JobValue) (made : List Program) (seats : List Seat) (needs : List Need) (f : OpenFault) → JobIs bytes false a
+    → AllNeed a.programs needs → first_small 0 needs a.sessions ≡ Some f → IsJob bytes b made seats → refusal b.memory seats made ≡ Some f
+stacks_refuse_of bytes a b made seats needs f v k o w =
+    let same : b ≡ a = same_job bytes b a w.is v in
+    stacks_refuse b.memory seats f (all_fit k (subst (λ (j : JobValue). AreMade j.programs made) same w.are_made))
+    (ap (first_small 0 needs) (w.are_seats ∙ ap (λ (j : JobValue). j.sessions) same) ∙ o)
+
+opens_of : (bytes : List ℕ) (x : SurelyOpens bytes) (b : JobValue) (made : List Program) (seats : List Seat) → IsJob bytes b made seats
+    → refusal b.memory seats made ≡ None
+opens_of bytes x b made seats w =
+    let same : b ≡ x.job = same_job bytes b x.job w.is x.is in
+    let sessions = w.are_seats ∙ ap (λ (j : JobValue). j.sessions) same in
+    opens_so b.memory seats (all_fit x.need (subst (λ (j : JobValue). AreMade j.programs made) same w.are_made))
+    (ap (first_small 0 x.needs) sessions ∙ x.stacks)
+    (subst (λ (m : ℕ). held_words (map seat_value seats) + most_needed x.needs ≤ m) (ap (λ (j : JobValue). j.memory) (sym same))
+    (subst (λ (ss : List SeatValue). held_words ss + most_needed x.needs ≤ x.job.memory) (sym sessions) x.memory))
 
 -- ---- the memory
 
@@ -199,6 +125,10 @@ sure_cause_same bytes a b (c.SureCause.program job w ws) (c.Cause.lines {l = l} 
 sure_cause_same bytes a b (c.SureCause.program job v vs) (c.Cause.program other w ws) =
     first_same vs (subst (λ (j : JobValue). FirstRefused j.programs b) (same_job bytes other job w v) ws)
 sure_cause_same bytes a b (c.SureCause.program job v vs) (c.Cause.sessions other made seats w o) = absurd (first_not_made_of bytes job other made a v vs w.is w.are_made)
+sure_cause_same bytes a b (c.SureCause.stacks job needs w k o) (c.Cause.lines {l = l} {r = r} v) = absurd (jobs_break_nothing bytes false job l r w v)
+sure_cause_same bytes a b (c.SureCause.stacks job needs w k o) (c.Cause.program other v vs) = absurd (sure_not_first_of bytes job other b w (all_sure k) v vs)
+sure_cause_same bytes a b (c.SureCause.stacks {f = f} job needs w k o) (c.Cause.sessions other others places v q) =
+    line_same (sym (stacks_refuse_of bytes job other others places needs f w k o v) ∙ q)
 sure_cause_same bytes a b (c.SureCause.sessions job made seats w k o) (c.Cause.lines {l = l} {r = r} v) = absurd (jobs_break_nothing bytes false job l r w.is v)
 sure_cause_same bytes a b (c.SureCause.sessions job made seats w k o) (c.Cause.program other v vs) = absurd (within_not_first_of bytes job other b w.is k v vs)
 sure_cause_same bytes a b (c.SureCause.sessions job made seats v k o) (c.Cause.sessions other others places w q) =
@@ -208,6 +138,8 @@ sure_cause_same bytes a b (c.SureCause.sessions job made seats v k o) (c.Cause.s
 runs_not_sure : (bytes line : List ℕ) (job : JobValue) (made : List Program) (w : World) → Runs bytes job made w → SureCause bytes line → ⊥
 runs_not_sure bytes line job made w v (c.SureCause.lines {l = l} {r = r} b) = jobs_break_nothing bytes false job l r v.is.is b
 runs_not_sure bytes line job made w v (c.SureCause.program other b bs) = first_not_made_of bytes other job made line b bs v.is.is v.is.are_made
+runs_not_sure bytes line job made w v (c.SureCause.stacks {f = f} other needs b k o) =
+    let n = sym v.opens ∙ stacks_refuse_of bytes other job made v.seats needs f b k o v.is in cc
 runs_not_sure bytes line job made w v (c.SureCause.sessions other others places b k q) =
     let n = sym v.opens ∙ open_same bytes other job others made places v.seats k b v.is ∙ q in cc
 
@@ -217,6 +149,16 @@ thin_no_cause bytes line job made w v k (c.Cause.lines {l = l} {r = r} b) = jobs
 thin_no_cause bytes line job made w v k (c.Cause.program other b bs) = within_not_first_of bytes job other line v.is.is k b bs
 thin_no_cause bytes line job made w v k (c.Cause.sessions other others places b q) =
     let n = sym v.opens ∙ sym (open_same bytes job other made others v.seats places k v.is b) ∙ q in cc
+
+-- nor is one whose sessions surely open
+opens_no_cause : (bytes line : List ℕ) → SurelyOpens bytes → Cause bytes line → ⊥
+opens_no_cause bytes line x (c.Cause.lines {l = l} {r = r} b) = jobs_break_nothing bytes false x.job l r x.is b
+opens_no_cause bytes line x (c.Cause.program other b bs) = sure_not_first_of bytes x.job other line x.is (all_sure x.need) b bs
+opens_no_cause bytes line x (c.Cause.sessions other others places b q) = let n = sym (opens_of bytes x other others places b) ∙ q in cc
+
+surely_no_cause : (bytes line : List ℕ) → SurelyRuns bytes → Cause bytes line → ⊥
+surely_no_cause bytes line (an.SurelyRuns.thin job made w v k) b = thin_no_cause bytes line job made w v k b
+surely_no_cause bytes line (an.SurelyRuns.bounded x) b = opens_no_cause bytes line x b
 
 -- ---- a job to be prepared
 
@@ -275,7 +217,7 @@ sure_same (verb.Gen n) bytes a b k l = sure_cause_same bytes a b k l
 
 -- and none refuses those of which something is surely made
 pub done_no_cause : (v : Verb) (bytes line : List ℕ) → IsSurelyDoneOf v bytes → CauseOf v bytes line → ⊥
-done_no_cause verb.Run bytes line b k = thin_no_cause bytes line b.0 b.1 b.2 b.3 b.4 k
+done_no_cause verb.Run bytes line b k = surely_no_cause bytes line b k
 done_no_cause verb.Prep bytes line b k = sure_not_unprepared bytes line b.0 b.1 b.2 b.3 k
 done_no_cause verb.List bytes line b k = listed_no_cause bytes line b.0 b.1 k
-done_no_cause (verb.Gen n) bytes line b k = thin_no_cause bytes line b.0 b.1 b.2 b.3 b.4 k
+done_no_cause (verb.Gen n) bytes line b k = surely_no_cause bytes line b k

@@ -1,5 +1,5 @@
 -- What the top call answers and writes.
-use Rattle.std.specs.Prelude.{ℕ, ◌≡◌, ◌≤◌, List, [], ◌∷◌, length, slice_get, Option, None, Some, IfSome, ◌⊎◌}
+use Rattle.std.specs.Prelude.{ℕ, ◌≡◌, ◌≤◌, true, List, [], ◌∷◌, length, slice_get, Option, None, Some, IfSome, ◌⊎◌}
 use Rattle.std.specs.Io.KnownBytes.{Appends, IsAtEnd}
 use Rattle.hp_outside.specs.Whole.{AppendsPrefix, IsLongerThan}
 use Rattle.job_text.specs.Jobs.{JobValue}
@@ -23,7 +23,11 @@ use Rattle.hp3000_top.specs.declared.ran.Ran.{Ran}
 use Rattle.hp3000_top.specs.declared.ran.Ran.TheVariants.{Plain}
 use Rattle.hp3000_top.specs.declared.verbs.Verb.{Verb}
 use Rattle.hp3000_top.specs.declared.verbs.Verb.TheVariants as verb
+use Rattle.spl_meaning.specs.Tables.{Source}
 use Rattle.hp3000_top.specs.Programs.{IsWithin, AreWithin, AreSure}
+use Rattle.spl_carried.specs.Covered.{is_covered_program}
+use Rattle.hp3000_top.specs.Carried.{IsCovered, FollowsUnits}
+use Rattle.hp3000_top.specs.Needs.{SurelyOpens}
 use Rattle.hp3000_top.specs.Causes.{IsJob, account_of, Runs, IsPrepared, CauseOf, SureCauseOf, ComesTo}
 
 -- nothing is asked for that takes an input
@@ -124,11 +128,15 @@ seat_of s = record { stack = s.stack; extra = s.extra; room = s.room; lines = s.
 abbrev pub IsAsAlone : u.Unit → SeatValue → Run → Type 0
 IsAsAlone unit seat r = (n : ℕ) × (alone unit (seat_of seat) n ≡ flat_point r.machine)
 
--- there is a session for each of the job's, and each is so whose program's text is that of a thin unit within its bounds
+-- There is a session for each of the job's. Each is so whose program's text is that of a thin unit within its bounds, and each follows the run of
+-- its units whose program's are other units that are covered. Thin units are covered too, so this is said of all that are.
 pub record EachIsAsAlone (job : JobValue) (runs : List Run) : Type 0 where
   pub count : length runs ≡ length job.sessions
   pub each : (k : ℕ) (seat : SeatValue) (t : TextValue) (r : Run) → slice_get job.sessions k ≡ Some seat → slice_get job.programs seat.program ≡ Some t
       → slice_get runs k ≡ Some r → (unit : u.Unit) → IsWithin t.units unit → IsAsAlone unit seat r
+  pub follows : (k : ℕ) (seat : SeatValue) (t : TextValue) (r : Run) → slice_get job.sessions k ≡ Some seat → slice_get job.programs seat.program ≡ Some t
+      → slice_get runs k ≡ Some r → (us : List Source) → IsCovered t.units us → FollowsUnits us seat r
+  pub thin_too : (texts : List (List ℕ)) (unit : u.Unit) (w : IsWithin texts unit) → is_covered_program (w.thin.source ∷ []) ≡ true
 
 -- what was told is of a world of the job's sessions in which each is so
 pub record ReportsAsAlone (v : Verb) (bytes : List ℕ) (made : List Program) (old new : Option (List ℕ)) : Type 0 where
@@ -152,12 +160,18 @@ Certain (verb.Gen n) left P = P (generated n)
 Certain _ None P = ⊥
 Certain _ (Some bytes) P = (length bytes ≤ 1048576) × P bytes
 
--- the bytes are a job of thin programs within their bounds whose sessions open; or one whose only program no line refuses; or a program's file
+-- The bytes are a job of thin programs within their bounds whose sessions open; or one whose programs no line refuses and whose sessions open whichever
+-- form each branch takes.
+pub data SurelyRuns (bytes : List ℕ) : Type 0 where
+  thin : (job : JobValue) (made : List Program) (w : World) → Runs bytes job made w → AreWithin job.programs → SurelyRuns bytes
+  bounded : SurelyOpens bytes → SurelyRuns bytes
+
+-- they are such a job; or one whose only program no line refuses; or a program's file
 abbrev pub IsSurelyDoneOf : Verb → List ℕ → Type 0
-IsSurelyDoneOf verb.Run bytes = (job : JobValue) × (made : List Program) × (w : World) × Runs bytes job made w × AreWithin job.programs
+IsSurelyDoneOf verb.Run bytes = SurelyRuns bytes
 IsSurelyDoneOf verb.Prep bytes = (job : JobValue) × (p : Program) × IsPrepared bytes job p × AreSure job.programs
 IsSurelyDoneOf verb.List bytes = (p : Program) × IsFile p bytes
-IsSurelyDoneOf (verb.Gen n) bytes = (job : JobValue) × (made : List Program) × (w : World) × Runs bytes job made w × AreWithin job.programs
+IsSurelyDoneOf (verb.Gen n) bytes = SurelyRuns bytes
 
 -- the bytes that the verb is about are so
 abbrev pub IsSurelyDone : Option Verb → Option (List ℕ) → Type 0

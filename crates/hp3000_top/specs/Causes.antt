@@ -22,6 +22,7 @@ use Rattle.mpe_turns.specs.Opening.{refusal}
 use Rattle.hp3000_top.specs.declared.verbs.Verb.{Verb}
 use Rattle.hp3000_top.specs.declared.verbs.Verb.TheVariants as verb
 use Rattle.hp3000_top.specs.Programs.{AreMade, FirstRefused, AreWithin, FirstFaulty}
+use Rattle.hp3000_top.specs.Needs.{Need, AllNeed, first_small}
 
 -- ---- a job to be run
 
@@ -114,10 +115,13 @@ pub data ComesTo (bytes : List ℕ) : Verb → List ℕ → Type 0 where
 -- ---- what is certain
 
 -- As a job to be run the bytes can be refused by no other line than this: a line of the job breaks a rule; a program has a fault that is certain,
--- behind such as no line refuses; or all programs are thin ones within their bounds, and the sessions don't open.
+-- behind such as no line refuses; no line refuses a program, and a stack is too small; or all programs are thin ones within their bounds, and the
+-- sessions don't open.
 pub data SureCause (bytes : List ℕ) : List ℕ → Type 0 where
   lines : {l r : ℕ} → JobBreaks bytes false l r → SureCause bytes (job_refused l r)
   program : {line : List ℕ} (job : JobValue) → JobIs bytes false job → FirstFaulty job.programs line → SureCause bytes line
+  stacks : {f : OpenFault} (job : JobValue) (needs : List Need) → JobIs bytes false job → AllNeed job.programs needs
+      → first_small 0 needs job.sessions ≡ Some f → SureCause bytes (open_line f)
   sessions : {f : OpenFault} (job : JobValue) (made : List Program) (seats : List Seat) → IsJob bytes job made seats → AreWithin job.programs
       → refusal job.memory seats made ≡ Some f → SureCause bytes (open_line f)
 

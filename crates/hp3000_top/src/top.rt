@@ -1,7 +1,9 @@
 //! The top call.
-ghost use Rattle.std.specs.Prelude.{◌≡◌, ◌↔◌, ◌⊎◌, ℕ, List, None, Some, Err, map, string_bytes, IfOk};
+ghost use Rattle.std.specs.Prelude.{◌≡◌, ◌↔◌, ◌⊎◌, ℕ, true, List, None, Some, Err, map, string_bytes, IfOk};
 ghost use Rattle.hp_outside.specs.Faults.{Rose};
+ghost use Rattle.std.specs.List.{list_all};
 ghost use Rattle.hp3000_top.specs.Verbs.{asked};
+ghost use Rattle.hp3000_top.specs.Carried.{is_byte};
 ghost use Rattle.hp3000_top.specs.Answers.{TakesNone, IsWhole, IsTooLong, IsSilent, Delivers, Refuses, BreaksOff, AreAsAlone, IsSurelyDone, IsDone, IsSurelyRefused, IsRefusedBy, MadeAt, RanAt};
 ghost use Rattle.hp3000_top.specs.Steps.{IsInput, IsTaken};
 
@@ -13,7 +15,10 @@ use crate::verbs::{Verb, verb_of};
 use hp_outside::{ReadAll, Sink, Source, read_all, write_all};
 use hp_program::Program;
 use job_gen::generate;
+use spl_carried::covered_programs_carry;
+use spl_numbered::texts_number_segments;
 use std::alloc::Global;
+use thin_covered::thin_units_are_covered;
 
 /// The greatest number of bytes of an input.
 const LIMIT: usize = 1_048_576;
@@ -72,6 +77,11 @@ fn deliver<O: Sink>(
     }
 }
 
+/// That what was read is bytes; it does nothing.
+fn are_bytes(bytes: &[u8])
+    ensures { list_all is_byte bytes.now ≡ true }
+{}
+
 /// Does what the words of the command line say: reads the input, and writes the output whole, or as far as the sink takes
 /// it.
 ///
@@ -106,8 +116,8 @@ pub fn hp3000_main<I: Source, O: Sink>(
     ensures refused { result ≡ Exit.Refused → Refuses (asked (map (λ w. string_bytes w) words.now.items)) (I.left input.old) (O.written output.old) (O.written output.new) }
     ensures done { result ≡ Exit.Done → Delivers (asked (map (λ w. string_bytes w) words.now.items)) (I.left input.old) made.new.items ran.new (O.written output.old) (O.written output.new) }
 
-    // The headline: each session of a thin program has printed and ended exactly as its source, run alone, has at some step. And when
-    // it has to be done, or refused.
+    // The headline: each session of a thin program has printed and ended exactly as its source, run alone, has at some step, and so
+    // has each whose program's main body is covered, unless its run made a stray reference. And when it has to be done, or refused.
     ensures headline { result ≡ Exit.Done → AreAsAlone (asked (map (λ w. string_bytes w) words.now.items)) (I.left input.old) made.new.items (O.written output.old) (O.written output.new) }
     ensures complete { IsSurelyDone (asked (map (λ w. string_bytes w) words.now.items)) (I.left input.old) → (Rose (I.faults input.old) (I.faults input.new) → ⊥) → (Rose (O.faults output.old) (O.faults output.new) → ⊥) → IsDone result }
     ensures faulty { (line : List ℕ) → IsSurelyRefused (asked (map (λ w. string_bytes w) words.now.items)) (I.left input.old) line → (Rose (I.faults input.old) (I.faults input.new) → ⊥) → (Rose (O.faults output.old) (O.faults output.new) → ⊥) → IsRefusedBy result (O.written output.old) (O.written output.new) line }
@@ -128,5 +138,9 @@ pub fn hp3000_main<I: Source, O: Sink>(
     let Ok(answer) = answer_of(alloc, verb, &bytes) else {
         return Exit::NoMemory;
     };
+    are_bytes(&bytes);
+    texts_number_segments();
+    covered_programs_carry();
+    thin_units_are_covered();
     deliver(answer, output, made, ran)
 }

@@ -1,11 +1,14 @@
 -- The clauses of the top call, of an answer that was taken.
-use Rattle.std.proofs.Common.{◌≡◌, ◌∙◌, ℕ, List, Option, Some, map, string_bytes, sym, ap, subst}
+use Rattle.std.proofs.Common.{◌≡◌, ◌∙◌, ℕ, true, List, Option, Some, map, string_bytes, sym, ap, subst}
 use Rattle.std.specs.Global.{Global}
 use Rattle.std.proofs.Common as std
 use Rattle.hp3000_top.specs.declared.verbs.Verb.{Verb}
+use Rattle.std.specs.List.{list_all}
+use Rattle.hp3000_top.specs.Carried.{is_byte}
 use Rattle.hp3000_top.specs.Verbs.{asked}
 use Rattle.hp3000_top.specs.Answers.{IsWhole, BreaksOff, Refuses, Delivers, AreAsAlone, IsSurelyDone, IsSurelyRefused, MadeAt}
 use Rattle.hp3000_top.specs.Steps.{IsAnswered}
+use Rattle.hp3000_top.proofs.CarriedSessions.{covered_texts_carry}
 use Rattle.hp3000_top.proofs.TopLemmas.{whole_so, broken_so, refused_so, done_so, headline_so, complete_so, faulty_so, made_so}
 use Rattle.hp3000_top.proofs.top.hp3000_main.Goals as goal
 
@@ -48,9 +51,14 @@ pub returns-clause-headline : goal.returns-clause-headline
 returns-clause-headline g c =
     let told : IsAnswered c.in-Ok.bytes.items c.in-Some.verb c.in-Ok-answer_of.answer =
     subst (λ (bs : List ℕ). IsAnswered bs c.in-Some.verb c.in-Ok-answer_of.answer) c.deref-2.ensures.value c.in-Ok-answer_of.ensures in
+    let small : list_all is_byte c.in-Ok.bytes.items ≡ true =
+    subst (λ (bs : List ℕ). list_all is_byte bs ≡ true) c.deref-3.ensures.value c.are_bytes.ensures in
     let verb_is = asked_so c.deref.result.now c.args.words.now.items c.in-Some.verb c.in-Some.ensures c.deref.ensures.value in
     λ w. subst (λ (v : Option Verb). AreAsAlone v (g.I.Source.left c.args.input.now) c.deliver.new.made.items (g.O.Sink.written c.args.output.now) (g.O.Sink.written c.deliver.new.output)) verb_is
-    (headline_so c.in-Some.verb _ _ c.in-Ok.bytes.items c.in-Ok-answer_of.answer _ _ _ _ _ _ _ _ c.in-Ok.ensures.ok told c.deliver.ensures w)
+    (headline_so (record {
+      carry = covered_texts_carry c.texts_number_segments.ensures c.covered_programs_carry.ensures;
+      thin = c.thin_units_are_covered.ensures;
+    }) c.in-Some.verb _ _ c.in-Ok.bytes.items small c.in-Ok-answer_of.answer _ _ _ _ _ _ _ _ c.in-Ok.ensures.ok told c.deliver.ensures w)
 
 pub returns-clause-complete : goal.returns-clause-complete
 returns-clause-complete g c =
