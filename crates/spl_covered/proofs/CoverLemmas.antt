@@ -8,11 +8,11 @@ use Rattle.spl_tree.specs.declared.names_and_places.At.{At}
 use Rattle.spl_tree.specs.Trees as tree
 use Rattle.spl_tree.specs.Trees.{Tree, Constant}
 use Rattle.spl_meaning.specs.Names.{Names, text_value, truth_word}
-use Rattle.spl_meaning.specs.Kinds.{is_connective, is_relation, is_byte, reference_kind, is_long_text, compares_text, kind_of, operand_width, class_of}
+use Rattle.spl_meaning.specs.Kinds.{is_connective, is_relation, is_byte, named_operand, variable_kind, reference_kind, is_long_text, compares_text, kind_of, operand_width, class_of}
 use Rattle.spl_meaning.specs.Operations.{joined}
 use Rattle.spl_meaning.specs.Pending.{most, left_words}
 use Rattle.spl_meaning.specs.Places.{Place}
-use Rattle.spl_meaning.specs.References.{Setting}
+use Rattle.spl_meaning.specs.References.{Setting, access_of}
 use Rattle.spl_meaning.specs.States.{then_go}
 use Rattle.spl_meaning.specs.Values as meant
 use Rattle.spl_meaning.specs.Values.{Callee, small_constant, value}
@@ -26,9 +26,10 @@ use Rattle.spl_values.proofs.VariableLemmas.{both}
 use Rattle.spl_values.proofs.WholeLemmas.{whole_then, same_simulates}
 use Rattle.spl_conditions.proofs.ConnectiveLemmas.{connected_whole, connectives}
 use Rattle.spl_operators.specs.Laws.{is_word_operand, is_single}
-use Rattle.spl_covered.specs.Covered.{is_covered_operator, is_covered_sign, is_covered}
+use Rattle.spl_covered.specs.Covered.{is_led_element, is_covered_operator, is_covered_sign, is_covered}
 use Rattle.spl_covered.specs.Laws.{read_with, CoveredCodeIsWhole, CoveredTestsAreWhole, CoveredValuesSimulate, CoveredTestsSimulate}
-use Rattle.spl_covered.proofs.NameLemmas.{constant_whole, constant_simulates, text_whole, text_simulates, name_cases, name_no_bytes, name_whole, name_simulates}
+use Rattle.spl_covered.proofs.LedLemmas.{element_case, kind_operand, led_no_bytes, element_whole, element_simulates}
+use Rattle.spl_covered.proofs.NameLemmas.{closing_whole, constant_whole, constant_simulates, text_whole, text_simulates, name_cases, name_no_bytes, name_whole, name_simulates}
 use Rattle.spl_covered.proofs.OperatorLemmas.{truths, where_true, where_false, of_true, of_false, four, connective_operand, binary_word, word_wide, operated_whole, operated_simulates}
 use Rattle.spl_covered.proofs.UnaryLemmas.{sign_word, sign_whole, sign_simulates, shift_whole, shift_simulates, field_whole, field_simulates, single_word, transfer_whole, transfer_simulates}
 
@@ -64,7 +65,10 @@ operator_parts c st o a b at k i e =
 -- what is covered is no reference to bytes
 no_bytes : (c : Scope) (st : Setting) (e : Tree) (k : ℕ) → is_covered c st e k ≡ true → is_byte (reference_kind c.names e) ≡ false
 no_bytes c st (tree.Tree.named x tree.Trees.none at) k e = name_no_bytes st k (c.names x) (c.places x) e
-no_bytes c st (tree.Tree.named x (tree.Trees.and i is) at) k e = absurd (false≢true e)
+no_bytes c st (tree.Tree.named x (tree.Trees.and i tree.Trees.none) at) k e =
+    let r = element_case st x k (c.names x) (c.places x) (both (is_led_element st k (access_of (c.names x)) (c.places x)) (is_covered c st i k) e).0 in
+    led_no_bytes (variable_kind (c.names x)) r.type r.kinds r.word
+no_bytes c st (tree.Tree.named x (tree.Trees.and i (tree.Trees.and j js)) at) k e = absurd (false≢true e)
 no_bytes c st (tree.Tree.number v) k e = refl
 no_bytes c st (tree.Tree.wide v) k e = refl
 no_bytes c st (tree.Tree.text bytes) k e = refl
@@ -149,7 +153,11 @@ covered_word c st (tree.Tree.number v) k e = refl
 covered_word c st (tree.Tree.truth b) k e = refl
 covered_word c st (tree.Tree.text bytes) k e = refl
 covered_word c st (tree.Tree.named x tree.Trees.none at) k e =
-    ⊎_elim (λ r. r.operand) (λ r. r.operand) (name_cases st x k (c.names x) (c.places x) e)
+    ⊎_elim (λ r. r.operand) (λ other. ⊎_elim (λ r. r.operand) (λ r. kind_operand (named_operand (c.names x)) r.type r.operand r.word) other)
+    (name_cases st x k (c.names x) (c.places x) e)
+covered_word c st (tree.Tree.named x (tree.Trees.and i tree.Trees.none) at) k e =
+    let r = element_case st x k (c.names x) (c.places x) (both (is_led_element st k (access_of (c.names x)) (c.places x)) (is_covered c st i k) e).0 in
+    kind_operand (named_operand (c.names x)) r.type r.operand r.word
 covered_word c st (tree.Tree.unary o a at) k e =
     let two = both (is_covered_sign o) (is_covered c st a k) e in sign_word o (kind_of c.names a) two.0 (covered_word c st a k two.1)
 covered_word c st (tree.Tree.shift o a by at) k e = refl
@@ -158,7 +166,7 @@ covered_word c st (tree.Tree.transfer to a at) k e = single_word to (both (is_si
 covered_word c st (tree.Tree.binary o a b at) k e =
     ⊎_elim (λ i. connective_operand o (kind_of c.names a) (kind_of c.names b) i)
     (λ i. binary_word o (kind_of c.names a) (kind_of c.names b) (operator_parts c st o a b at k i e).class) (truths (is_connective o))
-covered_word c st (tree.Tree.named x (tree.Trees.and i is) at) k e = absurd (false≢true e)
+covered_word c st (tree.Tree.named x (tree.Trees.and i (tree.Trees.and j js)) at) k e = absurd (false≢true e)
 covered_word c st (tree.Tree.wide v) k e = absurd (false≢true e)
 covered_word c st (tree.Tree.address x es at) k e = absurd (false≢true e)
 covered_word c st (tree.Tree.bytes o a b count at) k e = absurd (false≢true e)
@@ -173,6 +181,9 @@ code_whole c st (tree.Tree.number v) aim k e = constant_whole (v % 65536) aim
 code_whole c st (tree.Tree.truth b) aim k e = constant_whole (truth_word b) aim
 code_whole c st (tree.Tree.text bytes) aim k e = text_whole (text_value bytes) aim e
 code_whole c st (tree.Tree.named x tree.Trees.none at) aim k e = name_whole c st x at aim k e
+code_whole c st (tree.Tree.named x (tree.Trees.and i tree.Trees.none) at) aim k e =
+    let two = both (is_led_element st k (access_of (c.names x)) (c.places x)) (is_covered c st i k) e in
+    element_whole c st x i at aim k (element_case st x k (c.names x) (c.places x) two.0) (λ a x. closing_whole a aim x) (code_whole c st i as_value k two.1)
 code_whole c st (tree.Tree.unary o a at) aim k e =
     let two = both (is_covered_sign o) (is_covered c st a k) e in
     sign_whole o (kind_of c.names a) aim (code c a as_value k) two.0 (covered_word c st a k two.1) (code_whole c st a as_value k two.1)
@@ -192,7 +203,7 @@ code_whole c st (tree.Tree.binary o a b at) aim k e =
     operator_whole c st o a b at aim k i parts (code_whole c st a as_value k parts.left)
     (code_whole c st b as_value (k + operand_width (kind_of c.names a)) parts.right))
     (truths (is_connective o))
-code_whole c st (tree.Tree.named x (tree.Trees.and i is) at) aim k e = absurd (false≢true e)
+code_whole c st (tree.Tree.named x (tree.Trees.and i (tree.Trees.and j js)) at) aim k e = absurd (false≢true e)
 code_whole c st (tree.Tree.wide v) aim k e = absurd (false≢true e)
 code_whole c st (tree.Tree.address x es at) aim k e = absurd (false≢true e)
 code_whole c st (tree.Tree.bytes o a b count at) aim k e = absurd (false≢true e)
@@ -220,6 +231,11 @@ either_room : (names : Names) (o : ℕ) (a b : Tree) (at : At) (need : ℕ) → 
 either_room names o a b at need i room =
     let none : left_words names o a b ≡ 0 = where_true (is_connective o) _ _ i in (omega (arith, room), omega (arith, none, room))
 
+-- that of an index
+index_room : (names : Names) (x : List ℕ) (i : Tree) (at : At) (need : ℕ) → most names (tree.Tree.named x (tree.Trees.and i tree.Trees.none) at) + 8 ≤ need
+    → most names i + 8 ≤ need
+index_room names x i at need room = omega (arith, room)
+
 -- Along the tree, each construct over its parts.
 simulated : (c : Scope) (results : List ℕ → Option (Kind × Place)) (z : Surroundings) (call : Callee) (d : ℕ) (e : Tree) (aim : Aim) (k need : ℕ)
     → is_covered c z.setting e k ≡ true → most c.names e + 8 ≤ need
@@ -230,6 +246,10 @@ simulated c results z call d (tree.Tree.truth b) aim k need e enough = constant_
 simulated c results z call d (tree.Tree.text bytes) aim k need e enough = text_simulates z d aim k need (text_value bytes) e (omega (arith, enough))
 simulated c results z call d (tree.Tree.named x tree.Trees.none at) aim k need e enough =
     name_simulates c results z call d x at aim k need e (omega (arith, enough))
+simulated c results z call d (tree.Tree.named x (tree.Trees.and i tree.Trees.none) at) aim k need e enough =
+    let two = both (is_led_element z.setting k (access_of (c.names x)) (c.places x)) (is_covered c z.setting i k) e in
+    element_simulates c results z call d x i at aim k need (element_case z.setting x k (c.names x) (c.places x) two.0) (omega (arith, enough))
+    (code_whole c z.setting i as_value k two.1) (simulated c results z call d i as_value k need two.1 (index_room c.names x i at need enough))
 simulated c results z call d (tree.Tree.unary o a at) aim k need e enough =
     let two = both (is_covered_sign o) (is_covered c z.setting a k) e in
     sign_simulates z d k need o (kind_of c.names a) aim (code c a as_value k) (λ s. value (read_with c results z.setting) call a k s) two.0
@@ -265,7 +285,7 @@ simulated c results z call d (tree.Tree.binary o a b at) aim k need e enough =
     (subst (λ (n : ℕ). Simulates z d as_value 1 (k + n) (most c.names b + 8) (code c b as_value j) (λ s. value (read_with c results z.setting) call b j s)) one
     (simulated c results z call d b as_value j (most c.names b + 8) parts.right (omega arith))))
     (truths (is_connective o))
-simulated c results z call d (tree.Tree.named x (tree.Trees.and i is) at) aim k need e enough = absurd (false≢true e)
+simulated c results z call d (tree.Tree.named x (tree.Trees.and i (tree.Trees.and j js)) at) aim k need e enough = absurd (false≢true e)
 simulated c results z call d (tree.Tree.wide v) aim k need e enough = absurd (false≢true e)
 simulated c results z call d (tree.Tree.address x es at) aim k need e enough = absurd (false≢true e)
 simulated c results z call d (tree.Tree.bytes o a b count at) aim k need e enough = absurd (false≢true e)

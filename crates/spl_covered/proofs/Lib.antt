@@ -1,4 +1,5 @@
 -- In reading order.
+pub mod LedLemmas
 pub mod NameLemmas
 pub mod OperatorLemmas
 pub mod UnaryLemmas

@@ -11,7 +11,7 @@ use Rattle.spl_tree.specs.declared.names_and_places.At.{At}
 use Rattle.spl_tree.specs.Trees as tree
 use Rattle.spl_meaning.specs.Names as n
 use Rattle.spl_meaning.specs.Names.{Sort}
-use Rattle.spl_meaning.specs.Kinds.{of, named_operand, is_byte, variable_kind}
+use Rattle.spl_meaning.specs.Kinds.{named_operand, is_byte, variable_kind}
 use Rattle.spl_meaning.specs.Pending.{result_words}
 use Rattle.spl_meaning.specs.Places.{Place}
 use Rattle.spl_meaning.specs.References.{Here, Setting, Access, its_own, access_of, own_located, locate_by, read}
@@ -19,7 +19,7 @@ use Rattle.spl_meaning.specs.States.{State, Outcome, done, then_go}
 use Rattle.spl_meaning.specs.Values.{Callee, Sense, a_constant, a_variable, sense_of, text_done, named_value, value, arguments}
 use Rattle.spl_code.specs.Parts.{Part, pieces, nothing, ◌⨟◌}
 use Rattle.spl_code.specs.Constants.{constant, text_constant}
-use Rattle.spl_code.specs.Operands.{mode_of, loaded, at_place}
+use Rattle.spl_code.specs.Operands.{mode_of, load, loaded, at_place}
 use Rattle.spl_code.specs.Calls.{Scope}
 use Rattle.spl_code.specs.Code as made
 use Rattle.spl_code.specs.Code.{Aim, as_value, as_test, closing, code}
@@ -34,6 +34,7 @@ use Rattle.spl_operators.specs.Laws.{is_word_operand}
 use Rattle.spl_conditions.proofs.ConditionLemmas.{closed_values}
 use Rattle.spl_covered.specs.Covered.{is_covered_name}
 use Rattle.spl_covered.specs.Laws.{read_with}
+use Rattle.spl_covered.proofs.LedLemmas.{IsLed, led_case, word_operand, led_no_bytes, led_code, led_whole, led_simulates}
 
 -- ---- what is wanted
 
@@ -74,7 +75,7 @@ text_simulates z d aim k need None e enough = absurd (false≢true e)
 
 -- ---- names
 
--- what a covered name is: a constant that has a value, or a variable of one word where it is reached
+-- what a covered name is: a constant that has a value, a variable of one word where it is reached, or one whose word leads to a word
 pub record IsVariable (st : Setting) (x : List ℕ) (k : ℕ) (o : Option Sort) (pl : Option Place) : Type 0 where
   pub type : Kind
   pub place : Place
@@ -90,32 +91,25 @@ pub record IsConstant (x : List ℕ) (o : Option Sort) : Type 0 where
   pub sense : sense_of x o ≡ a_constant (Some number)
   pub operand : is_word_operand (named_operand o) ≡ true
 
--- a value of a kind of one word has one word
-word_operand : (t : Kind) → is_word_kind t ≡ true → is_word_operand (of t) ≡ true
-word_operand kind.Integer e = refl
-word_operand kind.Logical e = refl
-word_operand kind.Byte e = absurd (false≢true e)
-word_operand kind.Double e = absurd (false≢true e)
-
 -- by what it stands for
 pub name_cases : (st : Setting) (x : List ℕ) (k : ℕ) (o : Option Sort) (pl : Option Place) → is_covered_name st k o pl ≡ true
-    → IsConstant x o ⊎ IsVariable st x k o pl
+    → IsConstant x o ⊎ (IsVariable st x k o pl ⊎ IsLed st x k o pl)
 name_cases st x k (Some (n.equate (Some v))) pl e = inl (record { number = v; sense = refl; operand = refl })
 name_cases st x k (Some (n.simple t own)) (Some place) e =
     let two = both (is_word_kind t) (is_reached st k place) e in
-    inr (record { type = t; place = place; sense = refl; access = refl; operand = word_operand t two.0; is = refl; word = two.0; reached = two.1 })
+    inr (inl (record { type = t; place = place; sense = refl; access = refl; operand = word_operand t two.0; is = refl; word = two.0; reached = two.1 }))
 name_cases st x k (Some (n.value t)) (Some place) e =
     let two = both (is_word_kind t) (is_reached st k place) e in
-    inr (record { type = t; place = place; sense = refl; access = refl; operand = word_operand t two.0; is = refl; word = two.0; reached = two.1 })
+    inr (inl (record { type = t; place = place; sense = refl; access = refl; operand = word_operand t two.0; is = refl; word = two.0; reached = two.1 }))
 name_cases st x k (Some (n.simple t own)) None e = absurd (false≢true (both (is_word_kind t) false e).1)
 name_cases st x k (Some (n.value t)) None e = absurd (false≢true (both (is_word_kind t) false e).1)
 name_cases st x k None pl e = absurd (false≢true e)
 name_cases st x k (Some (n.equate None)) pl e = absurd (false≢true e)
-name_cases st x k (Some (n.array t own low high)) pl e = absurd (false≢true e)
-name_cases st x k (Some (n.view t own base)) pl e = absurd (false≢true e)
-name_cases st x k (Some (n.pointer t own)) pl e = absurd (false≢true e)
-name_cases st x k (Some (n.by_reference t)) pl e = absurd (false≢true e)
-name_cases st x k (Some (n.array_parameter t)) pl e = absurd (false≢true e)
+name_cases st x k (Some (n.array t own low high)) pl e = inr (inr (led_case st x k (Some (n.array t own low high)) pl e))
+name_cases st x k (Some (n.view t own base)) pl e = inr (inr (led_case st x k (Some (n.view t own base)) pl e))
+name_cases st x k (Some (n.pointer t own)) pl e = inr (inr (led_case st x k (Some (n.pointer t own)) pl e))
+name_cases st x k (Some (n.by_reference t)) pl e = inr (inr (led_case st x k (Some (n.by_reference t)) pl e))
+name_cases st x k (Some (n.array_parameter t)) pl e = inr (inr (led_case st x k (Some (n.array_parameter t)) pl e))
 name_cases st x k (Some n.label) pl e = absurd (false≢true e)
 name_cases st x k (Some (n.intrinsic i)) pl e = absurd (false≢true e)
 name_cases st x k (Some (n.procedure p)) pl e = absurd (false≢true e)
@@ -135,11 +129,11 @@ name_no_bytes st k (Some (n.simple kind.Byte own)) pl e = absurd (false≢true e
 name_no_bytes st k (Some (n.value kind.Byte)) pl e = absurd (false≢true e)
 name_no_bytes st k None pl e = refl
 name_no_bytes st k (Some (n.equate None)) pl e = refl
-name_no_bytes st k (Some (n.array t own low high)) pl e = absurd (false≢true e)
-name_no_bytes st k (Some (n.view t own base)) pl e = absurd (false≢true e)
-name_no_bytes st k (Some (n.pointer t own)) pl e = absurd (false≢true e)
-name_no_bytes st k (Some (n.by_reference t)) pl e = absurd (false≢true e)
-name_no_bytes st k (Some (n.array_parameter t)) pl e = absurd (false≢true e)
+name_no_bytes st k (Some (n.array t own low high)) pl e = let r = led_case st [] k (Some (n.array t own low high)) pl e in led_no_bytes (variable_kind (Some (n.array t own low high))) r.type r.kinds r.word
+name_no_bytes st k (Some (n.view t own base)) pl e = let r = led_case st [] k (Some (n.view t own base)) pl e in led_no_bytes (variable_kind (Some (n.view t own base))) r.type r.kinds r.word
+name_no_bytes st k (Some (n.pointer t own)) pl e = let r = led_case st [] k (Some (n.pointer t own)) pl e in led_no_bytes (variable_kind (Some (n.pointer t own))) r.type r.kinds r.word
+name_no_bytes st k (Some (n.by_reference t)) pl e = let r = led_case st [] k (Some (n.by_reference t)) pl e in led_no_bytes (variable_kind (Some (n.by_reference t))) r.type r.kinds r.word
+name_no_bytes st k (Some (n.array_parameter t)) pl e = let r = led_case st [] k (Some (n.array_parameter t)) pl e in led_no_bytes (variable_kind (Some (n.array_parameter t))) r.type r.kinds r.word
 name_no_bytes st k (Some n.label) pl e = refl
 name_no_bytes st k (Some (n.intrinsic i)) pl e = refl
 name_no_bytes st k (Some (n.procedure p)) pl e = refl
@@ -180,8 +174,12 @@ pub name_whole : (c : Scope) (st : Setting) (x : List ℕ) (at : At) (aim : Aim)
 name_whole c st x at aim k e =
     ⊎_elim
     (λ r. subst (λ (a : Part). IsWhole a) (sym (constant_code c x at aim k r)) (constant_whole (word_of r.number) aim))
+    (λ other. ⊎_elim
     (λ r. subst (λ (a : Part). IsWhole a) (sym (variable_code c st x at aim k r))
     (closing_whole (nothing ⨟ pieces (loaded (its_own r.type) false (mode_of k r.place))) aim (variable_whole r.type k r.place r.word)))
+    (λ r. subst (λ (a : Part). IsWhole a) (sym (led_code c st x at aim k r))
+    (closing_whole (nothing ⨟ pieces (load r.type true false (mode_of k r.place) ∷ [])) aim (led_whole r.type k r.place r.word)))
+    other)
     (name_cases st x k (c.names x) (c.places x) e)
 
 -- and it simulates the name
@@ -194,6 +192,7 @@ name_simulates c results z call d x at aim k need e enough =
     (λ r. same_simulates z d aim 1 k need (code c (tree.Tree.named x tree.Trees.none at) aim k) (pieces (constant (word_of r.number)) ⨟ closing aim)
     (λ s. value h call (tree.Tree.named x tree.Trees.none at) k s) (λ s. done (word_of r.number ∷ []) s) (constant_code c x at aim k r)
     (λ s. ap (λ (t : Sense). valued t s) r.sense) (constant_simulates z d aim k need (word_of r.number) (word_of-below r.number) enough))
+    (λ other. ⊎_elim
     (λ r. same_simulates z d aim 1 k need (code c (tree.Tree.named x tree.Trees.none at) aim k) (nothing ⨟ pieces (loaded (its_own r.type) false (mode_of k r.place)) ⨟ closing aim)
     (λ s. value h call (tree.Tree.named x tree.Trees.none at) k s) (λ s. then_go (own_located r.type (Some r.place) None s) (λ p t. read p t)) (variable_code c z.setting x at aim k r)
     (λ s. ap (λ (t : Sense). valued t s) r.sense ∙ ap (λ (a : Access). then_go (locate_by h x a None s) (λ p t. read p t)) r.access
@@ -202,6 +201,7 @@ name_simulates c results z call d x at aim k need e enough =
     (λ s. then_go (own_located r.type (Some r.place) None s) (λ p t. read p t)) (variable_whole r.type k r.place r.word)
     (first_simulates z d as_value 1 k need (pieces (loaded (its_own r.type) false (mode_of k r.place))) (λ s. then_go (own_located r.type (Some r.place) None s) (λ p t. read p t))
     (variables_give z d k need r.type r.place r.word r.reached enough))))
+    (λ r. led_simulates c results z call d x at aim k need r enough) other)
     (name_cases z.setting x k (c.names x) (c.places x) e) where
       h : Here
       h = read_with c results z.setting

@@ -1,0 +1,27 @@
+-- Meanings that are the same, and what follows for their code.
+use Rattle.std.proofs.Common.{◌≡◌, ℕ, zero, suc, refl, sym, subst}
+use Rattle.spl_tree.specs.declared.names_and_places.At.{At}
+use Rattle.spl_meaning.specs.Laws.{IsFront}
+use Rattle.spl_meaning.specs.States.{State, Outcome, step_of, without_code, noted, stopping}
+use Rattle.spl_code.specs.Parts.{Part}
+use Rattle.spl_follow.specs.Spots.{on}
+use Rattle.spl_follow.specs.Standing.{Stands}
+use Rattle.spl_follow.specs.Parts.{Runs}
+use Rattle.spl_follow.specs.Simulating.{Surroundings, Performs}
+
+-- what comes behind a statement's beginning
+pub stopping_same : (i : ℕ) (at : At) (s : State) (f g : State → Outcome (Unit {0})) → ((u : State) → f u ≡ g u) → stopping i at s f ≡ stopping i at s g
+stopping_same i at s f g same = by s.left where
+  by : (j : ℕ) → step_of j s (λ u. f (without_code (noted i at u))) ≡ step_of j s (λ u. g (without_code (noted i at u)))
+  by zero = refl
+  by (suc j) = same (without_code (noted i at (record s { left = j })))
+
+-- what is the same is performed the same
+pub same_performs : (z : Surroundings) (d k need : ℕ) (a b : Part) (f g : State → Outcome (Unit {0})) → a ≡ b → ((s : State) → f s ≡ g s)
+    → Performs z d k need b g → Performs z d k need a f
+same_performs z d k need a b f g code same x = record {
+  does = λ h ws p q s m stands front pays begins.
+      subst (λ (o : Outcome (Unit {0})). Runs z.ground z.rate z.setting z.exits q k s m o) (sym (same s))
+      (x.does h ws p q s m (subst (λ (c : Part). Stands z.ground z.sites (on p) (c h ws).pieces q) code stands)
+      (subst (λ (c : Part). IsFront (c h ws).wants z.wants) code front) pays begins);
+}
