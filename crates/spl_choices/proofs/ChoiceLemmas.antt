@@ -114,7 +114,7 @@ either_joined [] (a ∷ as') bs x y e = ap (λ (ps : List Piece). a ∷ ps) (eit
 either_joined (t ∷ ts) as' bs x y e = ap (λ (ps : List Piece). t ∷ ps) (either_joined ts as' bs x y e)
 
 -- the first side, and the branch over the second
-first_side : (z : Surroundings) (d k need h : ℕ) (ws : List Wanted) (a : Part) (yes' : State → Outcome (Unit {0})) (r b c q : Spot) (l : ℕ) (t : State) (m : Machine)
+pub first_side : (z : Surroundings) (d k need h : ℕ) (ws : List Wanted) (a : Part) (yes' : State → Outcome (Unit {0})) (r b c q : Spot) (l : ℕ) (t : State) (m : Machine)
     → Performs z d k need a yes' → Stands z.ground z.sites (on r) (a h ws).pieces b → IsFront (a h ws).wants z.wants → pos b ≤ z.rate.step
     → Leads z.ground (on b) c (turning (i.Branch false false 0) (z.sites.marks l) c) → z.sites.marks l ≡ q
     → t.now.top + k + need ≤ t.now.stack → t.left ≤ d → (s : State) (n : Machine) → Arrives z.setting r k t.now m s n → s.left ≤ t.left

@@ -1,16 +1,25 @@
--- The laws of this crate: IF, WHILE and DO over their parts as variables. A test is code that leads to any mark where it does not hold. Nothing
--- is due behind a test or a body.
-use Rattle.std.specs.Prelude.{ℕ, suc, Bool, if◌then◌else◌, List}
+-- The laws of this crate: IF, CASE, WHILE and DO over their parts as variables. A test is code that leads to any mark where it does not hold.
+-- Nothing is due behind a test or a body.
+use Rattle.std.specs.Prelude.{◌≡◌, ℕ, zero, suc, ◌+◌, ◌-◌, ◌≤◌, Bool, if◌then◌else◌, List, [], ◌∷◌, ◌++◌}
+use Rattle.hp_session.specs.State.{Machine}
 use Rattle.spl_tree.specs.declared.names_and_places.At.{At}
 use Rattle.spl_branch.specs.declared.pieces.Piece.TheVariants.{Begin}
 use Rattle.spl_meaning.specs.Elements.{with_one}
+use Rattle.spl_meaning.specs.Laws.{IsFront}
 use Rattle.spl_meaning.specs.Operations.{is_odd}
 use Rattle.spl_meaning.specs.States.{State, Outcome, done, then_go, beginning, stopping, code_dropped}
 use Rattle.spl_meaning.specs.Statements.{looping, repeating}
-use Rattle.spl_code.specs.Parts.{Part, piece, ◌⨟◌}
-use Rattle.spl_code.specs.Code.{as_test}
-use Rattle.spl_statement_code.specs.Statements.{chosen, chosen_or, repeated_while, repeated_until}
+use Rattle.spl_code.specs.Instructions.{DEL}
+use Rattle.spl_code.specs.Parts.{Part, Wanted, piece, nothing, ◌⨟◌}
+use Rattle.spl_code.specs.Code.{as_value, as_test}
+use Rattle.spl_statement_code.specs.Statements.{chosen, chosen_or, repeated_while, repeated_until, arm, chosen_among}
+use Rattle.spl_follow.specs.Spots.{Spot, pos, on}
+use Rattle.spl_follow.specs.Matching.{IsValue}
+use Rattle.spl_follow.specs.Following.{tally, Follows}
+use Rattle.spl_follow.specs.Standing.{Stands}
+use Rattle.spl_follow.specs.Parts.{Leaving}
 use Rattle.spl_follow.specs.Simulating.{Surroundings, Simulates, Performs}
+use Rattle.spl_control.specs.Laws.{Settles}
 use Rattle.spl_values.specs.Reached.{IsWhole}
 
 -- a condition: the lowest bit of a value
@@ -36,6 +45,42 @@ EitherPerforms = (z : Surroundings) (d k need number : ℕ) (at : At) (test : �
     (yes' no' : State → Outcome (Unit {0})) → Decides z d k need test value → IsWhole a → IsWhole b → Performs z d k need a yes' → Performs z d k need b no'
     → Performs z d k need (piece (Begin at) ⨟ chosen_or test a b)
     (λ s. stopping number at s (λ u. then_go (decided value u) (λ c v. code_dropped (if c then yes' v else no' v))))
+
+-- ---- CASE
+
+-- Arms of a CASE, by the mark of its end, behind a value that waits on top, and what is meant by them with that value. They are followed from
+-- the value on to the end, before which it is deleted where no arm was taken; t is where the CASE began.
+pub record Chooses (z : Surroundings) (d k need : ℕ) (arms : ℕ → Part) (meaning : ℕ → State → Outcome (Unit {0})) : Type 0 where
+  pub keeps : (end l : ℕ) (ws : List Wanted) → IsFront ws (arms end l ws).wants
+  pub chooses : (end h : ℕ) (ws : List Wanted) (p q : Spot) (v : ℕ) (t s : State) (m n : Machine)
+      → Stands z.ground z.sites (on p) ((arms end h ws).pieces ++ DEL ∷ []) q → z.sites.marks end ≡ q → IsFront (arms end h ws).wants z.wants
+      → pos q ≤ z.rate.step → t.now.top + k + need ≤ t.now.stack → t.left ≤ d → s.left ≤ t.left → IsValue z.setting p 1 k t.now m (v ∷ []) s n
+      → Follows z.ground z.rate (pos q - pos p) 0 3 (tally s) n (Settles z.setting q k t.now m) (Leaving z.setting z.exits k t.now m)
+      (code_dropped (meaning v s))
+
+-- where there is no arm nothing is done
+abbrev pub NoArmChooses : Type 0
+NoArmChooses = (z : Surroundings) (d k need : ℕ) → Chooses z d k need (λ end. nothing) (λ v s. done tt s)
+
+-- what an arm means before others: it is that for 0, and the others are counted from 1
+abbrev pub chosen_before : (State → Outcome (Unit {0})) → (ℕ → State → Outcome (Unit {0})) → ℕ → State → Outcome (Unit {0})
+chosen_before one others zero s = one s
+chosen_before one others (suc v) s = others v s
+
+-- An arm before others: it is taken for the value 0, and else the value is one less behind it.
+abbrev pub ArmsChoose : Type 0
+ArmsChoose = (z : Surroundings) (d k need : ℕ) (a : Part) (one : State → Outcome (Unit {0})) (arms : ℕ → Part)
+    (others : ℕ → State → Outcome (Unit {0})) → 2 ≤ need → IsWhole a → Performs z d k need a one → Chooses z d k need arms others
+    → Chooses z d k need (λ end. arm a end ⨟ arms end) (chosen_before one others)
+
+-- A CASE: a statement is noted, its value is made, and its arms choose by it. No condition code is known behind it.
+abbrev pub CasesPerform : Type 0
+CasesPerform = (z : Surroundings) (d k need number : ℕ) (at : At) (a : Part) (value : State → Outcome (List ℕ)) (arms : ℕ → Part)
+    (meaning : ℕ → State → Outcome (Unit {0})) → IsWhole a → Simulates z d as_value 1 k need a value → Chooses z d k need arms meaning
+    → Performs z d k need (piece (Begin at) ⨟ chosen_among a arms)
+    (λ s. stopping number at s (λ u. then_go (value u) (λ vs t. with_one vs t (λ v w. code_dropped (meaning v w)))))
+
+-- ---- loops
 
 -- WHILE: the test stands before the body, which leads back to it; where it does not hold it leads behind the loop.
 abbrev pub WhilePerforms : Type 0

@@ -1,10 +1,17 @@
 //! The laws of this crate, as the contracts of functions that do nothing.
-ghost use Rattle.spl_choices.specs.Laws.{ChoicesPerform, EitherPerforms, WhilePerforms, UntilPerforms};
+ghost use Rattle.spl_choices.specs.Laws.{ChoicesPerform, EitherPerforms, NoArmChooses, ArmsChoose, CasesPerform, WhilePerforms, UntilPerforms};
 
 /// IF without and with ELSE.
 pub fn choices_perform()
     ensures one { ChoicesPerform }
     ensures either { EitherPerforms }
+{}
+
+/// CASE: no arms, an arm before others, and the whole.
+pub fn cases_perform()
+    ensures none { NoArmChooses }
+    ensures arm { ArmsChoose }
+    ensures whole { CasesPerform }
 {}
 
 /// WHILE, and DO with UNTIL.

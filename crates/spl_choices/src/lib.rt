@@ -1,6 +1,6 @@
-//! IF, WHILE and DO, performed by their code wherever it stands.
+//! IF, CASE, WHILE and DO, performed by their code wherever it stands.
 #![tactic(auto)]
 
 mod laws;
 
-pub use laws::{choices_perform, loops_perform};
+pub use laws::{cases_perform, choices_perform, loops_perform};

@@ -1,5 +1,5 @@
 -- Calls that end the session, along the tree: their code is whole, and performs them.
-use Rattle.std.proofs.Common.{◌≡◌, ℕ, zero, suc, ◌+◌, ◌≤◌, Bool, true, false, List, [], ◌∷◌, ◌++◌, refl, sym, ap, subst, ◌∙◌, arith}
+use Rattle.std.proofs.Common.{◌≡◌, ℕ, ◌+◌, ◌≤◌, Bool, true, false, List, [], ◌∷◌, ◌++◌, refl, sym, ap, subst, ◌∙◌, arith}
 use Rattle.std.specs.Prelude.{Option, Some, None, ◌&&◌, not, max, if◌then◌else◌}
 use Rattle.std.proofs.lemmas.Bool.{false≢true}
 use Rattle.std.proofs.lemmas.List.{append-nil}
@@ -14,7 +14,6 @@ use Rattle.spl_tree.specs.StatementTrees as stat
 use Rattle.spl_meaning.specs.Names as n
 use Rattle.spl_meaning.specs.Names.{Sort, Profile, intrinsic_named, intrinsic_profile}
 use Rattle.spl_meaning.specs.Kinds.{callable}
-use Rattle.spl_meaning.specs.Laws.{IsFront}
 use Rattle.spl_meaning.specs.Operations.{passed}
 use Rattle.spl_meaning.specs.Pending.{most, most_of, formals_words, profile_formals, profile_result_words, link_words, result_words, statement_most}
 use Rattle.spl_meaning.specs.Places.{Place}
@@ -26,7 +25,7 @@ use Rattle.spl_meaning.specs.Values.{Callee, sense_of, value, arguments}
 use Rattle.spl_code.specs.Calls.{Scope}
 use Rattle.spl_code.specs.Code as made
 use Rattle.spl_code.specs.Code.{as_value, closing, named, index, variable, is_indexed, code}
-use Rattle.spl_code.specs.Parts.{Part, Wanted, pieces, piece, nothing, ◌⨟◌, wanted_place, with_wanted}
+use Rattle.spl_code.specs.Parts.{Part, pieces, piece, nothing, ◌⨟◌, wanted_place, with_wanted}
 use Rattle.spl_branch.specs.declared.pieces.Piece.{Piece}
 use Rattle.spl_branch.specs.declared.pieces.Piece.TheVariants.{Call, Begin}
 use Rattle.hp_instr.specs.declared.instruction.Instr.TheVariants as i

@@ -1,7 +1,8 @@
 -- Statements that are covered, along the tree: their code is whole, and performs them.
-use Rattle.std.proofs.Common.{◌≡◌, ℕ, zero, suc, ◌+◌, ◌≤◌, Bool, true, false, List, [], ◌∷◌, refl, sym, ap, subst, ◌∙◌, arith}
-use Rattle.std.specs.Prelude.{Option, Some, None, ◌&&◌, if◌then◌else◌}
+use Rattle.std.proofs.Common.{◌≡◌, ℕ, ◌+◌, ◌-◌, ◌≤◌, Bool, true, false, List, [], ◌∷◌, refl, sym, ap, subst, ◌∙◌, arith}
+use Rattle.std.specs.Prelude.{Option, Some, None, ◌&&◌, if◌then◌else◌, ◌||◌}
 use Rattle.std.proofs.lemmas.Bool.{false≢true}
+use Rattle.std.proofs.Math.Logic.{⊎_elim}
 use Rattle.std.proofs.lemmas.List.{append-nil}
 use Rattle.hp_instr.specs.declared.instruction.Instr.TheVariants as i
 use Rattle.spl_branch.specs.declared.pieces.Piece.{Piece}
@@ -17,11 +18,11 @@ use Rattle.spl_meaning.specs.Names as n
 use Rattle.spl_meaning.specs.Names.{Sort}
 use Rattle.spl_meaning.specs.Operations.{kept}
 use Rattle.spl_meaning.specs.Laws.{IsFront}
-use Rattle.spl_meaning.specs.Pending.{most}
+use Rattle.spl_meaning.specs.Pending.{most, statements_most}
 use Rattle.spl_meaning.specs.Places.{Place, data_word, above_base, below_base, below_return}
 use Rattle.spl_meaning.specs.References.{Here, Setting, Access, its_own, address_of, variable_located, target_access, own_located, locate_by, locate_target, store}
-use Rattle.spl_meaning.specs.States.{State, Outcome, done, leaves, spent, ends, strays, then_go, step_of, without_code, noted, stopping}
-use Rattle.spl_meaning.specs.Statements.{bears, bears_among, assign, is_intrinsic, is_intrinsic_alone, target_keeps_code, assigned, alone_value, run, run_all, run_from}
+use Rattle.spl_meaning.specs.States.{State, then_go, stopping}
+use Rattle.spl_meaning.specs.Statements.{bears, bears_among, assign, is_intrinsic, is_intrinsic_alone, target_keeps_code, assigned, alone_value, run, run_all, run_from, run_arm}
 use Rattle.spl_meaning.specs.Stops.{stops}
 use Rattle.spl_meaning.specs.Values.{Callee, value}
 use Rattle.spl_code.specs.Parts.{Part, Wanted, pieces, piece, nothing, ◌⨟◌}
@@ -31,26 +32,31 @@ use Rattle.spl_code.specs.Code.{as_value, code}
 use Rattle.spl_code.specs.Stores.{stored}
 use Rattle.spl_statement_code.specs.Assignments.{assigned_access}
 use Rattle.spl_statement_code.specs.Landings.{Context}
-use Rattle.spl_statement_code.specs.Statements.{statement, listed}
-use Rattle.spl_follow.specs.Spots.{on}
-use Rattle.spl_follow.specs.Standing.{Stands, IsClosed, due_after}
-use Rattle.spl_follow.specs.Parts.{Runs}
+use Rattle.spl_statement_code.specs.Statements.{statement, listed, arms}
+use Rattle.spl_follow.specs.Standing.{IsClosed, due_after}
 use Rattle.spl_follow.specs.Simulating.{Surroundings, Simulates, Performs}
 use Rattle.spl_follow.proofs.StandLemmas.{closed_any, closed_last, due_add}
 use Rattle.spl_control.proofs.SequenceLemmas.{idle_performs, nothing_performs, lists_perform}
 use Rattle.spl_values.specs.Reached.{is_word_kind, is_reached, IsWhole}
-use Rattle.spl_covered.specs.Covered.{is_covered_name, is_covered}
+use Rattle.spl_covered.specs.Covered.{is_covered}
 use Rattle.spl_covered.specs.Laws.{read_with}
 use Rattle.spl_values.proofs.VariableLemmas.{both}
 use Rattle.spl_values.proofs.SumLemmas.{front_on}
 use Rattle.spl_values.proofs.WholeLemmas.{whole_pieces}
 use Rattle.spl_covered.proofs.CoverLemmas.{covered_width, covered_whole, covered_gives}
+use Rattle.spl_choices.specs.Laws.{Chooses}
+use Rattle.spl_choices.proofs.CaseLemmas.{no_arm, arm_keeps}
 use Rattle.spl_stores.specs.Covered.{is_stored_name, is_covered_statement, are_covered}
-use Rattle.spl_stores.specs.Laws.{CoveredStatementsAreWhole, CoveredStatementsPerform, CoveredListsPerform}
+use Rattle.spl_stores.specs.Laws.{MayCall, CoveredStatementsAreWhole, CoveredStatementsPerform, CoveredListsPerform}
 use Rattle.spl_stores.proofs.StoreLemmas.{assignments}
 use Rattle.spl_stores.proofs.BlockLemmas.{blocks}
+use Rattle.spl_targets.specs.Targets.{is_led_target}
+use Rattle.spl_targets.proofs.ElementLemmas.{no_intrinsic, either, led_targets_whole, led_targets}
 use Rattle.spl_stores.proofs.SameLemmas.{then_same, stopping_same, same_performs}
 use Rattle.spl_stores.proofs.CallLemmas.{call_whole, call_performs}
+use Rattle.spl_stores.proofs.CaseLemmas.{cased_whole, first_arm, case_performs}
+use Rattle.spl_counts.specs.Laws.{leaving_at_most}
+use Rattle.spl_stores.proofs.ForLemmas.{for_parts, for_whole, for_performs}
 use Rattle.spl_stores.proofs.ChoiceLemmas.{if_whole, if_performs, else_whole, else_performs, loop_whole, while_performs, repeat_whole, until_performs}
 
 -- ---- targets
@@ -107,41 +113,6 @@ stored_closed st kind.Logical k (below_base n) e r = refl
 stored_closed st t k (below_return n) e r = absurd (false≢true r)
 stored_closed st kind.Byte k place e r = absurd (false≢true e)
 stored_closed st kind.Double k place e r = absurd (false≢true e)
-
--- ---- values
-
--- a covered name is no intrinsic
-name_no_intrinsic : (st : Setting) (k : ℕ) (o : Option Sort) (pl : Option Place) → is_covered_name st k o pl ≡ true → is_intrinsic o ≡ false
-name_no_intrinsic st k (Some (n.intrinsic i)) pl e = absurd (false≢true e)
-name_no_intrinsic st k None pl e = refl
-name_no_intrinsic st k (Some (n.simple t own)) pl e = refl
-name_no_intrinsic st k (Some (n.value t)) pl e = refl
-name_no_intrinsic st k (Some (n.equate v)) pl e = refl
-name_no_intrinsic st k (Some (n.array t own low high)) pl e = refl
-name_no_intrinsic st k (Some (n.view t own base)) pl e = refl
-name_no_intrinsic st k (Some (n.pointer t own)) pl e = refl
-name_no_intrinsic st k (Some (n.by_reference t)) pl e = refl
-name_no_intrinsic st k (Some (n.array_parameter t)) pl e = refl
-name_no_intrinsic st k (Some n.label) pl e = refl
-name_no_intrinsic st k (Some (n.procedure p)) pl e = refl
-name_no_intrinsic st k (Some (n.subroutine p)) pl e = refl
-name_no_intrinsic st k (Some n.unknown) pl e = refl
-
--- so no covered expression is the call of one
-no_intrinsic : (c : Scope) (st : Setting) (e : Tree) (k : ℕ) → is_covered c st e k ≡ true → is_intrinsic_alone c.names e ≡ false
-no_intrinsic c st (tree.Tree.named x tree.Trees.none at) k e = name_no_intrinsic st k (c.names x) (c.places x) e
-no_intrinsic c st (tree.Tree.named x (tree.Trees.and i is) at) k e = absurd (false≢true e)
-no_intrinsic c st (tree.Tree.number v) k e = refl
-no_intrinsic c st (tree.Tree.truth b) k e = refl
-no_intrinsic c st (tree.Tree.binary o a b at) k e = refl
-no_intrinsic c st (tree.Tree.wide v) k e = refl
-no_intrinsic c st (tree.Tree.text bytes) k e = refl
-no_intrinsic c st (tree.Tree.address x es at) k e = refl
-no_intrinsic c st (tree.Tree.unary o a at) k e = refl
-no_intrinsic c st (tree.Tree.shift o a by at) k e = refl
-no_intrinsic c st (tree.Tree.field a start size at) k e = refl
-no_intrinsic c st (tree.Tree.transfer to a at) k e = refl
-no_intrinsic c st (tree.Tree.bytes o a b count at) k e = refl
 
 -- ---- assignments
 
@@ -234,12 +205,20 @@ mutual
     keeps = λ l ws. list_keeps c st ss k e (l + 0) ws;
   }
   statement_whole c st (stat.Statement.assign (stat.Target.plain (tree.Tree.named x tree.Trees.none there)) v at) k e =
-      let two = both (is_stored_name st k (c.scope.names x) (c.scope.places x)) (is_covered c.scope st v k) e in
-      let r = target_case st k (c.scope.names x) (c.scope.places x) two.0 in
+      let to = stat.Target.plain (tree.Tree.named x tree.Trees.none there) in
+      let names = is_stored_name st k (c.scope.names x) (c.scope.places x) in
+      let two = both (names || is_led_target c.scope st to k) (is_covered c.scope st v k) e in
+      ⊎_elim
+      (λ own. let r = target_case st k (c.scope.names x) (c.scope.places x) own in
       subst (λ (a : Part). IsWhole a) (sym (assign_code c st x there v at k r))
       (assigned_whole at (code c.scope v as_value k) (stored (its_own r.type) false k r.place) (covered_whole c.scope st v k two.1)
-      (stored_closed st r.type k r.place r.word r.reached))
-  statement_whole c st (stat.Statement.assign (stat.Target.plain (tree.Tree.named x (tree.Trees.and j js) there)) v at) k e = absurd (false≢true e)
+      (stored_closed st r.type k r.place r.word r.reached)))
+      (λ led. led_targets_whole c st to v at k led two.1) (either names (is_led_target c.scope st to k) two.0)
+  statement_whole c st (stat.Statement.assign (stat.Target.plain (tree.Tree.named x (tree.Trees.and i tree.Trees.none) there)) v at) k e =
+      let to = stat.Target.plain (tree.Tree.named x (tree.Trees.and i tree.Trees.none) there) in
+      let two = both (is_led_target c.scope st to k) (is_covered c.scope st v (k + 1)) e in
+      led_targets_whole c st to v at k two.0 two.1
+  statement_whole c st (stat.Statement.assign (stat.Target.plain (tree.Tree.named x (tree.Trees.and i (tree.Trees.and j js)) there)) v at) k e = absurd (false≢true e)
   statement_whole c st (stat.Statement.assign (stat.Target.plain (tree.Tree.number w)) v at) k e = absurd (false≢true e)
   statement_whole c st (stat.Statement.assign (stat.Target.plain (tree.Tree.wide w)) v at) k e = absurd (false≢true e)
   statement_whole c st (stat.Statement.assign (stat.Target.plain (tree.Tree.text bytes)) v at) k e = absurd (false≢true e)
@@ -269,8 +248,11 @@ mutual
   statement_whole c st (stat.Statement.until_true s v at) k e =
       let two = both (is_covered c.scope st v k) (is_covered_statement c.scope st s k) e in
       repeat_whole c st s v at k two.0 (statement_whole c st s k two.1)
-  statement_whole c st (stat.Statement.for_values y a b v s at) k e = absurd (false≢true e)
-  statement_whole c st (stat.Statement.case_of v ss at) k e = absurd (false≢true e)
+  statement_whole c st (stat.Statement.for_values y a b v s at) k e =
+      let r = for_parts c.scope st y a b v s k e in for_whole c st y a b v s at k r.counted r.first r.step r.last (statement_whole c st s (k + 3) r.inside)
+  statement_whole c st (stat.Statement.case_of v ss at) k e =
+      let two = both (is_covered c.scope st v k) (are_covered c.scope st ss k) e in
+      cased_whole c st v ss at k two.0 (λ end l ws. arms_keep c st ss k two.1 end l ws)
   statement_whole c st (stat.Statement.go_to y at) k e = absurd (false≢true e)
   statement_whole c st (stat.Statement.return at) k e = absurd (false≢true e)
   statement_whole c st (stat.Statement.assign_effect to v at) k e = absurd (false≢true e)
@@ -299,6 +281,14 @@ mutual
       front_on ws a.wants (listed c ss k (l + a.marks) a.wants).wants ((statement_whole c st s k two.0).keeps l ws)
       (list_keeps c st ss k two.1 (l + a.marks) a.wants)
 
+  -- so do arms
+  arms_keep : (c : Context) (st : Setting) (ss : Statements) (k : ℕ) → are_covered c.scope st ss k ≡ true → (end l : ℕ) (ws : List Wanted)
+      → IsFront ws (arms c ss k end l ws).wants
+  arms_keep c st stat.Statements.none k e end l ws = record { rest = []; is = sym (append-nil ws) }
+  arms_keep c st (stat.Statements.and s ss) k e end l ws =
+      let two = both (is_covered_statement c.scope st s k) (are_covered c.scope st ss k) e in
+      arm_keeps (statement c s k) (λ end. arms c ss k end) (statement_whole c st s k two.0) (λ end l ws. arms_keep c st ss k two.1 end l ws) end l ws
+
 mutual
   pub statement_performs : CoveredStatementsPerform
   statement_performs c results z call d number stat.Statement.empty k need e enough may = idle_performs z d k need
@@ -307,9 +297,16 @@ mutual
       blocks z d k need d (listed c ss k) (bears_among ss) (λ x s. run_from h call d number ss x k s) (λ s. run_all h call d number ss k s)
       (none_borne c.scope z.setting ss k e) (list_performs c results z call d number ss k need e enough may)
   statement_performs c results z call d number (stat.Statement.assign (stat.Target.plain (tree.Tree.named x tree.Trees.none there)) v at) k need e enough may =
-      let two = both (is_stored_name z.setting k (c.scope.names x) (c.scope.places x)) (is_covered c.scope z.setting v k) e in
-      assign_performs c results z call d number x there v at k need two.0 two.1 (omega (arith, enough))
-  statement_performs c results z call d number (stat.Statement.assign (stat.Target.plain (tree.Tree.named x (tree.Trees.and j js) there)) v at) k need e enough may = absurd (false≢true e)
+      let to = stat.Target.plain (tree.Tree.named x tree.Trees.none there) in
+      let names = is_stored_name z.setting k (c.scope.names x) (c.scope.places x) in
+      let two = both (names || is_led_target c.scope z.setting to k) (is_covered c.scope z.setting v k) e in
+      ⊎_elim (λ own. assign_performs c results z call d number x there v at k need own two.1 (omega (arith, enough)))
+      (λ led. led_targets c results z call d number to v at k need led two.1 enough) (either names (is_led_target c.scope z.setting to k) two.0)
+  statement_performs c results z call d number (stat.Statement.assign (stat.Target.plain (tree.Tree.named x (tree.Trees.and i tree.Trees.none) there)) v at) k need e enough may =
+      let to = stat.Target.plain (tree.Tree.named x (tree.Trees.and i tree.Trees.none) there) in
+      let two = both (is_led_target c.scope z.setting to k) (is_covered c.scope z.setting v (k + 1)) e in
+      led_targets c results z call d number to v at k need two.0 two.1 enough
+  statement_performs c results z call d number (stat.Statement.assign (stat.Target.plain (tree.Tree.named x (tree.Trees.and i (tree.Trees.and j js)) there)) v at) k need e enough may = absurd (false≢true e)
   statement_performs c results z call d number (stat.Statement.assign (stat.Target.plain (tree.Tree.number w)) v at) k need e enough may = absurd (false≢true e)
   statement_performs c results z call d number (stat.Statement.assign (stat.Target.plain (tree.Tree.wide w)) v at) k need e enough may = absurd (false≢true e)
   statement_performs c results z call d number (stat.Statement.assign (stat.Target.plain (tree.Tree.text bytes)) v at) k need e enough may = absurd (false≢true e)
@@ -344,8 +341,15 @@ mutual
       let two = both (is_covered c.scope z.setting v k) (is_covered_statement c.scope z.setting s k) e in
       until_performs c results z call d number s v at k need two.0 (omega (arith, enough)) (statement_whole c z.setting s k two.1)
       (statement_performs c results z call d number s k need two.1 (omega (arith, enough)) may)
-  statement_performs c results z call d number (stat.Statement.for_values y a b v s at) k need e enough may = absurd (false≢true e)
-  statement_performs c results z call d number (stat.Statement.case_of v ss at) k need e enough may = absurd (false≢true e)
+  statement_performs c results z call d number (stat.Statement.for_values y a b v s at) k need e enough may =
+      let r = for_parts c.scope z.setting y a b v s k e in
+      for_performs c results z call d number y a b v s at k need r.counted r.first r.step r.last (omega (arith, enough)) (omega (arith, enough)) (omega (arith, enough))
+      (omega (arith, enough)) (statement_whole c z.setting s (k + 3) r.inside)
+      (statement_performs c results (leaving_at_most k z) call d (number + 1) s (k + 3) (need - 3) r.inside (omega (arith, enough)) (record { gates = may.gates }))
+  statement_performs c results z call d number (stat.Statement.case_of v ss at) k need e enough may =
+      let two = both (is_covered c.scope z.setting v k) (are_covered c.scope z.setting ss k) e in
+      case_performs c results z call d number v ss at k need two.0 (omega (arith, enough)) (none_borne c.scope z.setting ss k two.1)
+      (arms_choose c results z call d (number + 1) ss k need two.1 (omega (arith, enough)) may)
   statement_performs c results z call d number (stat.Statement.go_to y at) k need e enough may = absurd (false≢true e)
   statement_performs c results z call d number (stat.Statement.return at) k need e enough may = absurd (false≢true e)
   statement_performs c results z call d number (stat.Statement.assign_effect to v at) k need e enough may = absurd (false≢true e)
@@ -362,3 +366,14 @@ mutual
       (λ l ws. list_keeps c z.setting ss k two.1 l ws)
       (statement_performs c results z call d number s k need two.0 (omega (arith, enough)) may)
       (list_performs c results z call d (number + stops s) ss k need two.1 (omega (arith, enough)) may)
+
+  -- arms choose by their number
+  arms_choose : (c : Context) (results : List ℕ → Option (Kind × Place)) (z : Surroundings) (call : Callee) (d number : ℕ) (ss : Statements) (k need : ℕ)
+      → are_covered c.scope z.setting ss k ≡ true → statements_most c.scope.names ss + 8 ≤ need → MayCall z
+      → Chooses z d k need (λ end. arms c ss k end) (λ v s. run_arm (read_with c.scope results z.setting) call d number ss v k s)
+  arms_choose c results z call d number stat.Statements.none k need e enough may = no_arm z d k need
+  arms_choose c results z call d number (stat.Statements.and s ss) k need e enough may =
+      let two = both (is_covered_statement c.scope z.setting s k) (are_covered c.scope z.setting ss k) e in
+      first_arm c results z call d number s ss k need (omega (arith, enough)) (statement_whole c z.setting s k two.0)
+      (statement_performs c results z call d number s k need two.0 (omega (arith, enough)) may)
+      (arms_choose c results z call d (number + stops s) ss k need two.1 (omega (arith, enough)) may)

@@ -4,4 +4,6 @@ pub mod BlockLemmas
 pub mod SameLemmas
 pub mod CallLemmas
 pub mod ChoiceLemmas
+pub mod CaseLemmas
+pub mod ForLemmas
 pub mod CoverLemmas

@@ -1,18 +1,21 @@
 -- Which statements are proved: those whose every part has a law. A further construct makes it larger.
-use Rattle.std.specs.Prelude.{ℕ, ◌&&◌, not, Bool, true, false, List, Option, Some}
+use Rattle.std.specs.Prelude.{ℕ, ◌+◌, ◌&&◌, not, Bool, true, false, List, Option, Some, ◌||◌}
 use Rattle.hp_word.specs.declared.intrinsics.Intrinsic.{Intrinsic}
 use Rattle.hp_word.specs.declared.intrinsics.Intrinsic.TheVariants as gate
+use Rattle.spl_tree.specs.declared.expressions.Kind.TheVariants as kind
 use Rattle.spl_tree.specs.Trees as tree
 use Rattle.spl_tree.specs.Trees.{Trees}
 use Rattle.spl_tree.specs.StatementTrees as stat
 use Rattle.spl_tree.specs.StatementTrees.{Statement, Statements, Target}
 use Rattle.spl_meaning.specs.Names as n
 use Rattle.spl_meaning.specs.Names.{Sort, intrinsic_named}
+use Rattle.spl_meaning.specs.Pending.{waiting}
 use Rattle.spl_meaning.specs.Places.{Place}
 use Rattle.spl_meaning.specs.References.{Setting}
 use Rattle.spl_code.specs.Calls.{Scope}
 use Rattle.spl_values.specs.Reached.{is_word_kind}
 use Rattle.spl_covered.specs.Covered.{has_reached, is_covered}
+use Rattle.spl_targets.specs.Targets.{is_led_target}
 
 -- a name on the left of :=, a simple variable or a parameter by value of one word, where it is reached
 abbrev pub is_stored_name : Setting → ℕ → Option Sort → Option Place → Bool
@@ -20,10 +23,11 @@ is_stored_name st k (Some (n.simple t own)) place = is_word_kind t && has_reache
 is_stored_name st k (Some (n.value t)) place = is_word_kind t && has_reached st k place
 is_stored_name st k _ place = false
 
--- a target: such a name without an index
+-- a target: such a name without an index, or what a name's word leads to
 abbrev pub is_covered_target : Scope → Setting → Target → ℕ → Bool
-is_covered_target c st (stat.Target.plain (tree.Tree.named x tree.Trees.none at)) k = is_stored_name st k (c.names x) (c.places x)
-is_covered_target c st _ k = false
+is_covered_target c st (stat.Target.plain (tree.Tree.named x tree.Trees.none at)) k =
+    is_stored_name st k (c.names x) (c.places x) || is_led_target c st (stat.Target.plain (tree.Tree.named x tree.Trees.none at)) k
+is_covered_target c st to k = is_led_target c st to k
 
 -- the intrinsic of a name is TERMINATE, or QUIT
 abbrev pub is_terminate : Option Intrinsic → Bool
@@ -41,19 +45,35 @@ is_covered_call c st x (Some (n.intrinsic gate.Quit)) (tree.Trees.and e tree.Tre
     not st.split && (is_quit (intrinsic_named x) && is_covered c st e k)
 is_covered_call c st x sort es k = false
 
+-- the variable of a FOR: an INTEGER one, simple or a parameter by value, where it is reached
+abbrev pub is_counted_name : Setting → ℕ → Option Sort → Option Place → Bool
+is_counted_name st k (Some (n.simple kind.Integer own)) place = has_reached st k place
+is_counted_name st k (Some (n.value kind.Integer)) place = has_reached st k place
+is_counted_name st k _ place = false
+
+-- its step, which may be left out
+abbrev pub is_covered_step : Scope → Setting → Trees → ℕ → Bool
+is_covered_step c st tree.Trees.none k = true
+is_covered_step c st (tree.Trees.and e es) k = is_covered c st e k
+
 abbrev mutual
   -- A statement, in a body with this setting and while k words wait: the empty one, assignments of what is covered, blocks of such, IF, WHILE
-  -- and DO of such with a condition that is covered, and calls that end the session.
+  -- and DO of such with a condition that is covered, CASE of such with a value that is, calls that end the session, and
+  -- FOR of such with values that are, each while as many words more wait as stand before it.
   pub is_covered_statement : Scope → Setting → Statement → ℕ → Bool
   is_covered_statement c st stat.Statement.empty k = true
   is_covered_statement c st (stat.Statement.block ss) k = are_covered c st ss k
-  is_covered_statement c st (stat.Statement.assign to e at) k = is_covered_target c st to k && is_covered c st e k
+  is_covered_statement c st (stat.Statement.assign to e at) k = is_covered_target c st to k && is_covered c st e (waiting to k)
   is_covered_statement c st (stat.Statement.if_test (stat.Test.condition e) s stat.Statements.none at) k =
       is_covered c st e k && is_covered_statement c st s k
   is_covered_statement c st (stat.Statement.if_test (stat.Test.condition e) s (stat.Statements.and other stat.Statements.none) at) k =
       is_covered c st e k && is_covered_statement c st s k && is_covered_statement c st other k
   is_covered_statement c st (stat.Statement.while_true e s at) k = is_covered c st e k && is_covered_statement c st s k
   is_covered_statement c st (stat.Statement.until_true s e at) k = is_covered c st e k && is_covered_statement c st s k
+  is_covered_statement c st (stat.Statement.for_values x first step last s at) k =
+      is_counted_name st k (c.names x) (c.places x) && is_covered c st first k && is_covered_step c st step (k + 1) && is_covered c st last (k + 2)
+      && is_covered_statement c st s (k + 3)
+  is_covered_statement c st (stat.Statement.case_of e ss at) k = is_covered c st e k && are_covered c st ss k
   is_covered_statement c st (stat.Statement.call x es at) k = is_covered_call c st x (c.names x) es k
   is_covered_statement c st _ k = false
 

@@ -1,0 +1,5 @@
+-- In reading order.
+pub mod StoreLemmas
+pub mod TestLemmas
+pub mod TurnLemmas
+pub mod CountLemmas

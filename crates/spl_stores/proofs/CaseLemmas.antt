@@ -1,0 +1,97 @@
+-- CASE in a tree, over the code of its arms.
+use Rattle.std.proofs.Common.{◌≡◌, ℕ, zero, suc, ◌+◌, ◌-◌, ◌≤◌, true, false, List, refl, sym, ap, subst}
+use Rattle.std.specs.Prelude.{Option}
+use Rattle.spl_tree.specs.declared.expressions.Kind.{Kind}
+use Rattle.spl_tree.specs.declared.names_and_places.At.{At}
+use Rattle.spl_tree.specs.Trees.{Tree}
+use Rattle.spl_tree.specs.StatementTrees as stat
+use Rattle.spl_tree.specs.StatementTrees.{Statement, Statements}
+use Rattle.spl_branch.specs.declared.pieces.Piece.TheVariants.{Begin}
+use Rattle.spl_meaning.specs.Elements.{with_one}
+use Rattle.spl_meaning.specs.Laws.{IsFront}
+use Rattle.spl_meaning.specs.Pending.{most}
+use Rattle.spl_meaning.specs.Places.{Place}
+use Rattle.spl_meaning.specs.References.{Here, Setting}
+use Rattle.spl_meaning.specs.States.{State, Outcome, then_go, stopping, code_dropped}
+use Rattle.spl_meaning.specs.Statements.{bears_among, landing, run, run_arm, run_bearer}
+use Rattle.spl_meaning.specs.Stops.{stops}
+use Rattle.spl_meaning.specs.Values.{Callee, value}
+use Rattle.spl_code.specs.Parts.{Part, Wanted, piece, ◌⨟◌}
+use Rattle.spl_code.specs.Code.{as_value, code}
+use Rattle.spl_statement_code.specs.Landings.{Context}
+use Rattle.spl_statement_code.specs.Statements.{statement, arm, arms, chosen_among}
+use Rattle.spl_follow.specs.Parts.{Leaving}
+use Rattle.spl_follow.specs.Following.{tally, Follows}
+use Rattle.spl_follow.specs.Simulating.{Surroundings, Simulates, Performs}
+use Rattle.spl_follow.specs.Spots.{pos}
+use Rattle.spl_control.specs.Laws.{Settles}
+use Rattle.spl_values.specs.Reached.{IsWhole}
+use Rattle.spl_covered.specs.Covered.{is_covered}
+use Rattle.spl_covered.specs.Laws.{read_with}
+use Rattle.spl_covered.proofs.CoverLemmas.{covered_width, covered_whole, covered_gives}
+use Rattle.spl_choices.specs.Laws.{Chooses, chosen_before}
+use Rattle.spl_choices.proofs.PartLemmas.{begun_whole}
+use Rattle.spl_choices.proofs.CaseLemmas.{arm_before, cases, case_whole}
+use Rattle.spl_stores.proofs.BlockLemmas.{landing_none}
+use Rattle.spl_stores.proofs.SameLemmas.{then_same, one_same, stopping_same, same_performs}
+
+pub cased_whole : (c : Context) (st : Setting) (v : Tree) (ss : Statements) (at : At) (k : ℕ) → is_covered c.scope st v k ≡ true
+    → ((end l : ℕ) (ws : List Wanted) → IsFront ws (arms c ss k end l ws).wants) → IsWhole (statement c (stat.Statement.case_of v ss at) k)
+cased_whole c st v ss at k covered keeps =
+    begun_whole at (chosen_among (code c.scope v as_value k) (λ end. arms c ss k end))
+    (case_whole (code c.scope v as_value k) (λ end. arms c ss k end) (covered_whole c.scope st v k covered) keeps)
+
+-- arms that mean the same choose the same
+same_chooses : (z : Surroundings) (d k need : ℕ) (arms' : ℕ → Part) (f g : ℕ → State → Outcome (Unit {0})) → ((v : ℕ) (s : State) → f v s ≡ g v s)
+    → Chooses z d k need arms' g → Chooses z d k need arms' f
+same_chooses z d k need arms' f g same x = record {
+  keeps = x.keeps;
+  chooses = λ end h ws p q v t s m n stands ends front pays room fuel less is.
+      subst (λ (o : Outcome (Unit {0})). Follows z.ground z.rate (pos q - pos p) 0 3 (tally s) n (Settles z.setting q k t.now m) (Leaving z.setting z.exits k t.now m) (code_dropped o))
+      (sym (same v s)) (x.chooses end h ws p q v t s m n stands ends front pays room fuel less is);
+}
+
+-- the first arm, before the others
+pub first_arm : (c : Context) (results : List ℕ → Option (Kind × Place)) (z : Surroundings) (call : Callee) (d number : ℕ) (s : Statement) (ss : Statements)
+    (k need : ℕ) → 2 ≤ need → IsWhole (statement c s k)
+    → Performs z d k need (statement c s k) (λ t. run (read_with c.scope results z.setting) call d number s k t)
+    → Chooses z d k need (λ end. arms c ss k end) (λ v t. run_arm (read_with c.scope results z.setting) call d (number + stops s) ss v k t)
+    → Chooses z d k need (λ end. arms c (stat.Statements.and s ss) k end)
+    (λ v t. run_arm (read_with c.scope results z.setting) call d number (stat.Statements.and s ss) v k t)
+first_arm c results z call d number s ss k need enough whole x others =
+    let h = read_with c.scope results z.setting in
+    same_chooses z d k need (λ end. arm (statement c s k) end ⨟ arms c ss k end) (λ v t. run_arm h call d number (stat.Statements.and s ss) v k t)
+    (chosen_before (λ t. run h call d number s k t) (λ v t. run_arm h call d (number + stops s) ss v k t)) by
+    (arm_before z d k need (statement c s k) (λ t. run h call d number s k t) (λ end. arms c ss k end) (λ v t. run_arm h call d (number + stops s) ss v k t) enough
+    whole x others) where
+      by : (v : ℕ) (t : State) → run_arm (read_with c.scope results z.setting) call d number (stat.Statements.and s ss) v k t
+          ≡ chosen_before (λ t. run (read_with c.scope results z.setting) call d number s k t)
+          (λ v t. run_arm (read_with c.scope results z.setting) call d (number + stops s) ss v k t) v t
+      by zero t = refl
+      by (suc v) t = refl
+
+-- a CASE whose arms bear no label takes no jump
+pub case_performs : (c : Context) (results : List ℕ → Option (Kind × Place)) (z : Surroundings) (call : Callee) (d number : ℕ) (v : Tree) (ss : Statements)
+    (at : At) (k need : ℕ) → is_covered c.scope z.setting v k ≡ true → most c.scope.names v + 8 ≤ need → ((x : List ℕ) → bears_among ss x ≡ false)
+    → Chooses z d k need (λ end. arms c ss k end) (λ j t. run_arm (read_with c.scope results z.setting) call d (number + 1) ss j k t)
+    → Performs z d k need (statement c (stat.Statement.case_of v ss at) k)
+    (λ t. run (read_with c.scope results z.setting) call d number (stat.Statement.case_of v ss at) k t)
+case_performs c results z call d number v ss at k need covered enough none x =
+    same_performs z d k need (statement c (stat.Statement.case_of v ss at) k) (piece (Begin at) ⨟ chosen_among (code c.scope v as_value k) (λ end. arms c ss k end))
+    (λ s. run h call d number (stat.Statement.case_of v ss at) k s)
+    (λ s. stopping number at s (λ u. then_go (value h call v k u) (λ vs t. with_one vs t (λ j w. code_dropped (run_arm h call d (number + 1) ss j k w))))) refl
+    (λ s. stopping_same number at s
+    (λ u. then_go (value h call v k u) (λ vs t. with_one vs t (λ j w. code_dropped (landing d (bears_among ss) (λ y s4. run_bearer h call d (number + 1) ss y k s4) (run_arm h call d (number + 1) ss j k w)))))
+    (λ u. then_go (value h call v k u) (λ vs t. with_one vs t (λ j w. code_dropped (run_arm h call d (number + 1) ss j k w))))
+    (λ u. then_same (value h call v k u)
+    (λ vs t. with_one vs t (λ j w. code_dropped (landing d (bears_among ss) (λ y s4. run_bearer h call d (number + 1) ss y k s4) (run_arm h call d (number + 1) ss j k w))))
+    (λ vs t. with_one vs t (λ j w. code_dropped (run_arm h call d (number + 1) ss j k w)))
+    (λ vs t. one_same vs t (λ j w. code_dropped (landing d (bears_among ss) (λ y s4. run_bearer h call d (number + 1) ss y k s4) (run_arm h call d (number + 1) ss j k w)))
+    (λ j w. code_dropped (run_arm h call d (number + 1) ss j k w))
+    (λ j w. ap code_dropped (landing_none d (bears_among ss) (λ y s4. run_bearer h call d (number + 1) ss y k s4) (run_arm h call d (number + 1) ss j k w) none)))))
+    (cases z d k need number at (code c.scope v as_value k) (λ s. value h call v k s) (λ end. arms c ss k end) (λ j s. run_arm h call d (number + 1) ss j k s)
+    (covered_whole c.scope z.setting v k covered)
+    (subst (λ (j : ℕ). Simulates z d as_value j k need (code c.scope v as_value k) (λ s. value h call v k s)) (covered_width c.scope z.setting v k covered)
+    (covered_gives c.scope results z call d v k need covered enough)) x) where
+      h : Here
+      h = read_with c.scope results z.setting
