@@ -3,7 +3,7 @@
 -- 2. calls of QUIT and TERMINATE          (call_fits)
 -- 3. statements, and lists of them        (statement_fits, list_fits)
 use Rattle.std.proofs.Common.{◌≡◌, ℕ, ◌+◌, ◌≤◌, Bool, true, false, not, List, [], ◌∷◌, map, Option, Some, refl, sym, ap, subst, ◌∙◌, arith}
-use Rattle.std.specs.Prelude.{codes, ◌&&◌, nat_le, max, if◌then◌else◌}
+use Rattle.std.specs.Prelude.{codes, ◌&&◌, ◌||◌, nat_le, max, if◌then◌else◌}
 use Rattle.std.specs.List.{list_all}
 use Rattle.std.proofs.Math.Nat.{max-le}
 use Rattle.hp_word.specs.declared.intrinsics.Intrinsic.TheVariants as gate
@@ -20,6 +20,7 @@ use Rattle.spl_meaning.specs.References.{Setting}
 use Rattle.spl_code.specs.Calls.{Scope}
 use Rattle.spl_values.proofs.VariableLemmas.{both}
 use Rattle.spl_covered.specs.Covered.{is_covered}
+use Rattle.spl_targets.specs.Targets.{is_led_target}
 use Rattle.spl_stores.specs.Covered.{is_stored_name, is_covered_call, is_covered_statement, are_covered}
 use Rattle.thin_jobs.specs.ThinUnits as u
 use Rattle.thin_jobs.specs.ThinTrees.{tree_sum, tree_call, tree_assignment, tree_statement}
@@ -39,6 +40,10 @@ all_true true true ea eb = refl
 all_true true false ea eb = never eb
 all_true false b ea eb = never ea
 
+true_or : (a b : Bool) → a ≡ true → (a || b) ≡ true
+true_or true b e = refl
+true_or false b e = never e
+
 -- a setting that is not split
 no_split : (split : Bool) → split ≡ false → not split ≡ true
 no_split split is = ap not is
@@ -55,9 +60,11 @@ stored_fits : {names : List (List ℕ)} {gates : List u.Gate} (c : Scope) (st : 
 stored_fits {names} c st shows x a at e is short =
     let sum = sum_fits c st shows e (short_sum names (tree_sum e) short) in
     let target = ap (λ (o : Option Sort). is_stored_name st 0 o (c.places x)) (shows.variable x is) ∙ shows.reached x is 0 in
+    let led = is_led_target c st (stat.Target.plain (tree.Tree.named x tree.Trees.none a)) 0 in
     let few = sum.waits in
     record {
-      covered = all_true (is_stored_name st 0 (c.names x) (c.places x)) (is_covered c st e 0) target (sum.covered 0);
+      covered = all_true (is_stored_name st 0 (c.names x) (c.places x) || led) (is_covered c st e 0)
+          (true_or (is_stored_name st 0 (c.names x) (c.places x)) led target) (sum.covered 0);
       waits = max-le (omega arith) few;
     }
 
