@@ -1,6 +1,6 @@
 -- Expressions that are covered, along the tree: their code is whole, their values are of one word, and the code gives them or tests them.
-use Rattle.std.proofs.Common.{◌≡◌, ℕ, ◌+◌, ◌%◌, ◌<◌, ◌≤◌, Bool, true, false, List, refl, sym, ap, subst, ◌∙◌, arith}
-use Rattle.std.specs.Prelude.{Option, ◌&&◌, nat_lt, nat_le}
+use Rattle.std.proofs.Common.{◌≡◌, ℕ, ◌+◌, ◌%◌, ◌<◌, ◌≤◌, Bool, true, false, List, refl, sym, subst, ◌∙◌, arith}
+use Rattle.std.specs.Prelude.{Option, ◌&&◌, not, nat_lt, nat_le}
 use Rattle.std.proofs.lemmas.Bool.{ltb-true, false≢true}
 use Rattle.std.proofs.Math.Logic.{⊎_elim}
 use Rattle.spl_tree.specs.declared.expressions.Kind.{Kind}
@@ -8,7 +8,7 @@ use Rattle.spl_tree.specs.declared.names_and_places.At.{At}
 use Rattle.spl_tree.specs.Trees as tree
 use Rattle.spl_tree.specs.Trees.{Tree, Constant}
 use Rattle.spl_meaning.specs.Names.{Names, text_value, truth_word}
-use Rattle.spl_meaning.specs.Kinds.{is_connective, is_relation, is_byte, named_operand, variable_kind, reference_kind, is_long_text, compares_text, kind_of, operand_width, class_of}
+use Rattle.spl_meaning.specs.Kinds.{is_connective, named_operand, compares_text, kind_of, operand_width, class_of}
 use Rattle.spl_meaning.specs.Operations.{joined}
 use Rattle.spl_meaning.specs.Pending.{most, left_words}
 use Rattle.spl_meaning.specs.Places.{Place}
@@ -28,10 +28,10 @@ use Rattle.spl_conditions.proofs.ConnectiveLemmas.{connected_whole, connectives}
 use Rattle.spl_operators.specs.Laws.{is_word_operand, is_single}
 use Rattle.spl_covered.specs.Covered.{is_led_element, is_covered_operator, is_covered_sign, is_covered}
 use Rattle.spl_covered.specs.Laws.{read_with, CoveredCodeIsWhole, CoveredTestsAreWhole, CoveredValuesSimulate, CoveredTestsSimulate}
-use Rattle.spl_covered.proofs.LedLemmas.{element_case, kind_operand, led_no_bytes, element_whole, element_simulates}
-use Rattle.spl_covered.proofs.NameLemmas.{closing_whole, constant_whole, constant_simulates, text_whole, text_simulates, name_cases, name_no_bytes, name_whole, name_simulates}
+use Rattle.spl_covered.proofs.LedLemmas.{single_word, element_case, kind_operand, element_whole, element_simulates}
+use Rattle.spl_covered.proofs.NameLemmas.{closing_whole, constant_whole, constant_simulates, text_whole, text_simulates, name_cases, name_whole, name_simulates}
 use Rattle.spl_covered.proofs.OperatorLemmas.{truths, where_true, where_false, of_true, of_false, four, connective_operand, binary_word, word_wide, operated_whole, operated_simulates}
-use Rattle.spl_covered.proofs.UnaryLemmas.{sign_word, sign_whole, sign_simulates, shift_whole, shift_simulates, field_whole, field_simulates, single_word, transfer_whole, transfer_simulates}
+use Rattle.spl_covered.proofs.UnaryLemmas.{sign_word, sign_whole, sign_simulates, shift_whole, shift_simulates, field_whole, field_simulates, transfer_whole, transfer_simulates}
 
 -- ---- what is asked of operands
 
@@ -48,9 +48,15 @@ connective_parts : (c : Scope) (st : Setting) (o : ℕ) (a b : Tree) (at : At) (
     → is_covered c st (tree.Tree.binary o a b at) k ≡ true → (is_covered c st a k ≡ true) × (is_covered c st b k ≡ true)
 connective_parts c st o a b at k i e = both (is_covered c st a k) (is_covered c st b k) (of_true (is_connective o) _ _ i e)
 
--- of those of any other: the operator, the class, and both are covered, where the left one waits for the right one
+-- what is not so
+not_so : (b : Bool) → not b ≡ true → b ≡ false
+not_so false e = refl
+not_so true e = absurd (false≢true e)
+
+-- of those of any other: the operator, that no bytes from a reference on are compared, the class, and both are covered, where the left one waits for the right one
 record AreOperands (c : Scope) (st : Setting) (o : ℕ) (a b : Tree) (k : ℕ) : Type 0 where
   operator : is_covered_operator o ≡ true
+  apart : compares_text c.names o a b ≡ false
   class : is_word_class (class_of (kind_of c.names a) (kind_of c.names b)) ≡ true
   left : is_covered c st a k ≡ true
   right : is_covered c st b (k + operand_width (kind_of c.names a)) ≡ true
@@ -58,35 +64,10 @@ record AreOperands (c : Scope) (st : Setting) (o : ℕ) (a b : Tree) (k : ℕ) :
 operator_parts : (c : Scope) (st : Setting) (o : ℕ) (a b : Tree) (at : At) (k : ℕ) → is_connective o ≡ false
     → is_covered c st (tree.Tree.binary o a b at) k ≡ true → AreOperands c st o a b k
 operator_parts c st o a b at k i e =
-    let parts = four (is_covered_operator o) (is_word_class (class_of (kind_of c.names a) (kind_of c.names b))) (is_covered c st a k)
+    let parts = four (is_covered_operator o && not (compares_text c.names o a b)) (is_word_class (class_of (kind_of c.names a) (kind_of c.names b))) (is_covered c st a k)
     (is_covered c st b (k + operand_width (kind_of c.names a))) (of_false (is_connective o) _ _ i e) in
-    record { operator = parts.0; class = parts.1; left = parts.2; right = parts.3 }
-
--- what is covered is no reference to bytes
-no_bytes : (c : Scope) (st : Setting) (e : Tree) (k : ℕ) → is_covered c st e k ≡ true → is_byte (reference_kind c.names e) ≡ false
-no_bytes c st (tree.Tree.named x tree.Trees.none at) k e = name_no_bytes st k (c.names x) (c.places x) e
-no_bytes c st (tree.Tree.named x (tree.Trees.and i tree.Trees.none) at) k e =
-    let r = element_case st x k (c.names x) (c.places x) (both (is_led_element st k (access_of (c.names x)) (c.places x)) (is_covered c st i k) e).0 in
-    led_no_bytes (variable_kind (c.names x)) r.type r.kinds r.word
-no_bytes c st (tree.Tree.named x (tree.Trees.and i (tree.Trees.and j js)) at) k e = absurd (false≢true e)
-no_bytes c st (tree.Tree.number v) k e = refl
-no_bytes c st (tree.Tree.wide v) k e = refl
-no_bytes c st (tree.Tree.text bytes) k e = refl
-no_bytes c st (tree.Tree.truth b) k e = refl
-no_bytes c st (tree.Tree.address x es at) k e = refl
-no_bytes c st (tree.Tree.unary o a at) k e = refl
-no_bytes c st (tree.Tree.binary o a b at) k e = refl
-no_bytes c st (tree.Tree.shift o a by at) k e = refl
-no_bytes c st (tree.Tree.field a start size at) k e = refl
-no_bytes c st (tree.Tree.transfer to a at) k e = refl
-no_bytes c st (tree.Tree.bytes o a b count at) k e = refl
-
--- so it is not compared with a string's bytes
-compares_none : (names : Names) (o : ℕ) (a b : Tree) → is_byte (reference_kind names a) ≡ false → compares_text names o a b ≡ false
-compares_none names o a b e = by (is_relation o) (is_byte (reference_kind names a)) (is_long_text b) e where
-  by : (x y w : Bool) → y ≡ false → (x && y && w) ≡ false
-  by true y w e = ap (λ (v : Bool). v && w) e
-  by false y w e = refl
+    let two = both (is_covered_operator o) (not (compares_text c.names o a b)) parts.0 in
+    record { operator = two.0; apart = not_so (compares_text c.names o a b) two.1; class = parts.1; left = parts.2; right = parts.3 }
 
 -- ---- constructs in a tree
 
@@ -122,7 +103,7 @@ operator_whole : (c : Scope) (st : Setting) (o : ℕ) (a b : Tree) (at : At) (ai
     → IsWhole (code c a as_value k) → IsWhole (code c b as_value (k + operand_width (kind_of c.names a))) → IsWhole (code c (tree.Tree.binary o a b at) aim k)
 operator_whole c st o a b at aim k i x wa wb =
     let other = code c b as_value (k + operand_width (kind_of c.names a)) in
-    subst (λ (p : Part). IsWhole p) (sym (operator_code c o a b at aim k i (compares_none c.names o a b (no_bytes c st a k x.left))))
+    subst (λ (p : Part). IsWhole p) (sym (operator_code c o a b at aim k i x.apart))
     (operated_whole o (class_of (kind_of c.names a) (kind_of c.names b)) aim (code c a as_value k ⨟ other) x.operator x.class (whole_then (code c a as_value k) other wa wb))
 
 operator_simulates : (c : Scope) (results : List ℕ → Option (Kind × Place)) (z : Surroundings) (call : Callee) (d o : ℕ) (a b : Tree) (at : At) (aim : Aim)
@@ -137,7 +118,7 @@ operator_simulates c results z call d o a b at aim k need more i x enough room w
     let right = kind_of c.names b in
     let first = code c a as_value k in
     let other = code c b as_value (k + operand_width left) in
-    let none = compares_none c.names o a b (no_bytes c z.setting a k x.left) in
+    let none = x.apart in
     same_simulates z d aim 1 k need (code c (tree.Tree.binary o a b at) aim k) (made.operated o (class_of left right) aim (first ⨟ other))
     (λ s. value h call (tree.Tree.binary o a b at) k s)
     (λ s. then_go (value h call a k s) (λ vs t. then_go (value h call b (k + operand_width left) t) (λ us u. joined o left right vs us u)))
@@ -278,7 +259,7 @@ simulated c results z call d (tree.Tree.binary o a b at) aim k need e enough =
     (λ i. let parts = operator_parts c z.setting o a b at k i e in
     let j = k + operand_width (kind_of c.names a) in
     let one = covered_width c z.setting a k parts.left in
-    let none = compares_none c.names o a b (no_bytes c z.setting a k parts.left) in
+    let none = parts.apart in
     let room = waiting_room c.names o a b at need i none one enough in
     operator_simulates c results z call d o a b at aim k need (most c.names b + 8) i parts room.1 (omega (arith, enough)) (code_whole c z.setting a as_value k parts.left)
     (code_whole c z.setting b as_value j parts.right) (simulated c results z call d a as_value k need parts.left room.0)

@@ -1,5 +1,5 @@
 -- Names whose words lead to words, by index or not: what they stand for, and their code.
-use Rattle.std.proofs.Common.{◌≡◌, ℕ, ◌+◌, ◌≤◌, Bool, true, false, List, [], ◌∷◌, refl, sym, ap, subst, ◌∙◌}
+use Rattle.std.proofs.Common.{◌≡◌, ℕ, ◌+◌, ◌≤◌, Bool, true, false, List, [], ◌∷◌, refl, sym, ap, subst, ◌∙◌, arith}
 use Rattle.std.specs.Prelude.{Option, Some, None, ◌&&◌, ◌||◌, not}
 use Rattle.std.proofs.lemmas.Bool.{false≢true}
 use Rattle.spl_tree.specs.declared.expressions.Kind.{Kind}
@@ -9,7 +9,7 @@ use Rattle.spl_tree.specs.Trees as tree
 use Rattle.spl_tree.specs.Trees.{Tree}
 use Rattle.spl_meaning.specs.Names as n
 use Rattle.spl_meaning.specs.Names.{Sort}
-use Rattle.spl_meaning.specs.Kinds.{Operand, of, named_operand, is_byte, variable_kind}
+use Rattle.spl_meaning.specs.Kinds.{Operand, of, named_operand, width}
 use Rattle.spl_meaning.specs.Pending.{result_words}
 use Rattle.spl_meaning.specs.Places.{Place}
 use Rattle.spl_meaning.specs.References.{Here, Setting, Located, Access, by_address, by_cell, access_of, index_or_zero, led_located, locate_by, read}
@@ -28,7 +28,7 @@ use Rattle.spl_values.specs.Reached.{is_word_kind, is_reached, IsWhole}
 use Rattle.spl_values.proofs.VariableLemmas.{both}
 use Rattle.spl_values.proofs.WholeLemmas.{whole_pieces, whole_first, whole_behind, same_simulates, first_simulates}
 use Rattle.spl_operands.proofs.ReadLemmas.{cells_give, elements_give}
-use Rattle.spl_operators.specs.Laws.{is_word_operand}
+use Rattle.spl_operators.specs.Laws.{is_word_operand, is_single}
 use Rattle.spl_conditions.proofs.ConditionLemmas.{closed_values}
 use Rattle.spl_covered.specs.Covered.{is_led, is_led_element}
 use Rattle.spl_covered.specs.Laws.{read_with}
@@ -43,9 +43,8 @@ pub record IsElement (st : Setting) (x : List ℕ) (k : ℕ) (o : Option Sort) (
   pub sense : sense_of x o ≡ a_variable
   pub access : access_of o ≡ by_cell is_pointer type
   pub operand : named_operand o ≡ of type
-  pub kinds : variable_kind o ≡ Some type
   pub is : pl ≡ Some place
-  pub word : is_word_kind type ≡ true
+  pub word : is_single type ≡ true
   pub reached : is_reached st k place ≡ true
   pub side : (is_pointer && st.split) ≡ st.split
 
@@ -60,9 +59,8 @@ pub record IsLed (st : Setting) (x : List ℕ) (k : ℕ) (o : Option Sort) (pl :
   pub leads : (c : Scope) (results : List ℕ → Option (Kind × Place)) (s : State)
       → locate_by (read_with c results st) x (access_of o) None s ≡ led_located far type (c.places x) 0 s
   pub operand : named_operand o ≡ of type
-  pub kinds : variable_kind o ≡ Some type
   pub is : pl ≡ Some place
-  pub word : is_word_kind type ≡ true
+  pub word : is_single type ≡ true
   pub reached : is_reached st k place ≡ true
   pub side : far ≡ st.split
 
@@ -74,12 +72,12 @@ sides false true e = absurd (false≢true e)
 
 -- a name with a cell whose elements are covered
 of_cell : (st : Setting) (x : List ℕ) (k : ℕ) (o : Option Sort) (pl : Option Place) (is_pointer : Bool) (t : Kind) → sense_of x o ≡ a_variable
-    → access_of o ≡ by_cell is_pointer t → named_operand o ≡ of t → variable_kind o ≡ Some t
+    → access_of o ≡ by_cell is_pointer t → named_operand o ≡ of t
     → is_led_element st k (by_cell is_pointer t) pl ≡ true → IsElement st x k o pl
-of_cell st x k o None is_pointer t sense access operand kinds e =
-    absurd (false≢true (both (is_pointer || not st.split) false (both (is_word_kind t) ((is_pointer || not st.split) && false) e).1).1)
-of_cell st x k o (Some place) is_pointer t sense access operand kinds e =
-    let two = both (is_word_kind t) ((is_pointer || not st.split) && is_reached st k place) e in
+of_cell st x k o None is_pointer t sense access operand e =
+    absurd (false≢true (both (is_pointer || not st.split) false (both (is_single t) ((is_pointer || not st.split) && false) e).1).1)
+of_cell st x k o (Some place) is_pointer t sense access operand e =
+    let two = both (is_single t) ((is_pointer || not st.split) && is_reached st k place) e in
     let rest = both (is_pointer || not st.split) (is_reached st k place) two.1 in
     record {
       is_pointer = is_pointer;
@@ -88,7 +86,6 @@ of_cell st x k o (Some place) is_pointer t sense access operand kinds e =
       sense = sense;
       access = access;
       operand = operand;
-      kinds = kinds;
       is = refl;
       word = two.0;
       reached = rest.1;
@@ -98,10 +95,10 @@ of_cell st x k o (Some place) is_pointer t sense access operand kinds e =
 -- by what it stands for
 pub element_case : (st : Setting) (x : List ℕ) (k : ℕ) (o : Option Sort) (pl : Option Place) → is_led_element st k (access_of o) pl ≡ true
     → IsElement st x k o pl
-element_case st x k (Some (n.array t own low high)) pl e = of_cell st x k (Some (n.array t own low high)) pl false t refl refl refl refl e
-element_case st x k (Some (n.view t own base)) pl e = of_cell st x k (Some (n.view t own base)) pl false t refl refl refl refl e
-element_case st x k (Some (n.array_parameter t)) pl e = of_cell st x k (Some (n.array_parameter t)) pl false t refl refl refl refl e
-element_case st x k (Some (n.pointer t own)) pl e = of_cell st x k (Some (n.pointer t own)) pl true t refl refl refl refl e
+element_case st x k (Some (n.array t own low high)) pl e = of_cell st x k (Some (n.array t own low high)) pl false t refl refl refl e
+element_case st x k (Some (n.view t own base)) pl e = of_cell st x k (Some (n.view t own base)) pl false t refl refl refl e
+element_case st x k (Some (n.array_parameter t)) pl e = of_cell st x k (Some (n.array_parameter t)) pl false t refl refl refl e
+element_case st x k (Some (n.pointer t own)) pl e = of_cell st x k (Some (n.pointer t own)) pl true t refl refl refl e
 element_case st x k None pl e = absurd (false≢true e)
 element_case st x k (Some (n.simple t own)) pl e = absurd (false≢true e)
 element_case st x k (Some (n.value t)) pl e = absurd (false≢true e)
@@ -124,7 +121,6 @@ first_of st x k o pl r = record {
   stores = ap (λ (a : Access). stored a false k r.place) r.access;
   leads = λ c results s. ap (λ (a : Access). locate_by (read_with c results st) x a None s) r.access;
   operand = r.operand;
-  kinds = r.kinds;
   is = r.is;
   word = r.word;
   reached = r.reached;
@@ -139,9 +135,9 @@ not_true true e = absurd (false≢true e)
 -- a parameter by reference
 of_address : (st : Setting) (x : List ℕ) (k : ℕ) (t : Kind) (pl : Option Place) → is_led st k (by_address t) pl ≡ true
     → IsLed st x k (Some (n.by_reference t)) pl
-of_address st x k t None e = absurd (false≢true (both (not st.split) false (both (is_word_kind t) (not st.split && false) e).1).1)
+of_address st x k t None e = absurd (false≢true (both (not st.split) false (both (is_single t) (not st.split && false) e).1).1)
 of_address st x k t (Some place) e =
-    let two = both (is_word_kind t) (not st.split && is_reached st k place) e in
+    let two = both (is_single t) (not st.split && is_reached st k place) e in
     let rest = both (not st.split) (is_reached st k place) two.1 in
     record {
       far = false;
@@ -152,7 +148,6 @@ of_address st x k t (Some place) e =
       stores = refl;
       leads = λ c results s. refl;
       operand = refl;
-      kinds = refl;
       is = refl;
       word = two.0;
       reached = rest.1;
@@ -175,34 +170,59 @@ led_case st x k (Some (n.procedure p)) pl e = absurd (false≢true e)
 led_case st x k (Some (n.subroutine p)) pl e = absurd (false≢true e)
 led_case st x k (Some n.unknown) pl e = absurd (false≢true e)
 
--- a value of a kind of one word has one word
+-- a value of a kind of one whole word has one word
 pub word_operand : (t : Kind) → is_word_kind t ≡ true → is_word_operand (of t) ≡ true
 word_operand kind.Integer e = refl
 word_operand kind.Logical e = refl
 word_operand kind.Byte e = absurd (false≢true e)
 word_operand kind.Double e = absurd (false≢true e)
 
--- what has a kind of one word has one word
-pub kind_operand : (o : Operand) (t : Kind) → o ≡ of t → is_word_kind t ≡ true → is_word_operand o ≡ true
-kind_operand o t is word = subst (λ (a : Operand). is_word_operand a ≡ true) (sym is) (word_operand t word)
+-- a kind of one word
+pub single_word : (to : Kind) → is_single to ≡ true → is_word_operand (of to) ≡ true
+single_word kind.Integer e = refl
+single_word kind.Logical e = refl
+single_word kind.Byte e = refl
+single_word kind.Double e = absurd (false≢true e)
 
--- so it is none of bytes
-pub led_no_bytes : (o : Option Kind) (t : Kind) → o ≡ Some t → is_word_kind t ≡ true → is_byte o ≡ false
-led_no_bytes o t is word = ap (λ (a : Option Kind). is_byte a) is ∙ by t word where
-  by : (t : Kind) → is_word_kind t ≡ true → is_byte (Some t) ≡ false
-  by kind.Integer e = refl
-  by kind.Logical e = refl
-  by kind.Byte e = absurd (false≢true e)
-  by kind.Double e = refl
+-- so has what is of a kind of one word
+pub kind_operand : (o : Operand) (t : Kind) → o ≡ of t → is_single t ≡ true → is_word_operand o ≡ true
+kind_operand o t is single = subst (λ (a : Operand). is_word_operand a ≡ true) (sym is) (single_word t single)
+
+-- and it is one word wide
+pub single_width : (t : Kind) → is_single t ≡ true → width t ≡ 1
+single_width kind.Integer e = refl
+single_width kind.Logical e = refl
+single_width kind.Byte e = refl
+single_width kind.Double e = absurd (false≢true e)
 
 -- ---- names without an index
 
 -- a load closes
-load_closed : (t : Kind) (k : ℕ) (indexed : Bool) (place : Place) → is_word_kind t ≡ true → IsClosed (load t true indexed (mode_of k place) ∷ [])
-load_closed kind.Integer k indexed place e = refl
-load_closed kind.Logical k indexed place e = refl
-load_closed kind.Byte k indexed place e = absurd (false≢true e)
-load_closed kind.Double k indexed place e = absurd (false≢true e)
+load_closed : (t : Kind) (k : ℕ) (indexed : Bool) (place : Place) → IsClosed (load t true indexed (mode_of k place) ∷ [])
+load_closed kind.Integer k indexed place = refl
+load_closed kind.Logical k indexed place = refl
+load_closed kind.Byte k indexed place = refl
+load_closed kind.Double k indexed place = refl
+
+-- through a word one word is given
+one_led : (z : Surroundings) (d k need : ℕ) (far : Bool) (t : Kind) (place : Place) → is_single t ≡ true → is_reached z.setting k place ≡ true
+    → far ≡ z.setting.split → 1 ≤ need
+    → Simulates z d as_value 1 k need (pieces (load t true false (mode_of k place) ∷ []))
+    (λ s. then_go (led_located far t (Some place) 0 s) (λ p u. read p u))
+one_led z d k need far t place single reached side enough =
+    let wide = single_width t single in
+    subst (λ (j : ℕ). Simulates z d as_value j k need (pieces (load t true false (mode_of k place) ∷ [])) (λ s. then_go (led_located far t (Some place) 0 s) (λ p u. read p u)))
+    wide (cells_give z d k need far t place reached side (omega (arith, wide, enough)))
+
+one_element : (z : Surroundings) (d k need : ℕ) (far : Bool) (t : Kind) (place : Place) (a : Part) (value : State → Outcome (List ℕ)) → is_single t ≡ true
+    → is_reached z.setting k place ≡ true → far ≡ z.setting.split → 1 ≤ need → IsWhole a → Simulates z d as_value 1 k need a value
+    → Simulates z d as_value 1 k need (a ⨟ pieces (index_to_x false) ⨟ pieces (load t true true (mode_of k place) ∷ []))
+    (λ s. then_go (then_go (value s) as_index) (λ i u. then_go (led_located far t (Some place) (index_or_zero i) u) (λ p v. read p v)))
+one_element z d k need far t place a value single reached side enough whole sim =
+    let wide = single_width t single in
+    subst (λ (j : ℕ). Simulates z d as_value j k need (a ⨟ pieces (index_to_x false) ⨟ pieces (load t true true (mode_of k place) ∷ []))
+    (λ s. then_go (then_go (value s) as_index) (λ i u. then_go (led_located far t (Some place) (index_or_zero i) u) (λ p v. read p v))))
+    wide (elements_give z d k need far t place a value reached side (omega (arith, wide, enough)) whole sim)
 
 -- the code of such a name
 pub led_code : (c : Scope) (st : Setting) (x : List ℕ) (at : At) (aim : Aim) (k : ℕ) (r : IsLed st x k (c.names x) (c.places x))
@@ -214,9 +234,9 @@ led_code c st x at aim k r =
     ∙ ap (λ (ps : List Piece). nothing ⨟ pieces ps ⨟ closing aim) r.loads
 
 -- it is whole, with nothing before it
-pub led_whole : (t : Kind) (k : ℕ) (place : Place) → is_word_kind t ≡ true → IsWhole (nothing ⨟ pieces (load t true false (mode_of k place) ∷ []))
-led_whole t k place word =
-    whole_first (pieces (load t true false (mode_of k place) ∷ [])) (whole_pieces (load t true false (mode_of k place) ∷ []) (load_closed t k false place word))
+pub led_whole : (t : Kind) (k : ℕ) (place : Place) → IsWhole (nothing ⨟ pieces (load t true false (mode_of k place) ∷ []))
+led_whole t k place =
+    whole_first (pieces (load t true false (mode_of k place) ∷ [])) (whole_pieces (load t true false (mode_of k place) ∷ []) (load_closed t k false place))
 
 -- and simulates the name
 pub led_simulates : (c : Scope) (results : List ℕ → Option (Kind × Place)) (z : Surroundings) (call : Callee) (d : ℕ) (x : List ℕ) (at : At) (aim : Aim)
@@ -230,9 +250,9 @@ led_simulates c results z call d x at aim k need r enough =
     (λ s. ap (λ (t : Sense). valued t s) r.sense ∙ ap (λ (o : Outcome Located). then_go o (λ p t. read p t)) (r.leads c results s)
     ∙ ap (λ (o : Option Place). then_go (led_located r.far r.type o 0 s) (λ p t. read p t)) r.is)
     (closed_values z d k need aim (nothing ⨟ pieces (load r.type true false (mode_of k r.place) ∷ []))
-    (λ s. then_go (led_located r.far r.type (Some r.place) 0 s) (λ p t. read p t)) (led_whole r.type k r.place r.word)
+    (λ s. then_go (led_located r.far r.type (Some r.place) 0 s) (λ p t. read p t)) (led_whole r.type k r.place)
     (first_simulates z d as_value 1 k need (pieces (load r.type true false (mode_of k r.place) ∷ []))
-    (λ s. then_go (led_located r.far r.type (Some r.place) 0 s) (λ p t. read p t)) (cells_give z d k need r.far r.type r.place r.word r.reached r.side enough))) where
+    (λ s. then_go (led_located r.far r.type (Some r.place) 0 s) (λ p t. read p t)) (one_led z d k need r.far r.type r.place r.word r.reached r.side enough))) where
       h : Here
       h = read_with c results z.setting
 
@@ -253,10 +273,10 @@ element_code c st x e at aim k r =
     ∙ ap (λ (o : Option Place). code c e as_value k ⨟ pieces (index_to_x false) ⨟ pieces (at_place o (λ place. load r.type true true (mode_of k place) ∷ [])) ⨟ closing aim) r.is
 
 -- the element's code is whole behind whole code
-element_made : (a : Part) (t : Kind) (k : ℕ) (place : Place) → is_word_kind t ≡ true → IsWhole a
+element_made : (a : Part) (t : Kind) (k : ℕ) (place : Place) → IsWhole a
     → IsWhole (a ⨟ pieces (index_to_x false) ⨟ pieces (load t true true (mode_of k place) ∷ []))
-element_made a t k place word whole =
-    whole_behind (a ⨟ pieces (index_to_x false)) (load t true true (mode_of k place) ∷ []) (whole_behind a (index_to_x false) whole refl) (load_closed t k true place word)
+element_made a t k place whole =
+    whole_behind (a ⨟ pieces (index_to_x false)) (load t true true (mode_of k place) ∷ []) (whole_behind a (index_to_x false) whole refl) (load_closed t k true place)
 
 -- an element's code is whole, whatever is wanted of it
 pub element_whole : (c : Scope) (st : Setting) (x : List ℕ) (e : Tree) (at : At) (aim : Aim) (k : ℕ) → IsElement st x k (c.names x) (c.places x)
@@ -265,7 +285,7 @@ pub element_whole : (c : Scope) (st : Setting) (x : List ℕ) (e : Tree) (at : A
 element_whole c st x e at aim k r closes whole =
     subst (λ (a : Part). IsWhole a) (sym (element_code c st x e at aim k r))
     (closes (code c e as_value k ⨟ pieces (index_to_x false) ⨟ pieces (load r.type true true (mode_of k r.place) ∷ []))
-    (element_made (code c e as_value k) r.type k r.place r.word whole))
+    (element_made (code c e as_value k) r.type k r.place whole))
 
 -- and simulates it
 pub element_simulates : (c : Scope) (results : List ℕ → Option (Kind × Place)) (z : Surroundings) (call : Callee) (d : ℕ) (x : List ℕ) (e : Tree) (at : At)
@@ -279,8 +299,8 @@ element_simulates c results z call d x e at aim k need r enough whole sim =
     (λ s. ap (λ (t : Sense). valued t s) r.sense
     ∙ ap (λ (a : Access). then_go (then_go (value h call e k s) as_index) (λ i u. then_go (locate_by h x a i u) (λ p v. read p v))) r.access
     ∙ ap (λ (o : Option Place). meant o s) r.is)
-    (closed_values z d k need aim part (λ s. meant (Some r.place) s) (element_made (code c e as_value k) r.type k r.place r.word whole)
-    (elements_give z d k need (r.is_pointer && z.setting.split) r.type r.place (code c e as_value k) (λ s. value h call e k s) r.word r.reached r.side enough whole sim)) where
+    (closed_values z d k need aim part (λ s. meant (Some r.place) s) (element_made (code c e as_value k) r.type k r.place whole)
+    (one_element z d k need (r.is_pointer && z.setting.split) r.type r.place (code c e as_value k) (λ s. value h call e k s) r.word r.reached r.side enough whole sim)) where
       h : Here
       h = read_with c results z.setting
 

@@ -11,7 +11,7 @@ use Rattle.spl_tree.specs.declared.names_and_places.At.{At}
 use Rattle.spl_tree.specs.Trees as tree
 use Rattle.spl_meaning.specs.Names as n
 use Rattle.spl_meaning.specs.Names.{Sort}
-use Rattle.spl_meaning.specs.Kinds.{named_operand, is_byte, variable_kind}
+use Rattle.spl_meaning.specs.Kinds.{named_operand}
 use Rattle.spl_meaning.specs.Pending.{result_words}
 use Rattle.spl_meaning.specs.Places.{Place}
 use Rattle.spl_meaning.specs.References.{Here, Setting, Access, its_own, access_of, own_located, locate_by, read}
@@ -34,7 +34,7 @@ use Rattle.spl_operators.specs.Laws.{is_word_operand}
 use Rattle.spl_conditions.proofs.ConditionLemmas.{closed_values}
 use Rattle.spl_covered.specs.Covered.{is_covered_name}
 use Rattle.spl_covered.specs.Laws.{read_with}
-use Rattle.spl_covered.proofs.LedLemmas.{IsLed, led_case, word_operand, led_no_bytes, led_code, led_whole, led_simulates}
+use Rattle.spl_covered.proofs.LedLemmas.{IsLed, led_case, word_operand, led_code, led_whole, led_simulates}
 
 -- ---- what is wanted
 
@@ -116,30 +116,6 @@ name_cases st x k (Some (n.procedure p)) pl e = absurd (false≢true e)
 name_cases st x k (Some (n.subroutine p)) pl e = absurd (false≢true e)
 name_cases st x k (Some n.unknown) pl e = absurd (false≢true e)
 
--- it is none of bytes
-pub name_no_bytes : (st : Setting) (k : ℕ) (o : Option Sort) (pl : Option Place) → is_covered_name st k o pl ≡ true → is_byte (variable_kind o) ≡ false
-name_no_bytes st k (Some (n.equate (Some v))) pl e = refl
-name_no_bytes st k (Some (n.simple kind.Integer own)) pl e = refl
-name_no_bytes st k (Some (n.simple kind.Logical own)) pl e = refl
-name_no_bytes st k (Some (n.simple kind.Double own)) pl e = refl
-name_no_bytes st k (Some (n.value kind.Integer)) pl e = refl
-name_no_bytes st k (Some (n.value kind.Logical)) pl e = refl
-name_no_bytes st k (Some (n.value kind.Double)) pl e = refl
-name_no_bytes st k (Some (n.simple kind.Byte own)) pl e = absurd (false≢true e)
-name_no_bytes st k (Some (n.value kind.Byte)) pl e = absurd (false≢true e)
-name_no_bytes st k None pl e = refl
-name_no_bytes st k (Some (n.equate None)) pl e = refl
-name_no_bytes st k (Some (n.array t own low high)) pl e = let r = led_case st [] k (Some (n.array t own low high)) pl e in led_no_bytes (variable_kind (Some (n.array t own low high))) r.type r.kinds r.word
-name_no_bytes st k (Some (n.view t own base)) pl e = let r = led_case st [] k (Some (n.view t own base)) pl e in led_no_bytes (variable_kind (Some (n.view t own base))) r.type r.kinds r.word
-name_no_bytes st k (Some (n.pointer t own)) pl e = let r = led_case st [] k (Some (n.pointer t own)) pl e in led_no_bytes (variable_kind (Some (n.pointer t own))) r.type r.kinds r.word
-name_no_bytes st k (Some (n.by_reference t)) pl e = let r = led_case st [] k (Some (n.by_reference t)) pl e in led_no_bytes (variable_kind (Some (n.by_reference t))) r.type r.kinds r.word
-name_no_bytes st k (Some (n.array_parameter t)) pl e = let r = led_case st [] k (Some (n.array_parameter t)) pl e in led_no_bytes (variable_kind (Some (n.array_parameter t))) r.type r.kinds r.word
-name_no_bytes st k (Some n.label) pl e = refl
-name_no_bytes st k (Some (n.intrinsic i)) pl e = refl
-name_no_bytes st k (Some (n.procedure p)) pl e = refl
-name_no_bytes st k (Some (n.subroutine p)) pl e = refl
-name_no_bytes st k (Some n.unknown) pl e = refl
-
 -- the code of a constant's name
 constant_code : (c : Scope) (x : List ℕ) (at : At) (aim : Aim) (k : ℕ) (r : IsConstant x (c.names x))
     → code c (tree.Tree.named x tree.Trees.none at) aim k ≡ pieces (constant (word_of r.number)) ⨟ closing aim
@@ -178,7 +154,7 @@ name_whole c st x at aim k e =
     (λ r. subst (λ (a : Part). IsWhole a) (sym (variable_code c st x at aim k r))
     (closing_whole (nothing ⨟ pieces (loaded (its_own r.type) false (mode_of k r.place))) aim (variable_whole r.type k r.place r.word)))
     (λ r. subst (λ (a : Part). IsWhole a) (sym (led_code c st x at aim k r))
-    (closing_whole (nothing ⨟ pieces (load r.type true false (mode_of k r.place) ∷ [])) aim (led_whole r.type k r.place r.word)))
+    (closing_whole (nothing ⨟ pieces (load r.type true false (mode_of k r.place) ∷ [])) aim (led_whole r.type k r.place)))
     other)
     (name_cases st x k (c.names x) (c.places x) e)
 

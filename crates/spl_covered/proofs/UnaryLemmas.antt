@@ -126,13 +126,6 @@ transfer_part kind.Logical unknown a one word whole = absurd (false≢true word)
 transfer_part kind.Byte unknown a one word whole = absurd (false≢true word)
 transfer_part kind.Double x a one word whole = absurd (false≢true one)
 
--- a kind of one word
-pub single_word : (to : Kind) → is_single to ≡ true → is_word_operand (of to) ≡ true
-single_word kind.Integer e = refl
-single_word kind.Logical e = refl
-single_word kind.Byte e = refl
-single_word kind.Double e = absurd (false≢true e)
-
 pub transfer_whole : (to : Kind) (x : Operand) (aim : Aim) (a : Part) → is_single to ≡ true → is_word_operand x ≡ true → IsWhole a
     → IsWhole (a ⨟ pieces (transfer to x) ⨟ closing aim)
 transfer_whole to x aim a one word whole = closing_whole (a ⨟ pieces (transfer to x)) aim (transfer_part to x a one word whole)

@@ -4,7 +4,7 @@ use Rattle.spl_tree.specs.Trees as tree
 use Rattle.spl_tree.specs.Trees.{Tree, Trees}
 use Rattle.spl_meaning.specs.Names as n
 use Rattle.spl_meaning.specs.Names.{Names, Sort, text_value}
-use Rattle.spl_meaning.specs.Kinds.{positive, negative, complement, times, is_connective, is_relation, kind_of, operand_width, class_of}
+use Rattle.spl_meaning.specs.Kinds.{positive, negative, complement, times, is_connective, is_relation, compares_text, kind_of, operand_width, class_of}
 use Rattle.spl_meaning.specs.Places.{Place}
 use Rattle.spl_meaning.specs.References.{Setting, Access, by_address, by_cell, access_of}
 use Rattle.spl_meaning.specs.Values.{small_constant}
@@ -17,14 +17,14 @@ abbrev pub has_reached : Setting → ℕ → Option Place → Bool
 has_reached st k (Some place) = is_reached st k place
 has_reached st k None = false
 
--- The word of a name that is reached leads to words of a kind of one word: in a split procedure, whose mode leads to the extra segment, that of
+-- The word of a name that is reached leads to values of a kind of one word: in a split procedure, whose mode leads to the extra segment, that of
 -- a pointer alone. The elements of arrays and of pointers may have an index, and a parameter by reference has none.
 abbrev pub is_led_element : Setting → ℕ → Access → Option Place → Bool
-is_led_element st k (by_cell is_pointer t) place = is_word_kind t && ((is_pointer || not st.split) && has_reached st k place)
+is_led_element st k (by_cell is_pointer t) place = is_single t && ((is_pointer || not st.split) && has_reached st k place)
 is_led_element st k _ place = false
 
 abbrev pub is_led : Setting → ℕ → Access → Option Place → Bool
-is_led st k (by_address t) place = is_word_kind t && (not st.split && has_reached st k place)
+is_led st k (by_address t) place = is_single t && (not st.split && has_reached st k place)
 is_led st k (by_cell is_pointer t) place = is_led_element st k (by_cell is_pointer t) place
 is_led st k _ place = false
 
@@ -50,7 +50,7 @@ is_covered_sign op = (op == complement) || ((op == positive) || (op == negative)
 
 -- An expression, in a body with this setting and while k words wait: numbers, truth values, strings that are a word, such names, and elements at
 -- an index that is such; NOT, signs, shifts, fields within a word and transfers to kinds of one word of such; AND and OR of such; and the other
--- operators of such of one class.
+-- operators of such of one class, where they compare no bytes from a reference on.
 abbrev pub is_covered : Scope → Setting → Tree → ℕ → Bool
 is_covered c st (tree.Tree.number v) k = true
 is_covered c st (tree.Tree.truth b) k = true
@@ -65,6 +65,6 @@ is_covered c st (tree.Tree.field a start size at) k =
 is_covered c st (tree.Tree.transfer to a at) k = is_single to && is_covered c st a k
 is_covered c st (tree.Tree.binary op a b at) k =
     if is_connective op then is_covered c st a k && is_covered c st b k
-    else is_covered_operator op && is_word_class (class_of (kind_of c.names a) (kind_of c.names b)) && is_covered c st a k
+    else (is_covered_operator op && not (compares_text c.names op a b)) && is_word_class (class_of (kind_of c.names a) (kind_of c.names b)) && is_covered c st a k
     && is_covered c st b (k + operand_width (kind_of c.names a))
 is_covered c st _ k = false

@@ -1,7 +1,6 @@
 -- Assignments through the words of names: the index, where there is one, the value, and the store behind them.
 use Rattle.std.proofs.Common.{◌≡◌, ℕ, ◌+◌, ◌-◌, ◌≤◌, Bool, true, false, List, [], ◌∷◌, ◌++◌, length, refl, sym, subst, arith}
 use Rattle.std.specs.Prelude.{Option, Some, None}
-use Rattle.std.proofs.lemmas.Bool.{false≢true}
 use Rattle.hp_word.specs.declared.arithmetic.Code.{Code}
 use Rattle.hp_instr.specs.declared.instruction.Instr.TheVariants as instr
 use Rattle.hp_instr.specs.declared.instruction.Mode.TheVariants.{SMinus}
@@ -12,14 +11,15 @@ use Rattle.spl_tree.specs.declared.names_and_places.At.{At}
 use Rattle.spl_tree.specs.declared.expressions.Kind.{Kind}
 use Rattle.spl_tree.specs.declared.expressions.Kind.TheVariants as kind
 use Rattle.spl_branch.specs.declared.pieces.Piece.{Piece}
-use Rattle.spl_branch.specs.declared.pieces.Piece.TheVariants.{Begin}
+use Rattle.spl_branch.specs.declared.pieces.Piece.TheVariants.{Do, Begin}
+use Rattle.spl_meaning.specs.Kinds.{width}
 use Rattle.spl_meaning.specs.Operations.{kept}
 use Rattle.spl_meaning.specs.Places.{Place}
 use Rattle.spl_meaning.specs.References.{Setting, led_located, index_or_zero, store}
 use Rattle.spl_meaning.specs.States.{Data, State, Outcome, then_go, stopping}
 use Rattle.spl_meaning.specs.Values.{as_index}
 use Rattle.spl_code.specs.Code.{as_value}
-use Rattle.spl_code.specs.Instructions.{LDX, STOR, DEL}
+use Rattle.spl_code.specs.Instructions.{LDX, DEL}
 use Rattle.spl_code.specs.Operands.{mode_of}
 use Rattle.spl_code.specs.Parts.{Part, pieces, piece, nothing, ◌⨟◌}
 use Rattle.spl_follow.specs.Spots.{Spot, pos, Point, on, Ground}
@@ -34,13 +34,13 @@ use Rattle.spl_follow.proofs.FollowLemmas.{bind_follows, no_exit}
 use Rattle.spl_follow.proofs.KeepLemmas.{kept_top, kept_stack, value_word, value_ready, values_join}
 use Rattle.spl_follow.proofs.PartLemmas.{stand_in_order, statements_begin_noted}
 use Rattle.spl_follow.proofs.StandLemmas.{closed_last}
-use Rattle.spl_values.specs.Reached.{is_word_kind, is_reached, IsWhole}
+use Rattle.spl_values.specs.Reached.{is_reached, IsWhole}
 use Rattle.spl_values.proofs.GiveLemmas.{last_leads}
 use Rattle.spl_values.proofs.SumLemmas.{front_on}
 use Rattle.spl_operands.specs.Operands.{IndexWaits, Storing}
 use Rattle.spl_operands.specs.Laws.{CellsAssigned, ElementsAssigned}
 use Rattle.spl_operands.proofs.OperandLemmas.{place_refers, first_element}
-use Rattle.spl_operands.proofs.StoreLemmas.{store_follows, element_put}
+use Rattle.spl_operands.proofs.StoreLemmas.{storing, store_follows, element_put}
 
 -- ---- without an index
 
@@ -59,8 +59,8 @@ value_storing st p k v d0 m0 s m x room = record {
 
 -- a value by its words, of which there is one, is stored through a name's word
 cell_put : (g : Ground) (w : Rate) (st : Setting) (p q : Spot) (t : Kind) (far : Bool) (place : Place) (k : ℕ) (vs : List ℕ) (s : State) (m : Machine)
-    (d0 : Data) (m0 : Machine) → is_word_kind t ≡ true → is_reached st k place ≡ true → far ≡ st.split → s.now.top + (k + 1) ≤ s.now.stack
-    → Leads g (on p) q (doing g.segments (instr.Memory 5 true false true (mode_of k place)) q) → IsValue st p 1 k d0 m0 vs s m
+    (d0 : Data) (m0 : Machine) → width t ≡ 1 → is_reached st k place ≡ true → far ≡ st.split → s.now.top + (k + 1) ≤ s.now.stack
+    → Leads g (on p) q (doing g.segments (storing t true false (mode_of k place)) q) → IsValue st p 1 k d0 m0 vs s m
     → Follows g w (pos q - pos p) 0 w.reach (tally s) m (Completes st q k d0 m0) NoExit
     (then_go (led_located far t (Some place) 0 s) (λ y u. store y (kept y.kind vs) u))
 cell_put g w st p q t far place k (v ∷ []) s m d0 m0 one reached side room leads x =
@@ -70,16 +70,16 @@ cell_put g w st p q t far place k (v ∷ []) s m d0 m0 one reached side room lea
 cell_put g w st p q t far place k [] s m d0 m0 one reached side room leads x = let wide = x.wide in absurd (omega (arith, wide))
 cell_put g w st p q t far place k (v ∷ u ∷ vs) s m d0 m0 one reached side room leads x = let wide = x.wide in absurd (omega (arith, wide))
 
--- A statement that is noted, its value, and the store by STOR: its step pays for all of it.
+-- A statement that is noted, its value, and the store: its step pays for all of it.
 word_cells : (z : Surroundings) (d k need number : ℕ) (at : At) (far : Bool) (t : Kind) (place : Place) (a : Part) (value : State → Outcome (List ℕ))
-    → is_word_kind t ≡ true → is_reached z.setting k place ≡ true → far ≡ z.setting.split → 1 ≤ need → IsWhole a → Simulates z d as_value 1 k need a value
-    → Performs z d k need (piece (Begin at) ⨟ (nothing ⨟ a ⨟ pieces (STOR true false (mode_of k place) ∷ [])))
+    → width t ≡ 1 → is_reached z.setting k place ≡ true → far ≡ z.setting.split → 1 ≤ need → IsWhole a → Simulates z d as_value 1 k need a value
+    → Performs z d k need (piece (Begin at) ⨟ (nothing ⨟ a ⨟ pieces (Do (storing t true false (mode_of k place)) ∷ [])))
     (λ s. stopping number at s (λ u. then_go (value u) (λ vs v. then_go (led_located far t (Some place) 0 v) (λ p x. store p (kept p.kind vs) x))))
 word_cells z d k need number at far t place a value one reached side enough whole sim = record {
   does = λ h ws p q s m stands front pays b.
       let x = a (h + 0 + 0) ws in
-      let cut = stand_in_order z.ground z.sites x.pieces (STOR true false (mode_of k place) ∷ []) (record { at = p; due = Some at }) q (whole.closed (h + 0 + 0) ws) stands.1 in
-      let leads = last_leads z.ground z.sites (on cut.0) (instr.Memory 5 true false true (mode_of k place)) q cut.2 in
+      let cut = stand_in_order z.ground z.sites x.pieces (Do (storing t true false (mode_of k place)) ∷ []) (record { at = p; due = Some at }) q (whole.closed (h + 0 + 0) ws) stands.1 in
+      let leads = last_leads z.ground z.sites (on cut.0) (storing t true false (mode_of k place)) q cut.2 in
       let many = z.rate.enough in
       let rise = cut.3 in
       let last = cut.4 in
@@ -102,12 +102,12 @@ word_cells z d k need number at far t place a value one reached side enough whol
   put : List ℕ → State → Outcome (Unit {0})
   put vs v = then_go (led_located far t (Some place) 0 v) (λ p x. store p (kept p.kind vs) x)
 
--- the store of a kind of one whole word is STOR
+-- by the kind
 pub cells_assigned : CellsAssigned
 cells_assigned z d k need number at far kind.Integer place a value one reached side enough whole sim = word_cells z d k need number at far kind.Integer place a value one reached side enough whole sim
 cells_assigned z d k need number at far kind.Logical place a value one reached side enough whole sim = word_cells z d k need number at far kind.Logical place a value one reached side enough whole sim
-cells_assigned z d k need number at far kind.Byte place a value one reached side enough whole sim = absurd (false≢true one)
-cells_assigned z d k need number at far kind.Double place a value one reached side enough whole sim = absurd (false≢true one)
+cells_assigned z d k need number at far kind.Byte place a value one reached side enough whole sim = word_cells z d k need number at far kind.Byte place a value one reached side enough whole sim
+cells_assigned z d k need number at far kind.Double place a value one reached side enough whole sim = absurd (omega (arith, one))
 
 -- ---- with an index
 
@@ -120,9 +120,9 @@ index_waits g w st p k d0 m0 (u ∷ v ∷ vs) s m x = let wide = x.wide in absur
 
 -- a value by its words, of which there is one, is stored in the element
 value_put : (g : Ground) (w : Rate) (p r1 r2 q : Spot) (st : Setting) (t : Kind) (far : Bool) (place : Place) (k u : ℕ) (vs : List ℕ) (d0 : Data) (m0 : Machine)
-    (s : State) (m : Machine) → is_word_kind t ≡ true → is_reached st k place ≡ true → far ≡ st.split
+    (s : State) (m : Machine) → width t ≡ 1 → is_reached st k place ≡ true → far ≡ st.split
     → Leads g (on p) r1 (doing g.segments (instr.Memory 11 true false false (SMinus 1)) r1)
-    → Leads g (on r1) r2 (doing g.segments (instr.Memory 5 true true true (mode_of k place)) r2)
+    → Leads g (on r1) r2 (doing g.segments (storing t true true (mode_of k place)) r2)
     → Leads g (on r2) q (doing g.segments (instr.Pair (op 0o40) (op 0)) q) → length vs ≡ 1 → IsValue st p 2 k d0 m0 (u ∷ vs) s m
     → s.now.top + (k + 1 + 1) ≤ s.now.stack
     → Follows g w (pos q - pos p) 0 w.reach (tally s) m (Completes st q k d0 m0) NoExit
@@ -134,9 +134,9 @@ value_put g w p r1 r2 q st t far place k u (v ∷ v' ∷ vs) d0 m0 s m one reach
 
 -- The value behind an index that waits, and its store: of a part that is ready at p with these words waiting and this room.
 element_assigned : (z : Surroundings) (p r r1 r2 q : Spot) (t : Kind) (far : Bool) (place : Place) (k : ℕ) (d0 : Data) (m0 : Machine) (o : Option ℕ)
-    (value : State → Outcome (List ℕ)) (s : State) (m : Machine) → is_word_kind t ≡ true → is_reached z.setting k place ≡ true → far ≡ z.setting.split
+    (value : State → Outcome (List ℕ)) (s : State) (m : Machine) → width t ≡ 1 → is_reached z.setting k place ≡ true → far ≡ z.setting.split
     → Leads z.ground (on r) r1 (doing z.ground.segments (instr.Memory 11 true false false (SMinus 1)) r1)
-    → Leads z.ground (on r1) r2 (doing z.ground.segments (instr.Memory 5 true true true (mode_of k place)) r2)
+    → Leads z.ground (on r1) r2 (doing z.ground.segments (storing t true true (mode_of k place)) r2)
     → Leads z.ground (on r2) q (doing z.ground.segments (instr.Pair (op 0o40) (op 0)) q) → pos p ≤ pos r → d0.top + (k + 1 + 1) ≤ d0.stack
     → ((u : ℕ) → IsValue z.setting p 1 k d0 m0 (u ∷ []) s m
     → Follows z.ground z.rate (pos r - pos p) 1 z.rate.reach (tally s) m (IsValue z.setting r 1 (k + 1) s.now m) NoExit (value s))
@@ -161,9 +161,9 @@ element_assigned z p r r1 r2 q t far place k d0 m0 (Some u) value s m one reache
 
 -- A statement that is noted, its index, its value, and the store: its step pays for all of it.
 word_elements : (z : Surroundings) (d k need more number : ℕ) (at : At) (far : Bool) (t : Kind) (place : Place) (a b : Part)
-    (index value : State → Outcome (List ℕ)) → is_word_kind t ≡ true → is_reached z.setting k place ≡ true → far ≡ z.setting.split → 2 ≤ need
+    (index value : State → Outcome (List ℕ)) → width t ≡ 1 → is_reached z.setting k place ≡ true → far ≡ z.setting.split → 2 ≤ need
     → more + 1 ≤ need → IsWhole a → IsWhole b → Simulates z d as_value 1 k need a index → Simulates z d as_value 1 (k + 1) more b value
-    → Performs z d k need (piece (Begin at) ⨟ (a ⨟ b ⨟ pieces (LDX (SMinus 1) ∷ STOR true true (mode_of k place) ∷ DEL ∷ [])))
+    → Performs z d k need (piece (Begin at) ⨟ (a ⨟ b ⨟ pieces (LDX (SMinus 1) ∷ Do (storing t true true (mode_of k place)) ∷ DEL ∷ [])))
     (λ s. stopping number at s (λ u. then_go (then_go (index u) as_index) (λ i v. then_go (value v) (λ vs w.
     then_go (led_located far t (Some place) (index_or_zero i) w) (λ p x. store p (kept p.kind vs) x)))))
 word_elements z d k need more number at far t place a b index value one reached side enough fits wa wb sa sb = record {
@@ -201,17 +201,18 @@ word_elements z d k need more number at far t place a b index value one reached 
   stored_kind = t
 
   tail : List Piece
-  tail = LDX (SMinus 1) ∷ STOR true true (mode_of k place) ∷ DEL ∷ []
+  tail = LDX (SMinus 1) ∷ Do (storing t true true (mode_of k place)) ∷ DEL ∷ []
 
   rest : Option ℕ → State → Outcome (Unit {0})
   rest i v =
       then_go (value v) (λ vs w. then_go (led_located far t (Some place) (index_or_zero i) w) (λ p x. store p (kept p.kind vs) x))
 
--- the store of a kind of one whole word is STOR
+-- by the kind
 pub elements_assigned : ElementsAssigned
 elements_assigned z d k need more number at far kind.Integer place a b index value one reached side enough fits wa wb sa sb =
     word_elements z d k need more number at far kind.Integer place a b index value one reached side enough fits wa wb sa sb
 elements_assigned z d k need more number at far kind.Logical place a b index value one reached side enough fits wa wb sa sb =
     word_elements z d k need more number at far kind.Logical place a b index value one reached side enough fits wa wb sa sb
-elements_assigned z d k need more number at far kind.Byte place a b index value one reached side enough fits wa wb sa sb = absurd (false≢true one)
-elements_assigned z d k need more number at far kind.Double place a b index value one reached side enough fits wa wb sa sb = absurd (false≢true one)
+elements_assigned z d k need more number at far kind.Byte place a b index value one reached side enough fits wa wb sa sb =
+    word_elements z d k need more number at far kind.Byte place a b index value one reached side enough fits wa wb sa sb
+elements_assigned z d k need more number at far kind.Double place a b index value one reached side enough fits wa wb sa sb = absurd (omega (arith, one))

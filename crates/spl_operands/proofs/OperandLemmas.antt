@@ -72,12 +72,12 @@ top_based st d j i m x room =
 -- ---- at a mode itself
 
 -- a place further on
-moved_address : (by : ℕ) (place : Operand) → address (moved by place) ≡ (address place + by) % 65536
+pub moved_address : (by : ℕ) (place : Operand) → address (moved by place) ≡ (address place + by) % 65536
 unfolding moved
 moved_address by (Db a) = refl
 moved_address by (Stack a) = refl
 
-moved_side : (by : ℕ) (place : Operand) (far : Bool) (m : Machine) → Sided place far m → Sided (moved by place) far m
+pub moved_side : (by : ℕ) (place : Operand) (far : Bool) (m : Machine) → Sided place far m → Sided (moved by place) far m
 unfolding moved
 moved_side by (Db a) far m side = side
 moved_side by (Stack a) far m side = side

@@ -1,19 +1,22 @@
 -- Words stored through the word of a name: what STOR does wherever its operand is what the source finds, and what stands around it where an index
 -- waits below the value.
-use Rattle.std.proofs.Common.{◌≡◌, ℕ, ◌+◌, ◌-◌, ◌<◌, ◌≤◌, Bool, true, false, List, [], ◌∷◌, ◌++◌, length, take, refl, sym, ap, subst, ◌∙◌, arith}
+use Rattle.std.proofs.Common.{◌≡◌, ℕ, ◌+◌, ◌-◌, ◌/◌, ◌%◌, ◌<◌, ◌≤◌, Bool, true, false, List, [], ◌∷◌, ◌++◌, length, take, refl, sym, ap, subst, ◌∙◌, arith}
 use Rattle.std.specs.Prelude.{Option, Some, Ok, Err, Result, slice_index}
-use Rattle.std.proofs.lemmas.Bool.{false≢true}
 use Rattle.std.proofs.lemmas.List.{append-nil}
 use Rattle.std.proofs.Math.Seq.{take-length}
 use Rattle.hp_word.specs.declared.arithmetic.Code.{Code}
 use Rattle.hp_word.specs.declared.endings.Trap.{Trap}
 use Rattle.hp_word.specs.declared.endings.Trap.TheVariants.{Bounds}
+use Rattle.hp_word.specs.Bytes.{with_byte}
+use Rattle.hp_word.proofs.ByteLaws.{with_byte-below}
+use Rattle.hp_instr.specs.declared.instruction.Instr.{Instr}
 use Rattle.hp_instr.specs.declared.instruction.Instr.TheVariants as instr
 use Rattle.hp_instr.specs.declared.instruction.Mode.{Mode}
 use Rattle.hp_instr.specs.declared.instruction.Mode.TheVariants.{SMinus}
 use Rattle.hp_instr.specs.Instructions.{op}
-use Rattle.hp_session.specs.State.{Machine, Outcome as Row, word}
-use Rattle.hp_session.specs.Places.{address}
+use Rattle.hp_session.specs.State.{Machine, Outcome as Row, then_with, word}
+use Rattle.hp_session.specs.declared.places.Place.{Place as Operand}
+use Rattle.hp_session.specs.Places.{read_at, word_of_byte, written, byte_written, address}
 use Rattle.hp_stack_rows.specs.StackRows.{operated}
 use Rattle.hp_memory_rows.specs.MemoryRows.{memory_row}
 use Rattle.hp_flat.specs.Step.{at_left}
@@ -22,10 +25,11 @@ use Rattle.hp_yields.proofs.MemoryYields as rows
 use Rattle.hp_yields.proofs.StackYields as stack_rows
 use Rattle.spl_tree.specs.declared.expressions.Kind.{Kind}
 use Rattle.spl_tree.specs.declared.expressions.Kind.TheVariants as kind
+use Rattle.spl_meaning.specs.Kinds.{width}
 use Rattle.spl_meaning.specs.Operations.{kept}
 use Rattle.spl_meaning.specs.Places.{Place}
 use Rattle.spl_meaning.specs.References.{Setting, Located, led_located, placed_word, word_stored, store_by, store}
-use Rattle.spl_meaning.specs.States.{Data, State, Outcome, done, leaves, spent, ends, strays, trapped, then_go}
+use Rattle.spl_meaning.specs.States.{Data, State, End, Outcome, done, leaves, spent, ends, strays, trapped, then_go}
 use Rattle.spl_code.specs.Operands.{mode_of}
 use Rattle.spl_follow.specs.Spots.{Spot, pos, on, landed, Ground}
 use Rattle.spl_follow.specs.Leading.{Leads}
@@ -41,7 +45,7 @@ use Rattle.spl_values.specs.Reached.{is_word_kind, is_reached}
 use Rattle.spl_operands.specs.Operands.{finding, Finds, Refers, Seen, Storing, Indexing}
 use Rattle.spl_operands.proofs.SeeLemmas.{see}
 use Rattle.spl_operands.proofs.OperandLemmas.{top_based, direct, place_refers, indexed_element}
-use Rattle.spl_operands.proofs.ReadLemmas.{word_is_found}
+use Rattle.spl_operands.proofs.LoadLemmas.{word_is_found, past_read, byte_address, byte_side}
 
 -- ---- stores
 
@@ -97,40 +101,122 @@ word_put g w p q st t mode i x far a k v d0 m0 s m one leads y f =
       enough : 1 ≤ length m.stack
       enough = let words = y.matches.words in omega (arith, words)
 
--- a trap of the operand itself
-not_put : (g : Ground) (w : Rate) (p q : Spot) (st : Setting) (t : Kind) (mode : Mode) (i x : Bool) (k v : ℕ) (d0 : Data) (m0 : Machine) (s : State)
-    (m : Machine) → is_word_kind t ≡ true → Leads g (on p) q (doing g.segments (instr.Memory 5 true x i mode) q) → Storing st p k d0 m0 v s m
-    → finding t mode i x (at_left m) ≡ Err Bounds
-    → Follows g w (pos q - pos p) 0 w.reach (tally s) m (Completes st q k d0 m0) NoExit (ends (trapped Bounds) s)
-not_put g w p q st t mode i x k v d0 m0 s m one leads y lost =
+-- ---- bytes
+
+-- what is put of a byte, told by its address, the value on top and the word before
+byte_terms : (P : ℕ → ℕ → Type 0) (place : Operand) (a v old top : ℕ) (xs : List ℕ) → address place ≡ a → top ≡ v → slice_index xs (a / 2) ≡ old
+    → P (address (word_of_byte place)) (with_byte (address place) (top % 256) (slice_index xs (address (word_of_byte place))))
+    → P (a / 2) (with_byte a (v % 256 % 256) old)
+byte_terms P place a v old top xs at is was x =
+    let once : v % 256 ≡ v % 256 % 256 = omega arith in
+    subst (λ (u : ℕ). P (a / 2) (with_byte a (v % 256 % 256) u)) was
+    (subst (λ (u : ℕ). P (a / 2) (with_byte a u (slice_index xs (a / 2)))) (ap (λ (u : ℕ). u % 256) is ∙ once)
+    (subst (λ (b : ℕ). P (a / 2) (with_byte b (top % 256) (slice_index xs (a / 2)))) at
+    (subst (λ (b : ℕ). P b (with_byte (address place) (top % 256) (slice_index xs b))) (byte_address place a at) x)))
+
+-- a byte past its words is not stored
+byte_past : (place : Operand) (byte : ℕ) (m : Machine) → read_at (word_of_byte place) m ≡ Err Bounds → byte_written place byte m ≡ Err Bounds
+unfolding byte_written
+byte_past place byte m past =
+    ap (λ (r : Result ℕ Trap). then_with r (λ w. written (word_of_byte place) (with_byte (address place) byte w) m)) past
+
+-- STB of a byte whose word is seen: the other byte of that stays.
+byte_is_put : (g : Ground) (w : Rate) (p q : Spot) (st : Setting) (mode : Mode) (i x far : Bool) (a k v old : ℕ) (d0 : Data) (m0 : Machine)
+    (s : State) (m : Machine) → Leads g (on p) q (doing g.segments (instr.Memory 14 false x i mode) q) → Storing st p k d0 m0 v s m
+    → Finds kind.Byte mode i x far a (at_left m) → Seen far (a / 2) old s (at_left m)
+    → Follows g w (pos q - pos p) 0 w.reach (tally s) m (Completes st q k d0 m0) NoExit (done tt (placed_word far (a / 2) (with_byte a (v % 256 % 256) old) s))
+byte_is_put g w p q st mode i x false a k v old d0 m0 s m leads y f seen =
     let words = y.matches.words in
     let enough : 1 ≤ length m.stack = omega (arith, words) in
-    row_trap g w w.reach (on p) q (doing g.segments (instr.Memory 5 true x i mode) q) st s.begun s m (k + 1) (memory_row 5 true mode i x (at_left m))
+    let row = rows.byte_puts mode i x f.place (at_left m) enough f.is (byte_side f.place false (at_left m) f.side)
+    (subst (λ (b : ℕ). b < length m.stack) (sym (byte_address f.place a f.at)) seen.there) in
+    let puts : Puts 1 (a / 2) (with_byte a (v % 256 % 256) old) m (memory_row 14 false mode i x (at_left m)) =
+    byte_terms (λ b u. Puts 1 b u m (memory_row 14 false mode i x (at_left m))) f.place a v old (word 0 m) m.stack f.at y.top seen.word
+    (from_left 1 _ _ m (memory_row 14 false mode i x (at_left m)) row) in
+    row_stores g w (on p) q (doing g.segments (instr.Memory 14 false x i mode) q) st s.begun s m d0 m0 k 1 (a / 2) (with_byte a (v % 256 % 256) old) old
+    (memory_row 14 false mode i x (at_left m)) leads refl y.at refl puts (seen.known refl) (with_byte-below a (v % 256 % 256) old (omega arith) seen.small)
+    y.matches y.kept y.coded
+byte_is_put g w p q st mode i x true a k v old d0 m0 s m leads y f seen =
+    let words = y.matches.words in
+    let enough : 1 ≤ length m.stack = omega (arith, words) in
+    let row = rows.byte_puts_far mode i x f.place (at_left m) enough f.is (byte_side f.place true (at_left m) f.side)
+    (subst (λ (b : ℕ). b < length m.extra) (sym (byte_address f.place a f.at)) seen.there) in
+    let puts : PutsFar 1 (a / 2) (with_byte a (v % 256 % 256) old) m (memory_row 14 false mode i x (at_left m)) =
+    byte_terms (λ b u. PutsFar 1 b u m (memory_row 14 false mode i x (at_left m))) f.place a v old (word 0 m) m.extra f.at y.top seen.word
+    (from_left_far 1 _ _ m (memory_row 14 false mode i x (at_left m)) row) in
+    row_stores_far g w (on p) q (doing g.segments (instr.Memory 14 false x i mode) q) st s.begun s m d0 m0 k 1 (a / 2) (with_byte a (v % 256 % 256) old)
+    (memory_row 14 false mode i x (at_left m)) leads refl y.at refl puts (with_byte-below a (v % 256 % 256) old (omega arith) seen.small)
+    y.matches y.kept y.coded
+
+byte_put : (g : Ground) (w : Rate) (p q : Spot) (st : Setting) (mode : Mode) (i x far : Bool) (a k v : ℕ) (d0 : Data) (m0 : Machine)
+    (s : State) (m : Machine) → Leads g (on p) q (doing g.segments (instr.Memory 14 false x i mode) q) → Storing st p k d0 m0 v s m
+    → Finds kind.Byte mode i x far a (at_left m)
+    → Follows g w (pos q - pos p) 0 w.reach (tally s) m (Completes st q k d0 m0) NoExit (store_by kind.Byte far a (kept kind.Byte (v ∷ [])) s)
+byte_put g w p q st mode i x far a k v d0 m0 s m leads y f =
+    let words = y.matches.words in
+    let enough : 1 ≤ length m.stack = omega (arith, words) in
+    see (λ (o : Outcome (Unit {0})). Follows g w (pos q - pos p) 0 w.reach (tally s) m (Completes st q k d0 m0) NoExit o) far (a / 2) (k + 1) st s (at_left m)
+    (λ old u. done tt (placed_word far (a / 2) (with_byte a (v % 256 % 256) old) u)) y.matches y.room
+    (λ old seen. byte_is_put g w p q st mode i x far a k v old d0 m0 s m leads y f seen)
+    (stray_here g w (pos q - pos p) 0 w.reach st (on p) (k + 1) s s.begun m (Completes st q k d0 m0) NoExit leads.start y.at refl y.matches)
+    (λ past. row_trap g w w.reach (on p) q (doing g.segments (instr.Memory 14 false x i mode) q) st s.begun s m (k + 1) (memory_row 14 false mode i x (at_left m))
     Bounds (Completes st q k d0 m0) NoExit leads refl y.at refl y.matches
-    (rows.word_store_not_found mode i x Bounds (at_left m) enough (sym (word_is_found t mode i x (at_left m) one) ∙ lost))
+    (rows.byte_not_stored mode i x f.place Bounds (at_left m) enough f.is
+    (byte_past f.place (word 0 (at_left m) % 256) (at_left m)
+    (past_read (word_of_byte f.place) far (a / 2) (at_left m) (byte_side f.place far (at_left m) f.side) (byte_address f.place a f.at) past))))
 
--- a value of a kind of one whole word is stored as it is
-word_is_stored : (t : Kind) (far : Bool) (a v : ℕ) (s : State) → is_word_kind t ≡ true → store_by t far a (kept t (v ∷ [])) s ≡ word_stored far a (v ∷ []) s
-word_is_stored kind.Integer far a v s e = refl
-word_is_stored kind.Logical far a v s e = refl
-word_is_stored kind.Byte far a v s e = absurd (false≢true e)
-word_is_stored kind.Double far a v s e = absurd (false≢true e)
+-- ---- by the kind
 
--- STOR where its operand is what a reference leads to
+-- the instruction of a store: STOR, STB, STD
+abbrev pub storing : Kind → Bool → Bool → Mode → Instr
+storing kind.Integer i x mode = instr.Memory 5 true x i mode
+storing kind.Logical i x mode = instr.Memory 5 true x i mode
+storing kind.Byte i x mode = instr.Memory 14 false x i mode
+storing kind.Double i x mode = instr.Memory 14 true x i mode
+
+-- a store where its operand is at an address
+value_is_put : (g : Ground) (w : Rate) (p q : Spot) (st : Setting) (t : Kind) (mode : Mode) (i x far : Bool) (a k v : ℕ) (d0 : Data) (m0 : Machine)
+    (s : State) (m : Machine) → width t ≡ 1 → Leads g (on p) q (doing g.segments (storing t i x mode) q) → Storing st p k d0 m0 v s m
+    → Finds t mode i x far a (at_left m)
+    → Follows g w (pos q - pos p) 0 w.reach (tally s) m (Completes st q k d0 m0) NoExit (store_by t far a (kept t (v ∷ [])) s)
+value_is_put g w p q st kind.Integer mode i x far a k v d0 m0 s m one leads y f = word_put g w p q st kind.Integer mode i x far a k v d0 m0 s m refl leads y f
+value_is_put g w p q st kind.Logical mode i x far a k v d0 m0 s m one leads y f = word_put g w p q st kind.Logical mode i x far a k v d0 m0 s m refl leads y f
+value_is_put g w p q st kind.Byte mode i x far a k v d0 m0 s m one leads y f = byte_put g w p q st mode i x far a k v d0 m0 s m leads y f
+value_is_put g w p q st kind.Double mode i x far a k v d0 m0 s m one leads y f = absurd (omega (arith, one))
+
+-- a trap of the operand itself
+not_put : (g : Ground) (w : Rate) (p q : Spot) (st : Setting) (t : Kind) (mode : Mode) (i x : Bool) (k v : ℕ) (d0 : Data) (m0 : Machine) (s : State)
+    (m : Machine) → width t ≡ 1 → Leads g (on p) q (doing g.segments (storing t i x mode) q) → Storing st p k d0 m0 v s m
+    → finding t mode i x (at_left m) ≡ Err Bounds
+    → Follows g w (pos q - pos p) 0 w.reach (tally s) m (Completes st q k d0 m0) NoExit (ends (trapped Bounds) s)
+not_put g w p q st kind.Integer mode i x k v d0 m0 s m one leads y lost =
+    let words = y.matches.words in
+    row_trap g w w.reach (on p) q (doing g.segments (instr.Memory 5 true x i mode) q) st s.begun s m (k + 1) (memory_row 5 true mode i x (at_left m))
+    Bounds (Completes st q k d0 m0) NoExit leads refl y.at refl y.matches (rows.word_store_not_found mode i x Bounds (at_left m) (omega (arith, words)) lost)
+not_put g w p q st kind.Logical mode i x k v d0 m0 s m one leads y lost =
+    let words = y.matches.words in
+    row_trap g w w.reach (on p) q (doing g.segments (instr.Memory 5 true x i mode) q) st s.begun s m (k + 1) (memory_row 5 true mode i x (at_left m))
+    Bounds (Completes st q k d0 m0) NoExit leads refl y.at refl y.matches (rows.word_store_not_found mode i x Bounds (at_left m) (omega (arith, words)) lost)
+not_put g w p q st kind.Byte mode i x k v d0 m0 s m one leads y lost =
+    let words = y.matches.words in
+    row_trap g w w.reach (on p) q (doing g.segments (instr.Memory 14 false x i mode) q) st s.begun s m (k + 1) (memory_row 14 false mode i x (at_left m))
+    Bounds (Completes st q k d0 m0) NoExit leads refl y.at refl y.matches (rows.byte_store_not_found mode i x Bounds (at_left m) (omega (arith, words)) lost)
+not_put g w p q st kind.Double mode i x k v d0 m0 s m one leads y lost = absurd (omega (arith, one))
+
+-- a store where its operand is what a reference leads to
 pub store_follows : (g : Ground) (w : Rate) (p q : Spot) (st : Setting) (t : Kind) (mode : Mode) (i x : Bool) (k v : ℕ) (d0 : Data) (m0 : Machine)
-    (s : State) (m : Machine) (o : Outcome Located) → is_word_kind t ≡ true → Leads g (on p) q (doing g.segments (instr.Memory 5 true x i mode) q)
+    (s : State) (m : Machine) (o : Outcome Located) → width t ≡ 1 → Leads g (on p) q (doing g.segments (storing t i x mode) q)
     → Storing st p k d0 m0 v s m → Refers t mode i x s (at_left m) o
     → Follows g w (pos q - pos p) 0 w.reach (tally s) m (Completes st q k d0 m0) NoExit (then_go o (λ y u. store y (kept y.kind (v ∷ [])) u))
 store_follows g w p q st t mode i x k v d0 m0 s m (done y u) one leads z r =
     subst (λ (e : State). Follows g w (pos q - pos p) 0 w.reach (tally s) m (Completes st q k d0 m0) NoExit (store_by y.kind y.far y.address (kept y.kind (v ∷ [])) e)) (sym r.0)
     (subst (λ (c : Kind). Follows g w (pos q - pos p) 0 w.reach (tally s) m (Completes st q k d0 m0) NoExit (store_by c y.far y.address (kept c (v ∷ [])) s)) (sym r.1)
-    (subst (λ (o : Outcome (Unit {0})). Follows g w (pos q - pos p) 0 w.reach (tally s) m (Completes st q k d0 m0) NoExit o)
-    (sym (word_is_stored t y.far y.address v s one)) (word_put g w p q st t mode i x y.far y.address k v d0 m0 s m one leads z r.2)))
+    (value_is_put g w p q st t mode i x y.far y.address k v d0 m0 s m one leads z r.2))
 store_follows g w p q st t mode i x k v d0 m0 s m (leaves e u) one leads z r = absurd r
 store_follows g w p q st t mode i x k v d0 m0 s m (spent u) one leads z r = absurd r
 store_follows g w p q st t mode i x k v d0 m0 s m (ends e u) one leads z r =
     subst (λ (c : State). Follows g w (pos q - pos p) 0 w.reach (tally s) m (Completes st q k d0 m0) NoExit (ends e c)) (sym r.0)
-    (subst (λ (c : _). Follows g w (pos q - pos p) 0 w.reach (tally s) m (Completes st q k d0 m0) NoExit (ends c s)) (sym r.1)
+    (subst (λ (c : End). Follows g w (pos q - pos p) 0 w.reach (tally s) m (Completes st q k d0 m0) NoExit (ends c s)) (sym r.1)
     (not_put g w p q st t mode i x k v d0 m0 s m one leads z r.2))
 store_follows g w p q st t mode i x k v d0 m0 s m (strays u) one leads z r =
     subst (λ (c : State). Follows g w (pos q - pos p) 0 w.reach (tally s) m (Completes st q k d0 m0) NoExit (strays c)) (sym r)
@@ -223,9 +309,9 @@ index_deleted g w p q st k d0 m0 d1 m1 s m leads before x =
 
 -- LDX, STOR and DEL: an element is stored, whose index waits below the value.
 pub element_put : (g : Ground) (w : Rate) (p r1 r2 q : Spot) (st : Setting) (t : Kind) (far : Bool) (place : Place) (k u v : ℕ) (d0 : Data) (m0 : Machine)
-    (s : State) (m : Machine) → is_word_kind t ≡ true → is_reached st k place ≡ true → far ≡ st.split
+    (s : State) (m : Machine) → width t ≡ 1 → is_reached st k place ≡ true → far ≡ st.split
     → Leads g (on p) r1 (doing g.segments (instr.Memory 11 true false false (SMinus 1)) r1)
-    → Leads g (on r1) r2 (doing g.segments (instr.Memory 5 true true true (mode_of k place)) r2)
+    → Leads g (on r1) r2 (doing g.segments (storing t true true (mode_of k place)) r2)
     → Leads g (on r2) q (doing g.segments (instr.Pair (op 0o40) (op 0)) q) → IsValue st p 2 k d0 m0 (u ∷ v ∷ []) s m
     → s.now.top + (k + 1 + 1) ≤ s.now.stack
     → Follows g w (pos q - pos p) 0 w.reach (tally s) m (Completes st q k d0 m0) NoExit

@@ -65,14 +65,14 @@ pub record Seen (far : Bool) (a v : ℕ) (s : State) (m : Machine) : Type 0 wher
 
 -- ---- where loads stand
 
--- A load stands at p, with k words waiting and room for its word, in a part that began with d0 and m0; l is the log of what was met.
-pub record Loading (st : Setting) (p : Point) (k : ℕ) (d0 : Data) (m0 : Machine) (l : List Begun) (s : State) (m : Machine) : Type 0 where
+-- A load stands at p, with k words waiting and room for its n words, in a part that began with d0 and m0; l is the log of what was met.
+pub record Loading (st : Setting) (p : Point) (k n : ℕ) (d0 : Data) (m0 : Machine) (l : List Begun) (s : State) (m : Machine) : Type 0 where
   pub at : spot m ≡ p.at
   pub owes : Owes p.due l s m
   pub matches : Matched st s.now m k
   pub kept : Kept (d0.top + k) d0 m0.stack s.now m.stack
   pub silent : s.code ≡ None
-  pub room : s.now.top + k + 1 ≤ s.now.stack
+  pub room : s.now.top + k + n ≤ s.now.stack
 
 -- An index is in X at p, with k words waiting, in a part that began with d0 and m0.
 pub record IsIndex (st : Setting) (p : Spot) (k : ℕ) (d0 : Data) (m0 : Machine) (v : ℕ) (s : State) (m : Machine) : Type 0 where

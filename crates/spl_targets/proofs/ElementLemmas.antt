@@ -31,15 +31,16 @@ use Rattle.spl_statement_code.specs.Statements.{statement}
 use Rattle.spl_follow.specs.Standing.{IsClosed}
 use Rattle.spl_follow.specs.Simulating.{Surroundings, Simulates, Performs}
 use Rattle.spl_follow.proofs.StandLemmas.{closed_last}
-use Rattle.spl_values.specs.Reached.{is_word_kind, is_reached, IsWhole}
+use Rattle.spl_values.specs.Reached.{is_reached, IsWhole}
 use Rattle.spl_values.proofs.SumLemmas.{front_on}
 use Rattle.spl_values.proofs.VariableLemmas.{both}
 use Rattle.spl_values.proofs.WholeLemmas.{then_same}
 use Rattle.spl_operands.proofs.AssignLemmas.{cells_assigned, elements_assigned}
+use Rattle.spl_operators.specs.Laws.{is_single}
 use Rattle.spl_covered.specs.Covered.{is_led, is_led_element, is_covered_name, is_covered}
 use Rattle.spl_covered.specs.Laws.{read_with}
 use Rattle.spl_covered.proofs.CoverLemmas.{covered_width, covered_whole, covered_gives}
-use Rattle.spl_covered.proofs.LedLemmas.{IsElement, element_case, IsLed, led_case}
+use Rattle.spl_covered.proofs.LedLemmas.{single_width, IsElement, element_case, IsLed, led_case}
 use Rattle.spl_targets.specs.Laws.{LedTargetsAreWhole, LedTargetsPerform}
 use Rattle.spl_targets.proofs.SameLemmas.{stopping_same, same_performs}
 
@@ -140,10 +141,10 @@ either false b e = inr e
 -- ---- without an index
 
 -- a store through a word closes
-cell_closed : (t : Kind) (k : ℕ) (place : Place) → is_word_kind t ≡ true → IsClosed (cell_stored t false (mode_of k place))
+cell_closed : (t : Kind) (k : ℕ) (place : Place) → is_single t ≡ true → IsClosed (cell_stored t false (mode_of k place))
 cell_closed kind.Integer k place e = refl
 cell_closed kind.Logical k place e = refl
-cell_closed kind.Byte k place e = absurd (false≢true e)
+cell_closed kind.Byte k place e = refl
 cell_closed kind.Double k place e = absurd (false≢true e)
 
 -- the code of such an assignment
@@ -207,15 +208,15 @@ led_performs c results z call d number x there e at k need led enough alone whol
     (λ s. stopping_same number at s (λ u. assign h call (stat.Target.plain (tree.Tree.named x tree.Trees.none there)) e k u)
     (λ u. then_go (value h call e k u) (λ vs v. then_go (led_located r.far r.type (Some r.place) 0 v) (λ p t. store p (kept p.kind vs) t)))
     (led_is c.scope results z.setting call x there e k r left.0 alone))
-    (cells_assigned z d k need number at r.far r.type r.place (code c.scope e as_value k) (λ u. value h call e k u) r.word r.reached r.side enough whole sim)
+    (cells_assigned z d k need number at r.far r.type r.place (code c.scope e as_value k) (λ u. value h call e k u) (single_width r.type r.word) r.reached r.side enough whole sim)
 
 -- ---- elements
 
 -- a store in an element closes
-element_closed : (t : Kind) (k : ℕ) (place : Place) → is_word_kind t ≡ true → IsClosed (element_stored t false (mode_of k place))
+element_closed : (t : Kind) (k : ℕ) (place : Place) → is_single t ≡ true → IsClosed (element_stored t false (mode_of k place))
 element_closed kind.Integer k place e = refl
 element_closed kind.Logical k place e = refl
-element_closed kind.Byte k place e = absurd (false≢true e)
+element_closed kind.Byte k place e = refl
 element_closed kind.Double k place e = absurd (false≢true e)
 
 -- the code of such an assignment: the value is made while the index waits
@@ -290,7 +291,7 @@ element_performs c results z call d number x i there e at k need more led enough
     (λ s. stopping_same number at s (λ u. assign h call (stat.Target.plain (tree.Tree.named x (tree.Trees.and i tree.Trees.none) there)) e k u)
     (λ u. meant r.is_pointer r.type r.place u) (element_is c.scope results z.setting call x i there e k r left.0 alone))
     (elements_assigned z d k need more number at (r.is_pointer && z.setting.split) r.type r.place (code c.scope i as_value k) (code c.scope e as_value (k + 1))
-    (λ u. value h call i k u) (λ u. value h call e (k + 1) u) r.word r.reached r.side enough fits wi we si se) where
+    (λ u. value h call i k u) (λ u. value h call e (k + 1) u) (single_width r.type r.word) r.reached r.side enough fits wi we si se) where
       meant : Bool → Kind → Place → State → Outcome (Unit {0})
       meant is_pointer t place u =
           let h = read_with c.scope results z.setting in

@@ -3,15 +3,15 @@
 -- 2. + and - of INTEGERs and constants        (sign_covered, integers_class)
 -- 3. an operand                               (atom_fits)
 -- 4. a sum, along the tree                    (sum_fits)
-use Rattle.std.proofs.Common.{◌≡◌, ◌⊎◌, inl, inr, ℕ, ◌+◌, ◌≤◌, Bool, true, false, List, Option, refl, sym, ap, subst, ◌∙◌, arith}
+use Rattle.std.proofs.Common.{◌≡◌, ◌⊎◌, inl, inr, ℕ, ◌+◌, ◌≤◌, Bool, true, false, not, List, Option, refl, sym, ap, subst, ◌∙◌, arith}
 use Rattle.std.specs.Prelude.{◌==◌, ◌&&◌, max, if◌then◌else◌}
-use Rattle.std.proofs.lemmas.Bool.{eqb-true}
+use Rattle.std.proofs.lemmas.Bool.{and_from, eqb-true}
 use Rattle.std.proofs.Math.Nat.{max-le}
 use Rattle.spl_tree.specs.declared.names_and_places.At.{At}
 use Rattle.spl_tree.specs.declared.expressions.Kind.TheVariants as kind
 use Rattle.spl_tree.specs.Trees as tree
 use Rattle.spl_tree.specs.Trees.{Tree, Trees}
-use Rattle.spl_meaning.specs.Names.{Sort}
+use Rattle.spl_meaning.specs.Names.{Names, Sort}
 use Rattle.spl_meaning.specs.Kinds.{Operand, of, const, unknown, Class, integers, class_of, class_operand, named_operand, is_integer, is_connective, gives_logical, compares_text, callable, kind_of, operand_width}
 use Rattle.spl_meaning.specs.Pending.{most, most_of, profile_formals, profile_result_words, formals_words, link_words}
 use Rattle.spl_meaning.specs.References.{Setting}
@@ -51,6 +51,11 @@ sign_covered op (inr e) = ap is_covered_operator e
 no_logical : (op : ℕ) → IsSign op → gives_logical op ≡ false
 no_logical op (inl e) = ap gives_logical e
 no_logical op (inr e) = ap gives_logical e
+
+-- and compares no bytes
+no_text : (names : Names) (op : ℕ) (a b : Tree) → IsSign op → compares_text names op a b ≡ false
+no_text names op a b (inl e) = ap (λ (o : ℕ). compares_text names o a b) e
+no_text names op a b (inr e) = ap (λ (o : ℕ). compares_text names o a b) e
 
 -- INTEGERs and constants make the class of INTEGERs
 integers_class : (a b : Operand) → is_integer a ≡ true → is_integer b ≡ true → class_of a b ≡ integers
@@ -105,8 +110,9 @@ atom_fits c st shows (tree.Tree.bytes op a b count at) is = never is
 more_fits : (c : Scope) (st : Setting) (op : ℕ) (l r : Tree) (at : At) → IsSign op → Fits c st l 1 → Fits c st r 0
     → Fits c st (tree.Tree.binary op l r at) 1
 more_fits c st op l r at sign first second = record {
-  covered = λ k. tests (is_connective op) (is_covered_operator op) (is_word_class (class_of (kind_of c.names l) (kind_of c.names r))) (is_covered c st l k)
-      (is_covered c st r (k + operand_width (kind_of c.names l))) _ (no_connective op sign) (sign_covered op sign) (ap is_word_class class) (first.covered k)
+  covered = λ k. tests (is_connective op) (is_covered_operator op && not (compares_text c.names op l r)) (is_word_class (class_of (kind_of c.names l) (kind_of c.names r))) (is_covered c st l k)
+      (is_covered c st r (k + operand_width (kind_of c.names l))) _ (no_connective op sign)
+      (and_from (is_covered_operator op) (not (compares_text c.names op l r)) (sign_covered op sign) (ap not (no_text c.names op l r sign))) (ap is_word_class class) (first.covered k)
       (second.covered (k + operand_width (kind_of c.names l)));
   integer = kinds (gives_logical op) (class_of (kind_of c.names l) (kind_of c.names r)) (no_logical op sign) class;
   waits = room (is_connective op) (compares_text c.names op l r) (operand_width (kind_of c.names l)) (most c.names l) (most c.names r)
