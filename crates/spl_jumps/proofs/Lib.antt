@@ -1,0 +1,4 @@
+-- In reading order.
+pub mod JumpLemmas
+pub mod LabelLemmas
+pub mod LandLemmas
