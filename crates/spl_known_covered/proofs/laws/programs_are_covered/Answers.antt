@@ -1,0 +1,9 @@
+-- Each is computed.
+use Rattle.spl_known_covered.proofs.Known.{all_covered, none_covered}
+use Rattle.spl_known_covered.proofs.laws.programs_are_covered.Goals as goal
+
+pub returns-clause-covered : goal.returns-clause-covered
+returns-clause-covered c = all_covered
+
+pub returns-clause-others : goal.returns-clause-others
+returns-clause-others c = none_covered

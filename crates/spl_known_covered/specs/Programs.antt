@@ -1,0 +1,36 @@
+-- Which programs are covered, of some that are given by their texts.
+use Rattle.std.specs.Prelude.{◌≡◌, Bool, true, false, List, [], ◌∷◌, Option, Some, option_map}
+use Prim.Native.String.{String}
+use Rattle.spl_meaning.specs.Tables.{Source}
+use Rattle.spl_known.specs.Programs.{sources_from}
+use Rattle.spl_carried.specs.Covered.{is_covered_program}
+
+-- the program of one unit with this text is covered, or it is not
+abbrev pub IsSo : Bool → String → Type 0
+IsSo covered text = option_map is_covered_program (sources_from 1 [] (text ∷ [])) ≡ Some covered
+
+abbrev pub AllSo : Bool → List String → Type 0
+AllSo covered [] = Unit {0}
+AllSo covered (t ∷ ts) = IsSo covered t × AllSo covered ts
+
+-- sums, loops, choices, elements of arrays, and what is declared and not called
+abbrev pub covered_texts : List String
+covered_texts =
+    "BEGIN INTEGER I; INTRINSIC QUIT; I:=2; I:=I+3; QUIT(I) END."
+    ∷ "BEGIN INTEGER I,K; INTRINSIC QUIT; FOR I:=1 UNTIL 3 DO K:=K+I; QUIT(K) END."
+    ∷ "BEGIN INTEGER I; WHILE I<5 DO IF I=3 THEN I:=5 ELSE I:=I+1 END."
+    ∷ "BEGIN INTEGER I; CASE I OF BEGIN I:=1; I:=2 END END."
+    ∷ "BEGIN INTEGER ARRAY A(0:9); INTEGER I; A(3):=7; I:=A(I+3)*2 END."
+    ∷ "BEGIN BYTE ARRAY B(0:3); B(1):=65 END."
+    ∷ "BEGIN INTEGER I; PROCEDURE P; I:=1; I:=2 END."
+    ∷ "BEGIN INTRINSIC TERMINATE; TERMINATE END." ∷ []
+
+-- a BYTE variable, a DOUBLE, a label, a call of a procedure, an intrinsic that goes on, and a unit without a main body
+abbrev pub other_texts : List String
+other_texts =
+    "BEGIN BYTE C; C:=65 END."
+    ∷ "BEGIN DOUBLE D; D:=1D END."
+    ∷ "BEGIN INTEGER I; L: I:=1; GO TO L END."
+    ∷ "BEGIN INTEGER I; PROCEDURE P; I:=1; P END."
+    ∷ "BEGIN LOGICAL ARRAY W(0:3); INTRINSIC PRINT; PRINT(W,2,0) END."
+    ∷ "$CONTROL SUBPROGRAM\nBEGIN INTEGER I; PROCEDURE P; I:=1; END." ∷ []
