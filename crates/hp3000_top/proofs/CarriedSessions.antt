@@ -94,7 +94,7 @@ pub record SourceLaws : Type 0 where
   pub thin : ThinUnitsAreCovered
 
 -- what is made of covered units carries them
-units_carried : CoveredTextsCarry → (texts : List (List ℕ)) (us : List Source) (q : Program) → IsCovered texts us → IsMade texts q → Carries q us
+pub units_carried : CoveredTextsCarry → (texts : List (List ℕ)) (us : List Source) (q : Program) → IsCovered texts us → IsMade texts q → Carries q us
 units_carried law texts us q k (p.IsMade.thin unit w m) = absurd (within_not_beyond texts unit us w k.beyond)
 units_carried law texts us q k (p.IsMade.built vs w b) = law texts us q k (subst (λ (ys : List Source). IsBuilt ys q) (same_units texts vs us w k.beyond) b)
 

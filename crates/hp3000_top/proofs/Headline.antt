@@ -25,6 +25,7 @@ use Rattle.mpe_turns.specs.declared.fault.OpenFault.TheVariants.{StackTooSmall}
 use Rattle.mpe_turns.specs.Opening.{first_of_two, small_stack, small_stack_from, small_memory}
 use Rattle.thin_jobs.specs.ThinUnits as u
 use Rattle.thin_carries.specs.Carries.{Carries, flat_point}
+use Rattle.spl_carries.specs.Carries as large
 use Rattle.thin_carries.proofs.Opening.{carries}
 use Rattle.thin_compiler.specs.ProgramViews.{IsMadeOf}
 use Rattle.hp3000_top.specs.Programs.{IsWithin, IsMade, AreMade}
@@ -34,18 +35,11 @@ use Rattle.hp3000_top.specs.Answers.{seat_of, IsAsAlone, EachIsAsAlone}
 use Rattle.std.specs.List.{list_all}
 use Rattle.spl_meaning.specs.Tables.{Source}
 use Rattle.job_text.proofs.LineBytes.{lines_of_texts}
-use Rattle.hp3000_top.specs.Carried.{is_byte, IsCovered, FollowsUnits}
-use Rattle.hp3000_top.proofs.CarriedSessions.{CoveredTextsCarry, SourceLaws, follows_units}
+use Rattle.hp3000_top.specs.Carried.{is_byte, IsCovered, CarryTheirs, FollowsUnits}
+use Rattle.hp3000_top.proofs.CarriedSessions.{CoveredTextsCarry, SourceLaws, units_carried, follows_units}
 use Rattle.hp3000_top.proofs.Loops.{each_slice}
 use Rattle.hp3000_top.proofs.ClosedJobs.{kept}
-use Rattle.hp3000_top.proofs.Sureness.{thin_made}
-
-some_is : {A : Type 0} {x y : A} → Some x ≡ Some y → x ≡ y
-some_is {A} {x} {y} e = ap (from x) e
-  where
-    from : A → Option A → A
-    from z None = z
-    from z (Some w) = w
+use Rattle.hp3000_top.proofs.Sureness.{some_is, thin_made}
 
 -- ---- programs and seats
 
@@ -148,6 +142,19 @@ flat_run ps q seat r e g =
 -- the program of a thin unit carries it
 carried : (texts : List (List ℕ)) (unit : u.Unit) (q : Program) → IsWithin texts unit → IsMadeOf unit.names unit.statements q → Carries q unit
 carried texts unit q k m = carries q unit m k.fits (kept k.thin.source.subprogram k.thin.source.segments k.thin.source.tree unit k.thin.thin).closed
+
+-- programs that are made of texts carry what these are the texts of
+pub carry_theirs : SourceLaws → (ts : List TextValue) (ps : List Program) → AreMade ts ps → CarryTheirs ts ps
+carry_theirs law ts ps made = record {
+  thin = λ k t p of_text at unit w.
+      let m = made_at k t made of_text in
+      let same : m.made_program ≡ p = some_is (sym m.at ∙ at) in
+      subst (λ (x : Program). Carries x unit) same (carried t.units unit m.made_program w (thin_made t.units unit m.made_program w m.is));
+  whole = λ k t p of_text at us c.
+      let m = made_at k t made of_text in
+      let same : m.made_program ≡ p = some_is (sym m.at ∙ at) in
+      subst (λ (x : Program). large.Carries x us) same (units_carried law.carry t.units us m.made_program c m.is);
+}
 
 as_alone : (texts : List (List ℕ)) (unit : u.Unit) (ps : List Program) (q : Program) (seat : Seat) (r : Run) → IsWithin texts unit → IsMadeOf unit.names unit.statements q
     → slice_get ps seat.program ≡ Some q → length q.globals.items + 4 ≤ seat.stack → GoesOn (segments_at (codes_of ps) seat.program) (opening_run q seat) r

@@ -2,6 +2,7 @@ pub mod ClosedJobs
 pub mod Loops
 pub mod Making
 pub mod Copies
+pub mod Filing
 pub mod LineLemmas
 pub mod Sureness
 pub mod Needs

@@ -12,7 +12,10 @@ use Rattle.spl_program.specs.declared.faults.ProgramFault.{ProgramFault}
 use Rattle.spl_program.specs.declared.faults.ProgramFault.TheVariants as why
 use Rattle.spl_program.specs.Programs.{IsProgram, Tells}
 use Rattle.spl_program.proofs.ProgramLaws.{programs_unique}
-use Rattle.spl_build.specs.Built.{IsBuilt}
+use Rattle.spl_branch.specs.declared.modules.Module.{Module}
+use Rattle.mpe_segmenter.specs.Names.{parts}
+use Rattle.mpe_segmenter.specs.Sites.{Links}
+use Rattle.spl_build.specs.Built.{IsBuilt, IsLinked}
 use Rattle.thin_jobs.specs.ThinUnits as u
 use Rattle.thin_jobs.specs.ThinShapes.{thin_in, thin_of}
 use Rattle.thin_jobs.specs.declared.unread.Unread.TheVariants as unread
@@ -20,7 +23,7 @@ use Rattle.thin_compiler.specs.ThinCode.{is_in_bounds}
 use Rattle.hp3000_top.specs.declared.unmade.Unmade.{Unmade}
 use Rattle.hp3000_top.specs.declared.unmade.Unmade.TheVariants as unmade
 use Rattle.hp3000_top.specs.Programs.{IsThin, IsMade, IsBeyond, IsRefused, thin, built, faulty, unlinked, fault_line}
-use Rattle.hp3000_top.specs.Steps.{IsTold, thin_among, MakesThin, UnlinkedBy, RefusedBy}
+use Rattle.hp3000_top.specs.Steps.{IsTold, thin_among, MakesThin, UnlinkedBy, RefusedBy, IsCopy}
 use Rattle.hp3000_top.proofs.Loops.{each_slice}
 
 -- no text is too long
@@ -52,7 +55,7 @@ made_so texts (x ∷ []) p k m = by (thin_of x) refl m where
   by (Some unit) e m = thin unit (record { thin = record { source = source_of x; program = k; thin = thin_so x (Some unit) e }; fits = m.1 }) m.0
 made_so texts (x ∷ y ∷ us) p k m = absurd m
 
-one_source : (x y : Source) → x ∷ [] ≡ y ∷ [] → x ≡ y
+pub one_source : (x y : Source) → x ∷ [] ≡ y ∷ [] → x ≡ y
 one_source x y e = cc
 
 -- where none is, the units are no thin one within its bounds
@@ -82,3 +85,38 @@ pub linked_refused : (t : TextValue) (us : List Source) (r : Result Program Unma
     → IfErr r (λ e. RefusedBy t e)
 linked_refused t us (Ok p) k h = tt
 linked_refused t us (Err e) k h = unlinked_so t us e k h
+
+-- ---- programs read of their files
+
+-- what modules make
+same_linked : (ms : List Module) (globals : List ℕ) (p q : Program) → IsLinked ms globals p → IsCopy p q → IsLinked ms globals q
+same_linked ms globals p q k c = record {
+  faultless = k.faultless;
+  makes = record {
+    segments = c.segments ∙ k.makes.segments;
+    main = k.makes.main ∙ ap (λ (n : ℕ). place n p.entry) (sym c.main) ∙ ap (λ (n : ℕ). place q.main n) (sym c.entry);
+    data_words = c.globals ∙ k.makes.data_words;
+  };
+  links = subst (λ (ss : List (List ℕ)). Links (parts ms) ss) (sym c.segments) k.links;
+}
+  where
+    place : ℕ → ℕ → Option (ℕ × ℕ)
+    place m n = Some (m, n)
+
+-- an equal program is made of the same texts
+pub filed_is_made : (texts : List (List ℕ)) (p q : Program) → IsMade texts p → IsCopy p q → IsMade texts q
+filed_is_made texts p q (thin unit w m) c =
+    thin unit w (record {
+      segments = c.segments ∙ m.segments;
+      main = c.main ∙ m.main;
+      entry = c.entry ∙ m.entry;
+      globals = c.globals ∙ m.globals;
+    })
+filed_is_made texts p q (built us k b) c =
+    built us k (record {
+      layout = b.layout;
+      is_layout = b.is_layout;
+      modules = b.modules;
+      are_modules = b.are_modules;
+      linked = same_linked b.modules b.layout.globals.items p q b.linked c;
+    })

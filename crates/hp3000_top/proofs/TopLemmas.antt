@@ -1,5 +1,5 @@
 -- The clauses of the top call, from what is answered of the bytes that were read, and how that was taken.
-use Rattle.std.proofs.Common.{◌≡◌, ◌≤◌, ℕ, Bool, true, false, List, length, Option, None, Some, Result, Ok, Err, refl, sym, subst, inl, inr, ◌∙◌}
+use Rattle.std.proofs.Common.{◌≡◌, ◌≤◌, ℕ, Bool, true, false, List, [], ◌∷◌, length, Option, None, Some, Result, Ok, Err, refl, sym, subst, inl, inr, ◌∙◌}
 use Rattle.std.specs.Prelude.{OnOk, OnErr, ◌⊎◌}
 use Rattle.std.specs.Result.{is_err}
 use Rattle.std.specs.Io.KnownBytes.{Appends}
@@ -19,14 +19,14 @@ use Rattle.hp3000_top.specs.declared.verbs.Verb.{Verb}
 use Rattle.hp3000_top.specs.declared.verbs.Verb.TheVariants as verb
 use Rattle.hp3000_top.specs.Causes.{RunsJobs, account_of, Runs, IsPrepared, CauseOf, SureCauseOf, ComesTo}
 use Rattle.hp3000_top.specs.Causes as c
-use Rattle.hp3000_top.specs.Answers.{Over, Certain, IsWhole, Refuses, BreaksOff, HasRun, DeliversJob, DeliversOf, Delivers, ReportsAsAlone, AreAsAlone, IsSurelyDoneOf, IsSurelyDone, IsDone, IsSurelyRefused, IsRefusedBy, IsCrowded, MadeBy, MadeAt, RanAt}
+use Rattle.hp3000_top.specs.Answers.{Over, Certain, IsWhole, Refuses, BreaksOff, HasRun, DeliversJob, DeliversOf, Delivers, ReportsAsAlone, CarriesPrepared, AreAsAlone, IsSurelyDoneOf, IsSurelyDone, IsDone, IsSurelyRefused, IsRefusedBy, IsCrowded, MadeBy, MadeAt, RanAt}
 use Rattle.hp3000_top.specs.Steps.{IsInput, IsAnswered, IsTaken, text_of, exit_of, made_by, ran_by}
 use Rattle.hp3000_top.specs.Steps as s
 use Rattle.hp3000_top.proofs.Unique.{crowded_cause, jobs_refuse, jobs_are_not_refused, prepared_not_sure, listed_no_cause, sure_same, done_no_cause}
 use Rattle.std.specs.List.{list_all}
 use Rattle.hp3000_top.proofs.CarriedSessions.{SourceLaws}
-use Rattle.hp3000_top.specs.Carried.{is_byte}
-use Rattle.hp3000_top.proofs.Headline.{each_is_as_alone}
+use Rattle.hp3000_top.specs.Carried.{is_byte, CarryTheirs}
+use Rattle.hp3000_top.proofs.Headline.{carry_theirs, each_is_as_alone}
 
 -- ---- what was written
 
@@ -173,6 +173,7 @@ alone_of law v bytes small job made w text old new k t p = record {
   job = job;
   world = w;
   runs = k;
+  carry = carry_theirs law job.programs made k.is.are_made;
   each = each_is_as_alone law bytes small job made w k;
   appends = subst (λ (t : List ℕ). Appends old new t) t p;
 }
@@ -204,12 +205,34 @@ run_headline law v left rest bytes small a old new faults m0 m1 r0 r1 x is r k u
     let d = taken_done a old new faults m0 m1 r0 r1 x u w in
     over_so (λ bs. ReportsAsAlone v bs m1 old new) v left rest bytes r (alone law v bytes small a old new m0 m1 is k d.0 d.1 d.2)
 
+-- a program that is prepared carries its units
+prepared_carries : SourceLaws → (v : Verb) (bytes : List ℕ) (a : Answer) (m0 m1 : List Program) → v ≡ verb.Prep → IsAnswered bytes v a
+    → exit_of a ≡ e.Done → m1 ≡ made_by a m0 → CarriesPrepared bytes m1
+prepared_carries law v bytes a m0 m1 is (s.IsAnswered.report job runs k t) h m = absurd (subst RunsJobs is runs)
+prepared_carries law v bytes a m0 m1 is (s.IsAnswered.crowded need given runs t c) h m = cc
+prepared_carries law v bytes a m0 m1 is (s.IsAnswered.file {made = made} job p k n f) h m = record {
+  job = job;
+  program = p;
+  is = k;
+  made_is = m ∙ n;
+  carry = subst (λ (ps : List Program). CarryTheirs job.programs ps) (sym (m ∙ n)) (carry_theirs law job.programs (p ∷ []) k.is_made);
+}
+prepared_carries law v bytes a m0 m1 is (s.IsAnswered.listing p k t) h m = cc
+prepared_carries law v bytes a m0 m1 is (s.IsAnswered.refuses k c) h m = cc
+
+prep_headline : SourceLaws → (left rest : Option (List ℕ)) (bytes : List ℕ) (a : Answer) (old new : Option (List ℕ)) (faults : Type 0) (m0 m1 : List Program) (r0 r1 : Option Ran) (x : Exit)
+    → IsInput 1048576 verb.Prep left rest bytes → IsAnswered bytes verb.Prep a → IsTaken a old new faults m0 m1 r0 r1 x → x ≡ e.Done
+    → Over verb.Prep left (λ bs. CarriesPrepared bs m1)
+prep_headline law left rest bytes a old new faults m0 m1 r0 r1 x r k u w =
+    let d = taken_done a old new faults m0 m1 r0 r1 x u w in
+    over_so (λ bs. CarriesPrepared bs m1) verb.Prep left rest bytes r (prepared_carries law verb.Prep bytes a m0 m1 refl k d.0 d.2)
+
 pub headline_so : SourceLaws → (v : Verb) (left rest : Option (List ℕ)) (bytes : List ℕ) → list_all is_byte bytes ≡ true → (a : Answer) (old new : Option (List ℕ)) (faults : Type 0) (m0 m1 : List Program) (r0 r1 : Option Ran) (x : Exit)
     → IsInput 1048576 v left rest bytes → IsAnswered bytes v a → IsTaken a old new faults m0 m1 r0 r1 x → x ≡ e.Done → AreAsAlone (Some v) left m1 old new
 headline_so law verb.Run left rest bytes small a old new faults m0 m1 r0 r1 x r k u w = run_headline law verb.Run left rest bytes small a old new faults m0 m1 r0 r1 x tt r k u w
 headline_so law (verb.Gen n) left rest bytes small a old new faults m0 m1 r0 r1 x r k u w =
     run_headline law (verb.Gen n) left rest bytes small a old new faults m0 m1 r0 r1 x tt r k u w
-headline_so law verb.Prep left rest bytes small a old new faults m0 m1 r0 r1 x r k u w = tt
+headline_so law verb.Prep left rest bytes small a old new faults m0 m1 r0 r1 x r k u w = prep_headline law left rest bytes a old new faults m0 m1 r0 r1 x r k u w
 headline_so law verb.List left rest bytes small a old new faults m0 m1 r0 r1 x r k u w = tt
 
 -- what bytes come to is one thing

@@ -26,7 +26,7 @@ use Rattle.hp3000_top.specs.declared.verbs.Verb.TheVariants as verb
 use Rattle.spl_meaning.specs.Tables.{Source}
 use Rattle.hp3000_top.specs.Programs.{IsWithin, AreWithin, AreSure}
 use Rattle.spl_carried.specs.Covered.{is_covered_program}
-use Rattle.hp3000_top.specs.Carried.{IsCovered, FollowsUnits}
+use Rattle.hp3000_top.specs.Carried.{IsCovered, CarryTheirs, FollowsUnits}
 use Rattle.hp3000_top.specs.Needs.{SurelyOpens}
 use Rattle.hp3000_top.specs.Causes.{IsJob, account_of, Runs, IsPrepared, CauseOf, SureCauseOf, ComesTo}
 
@@ -138,18 +138,28 @@ pub record EachIsAsAlone (job : JobValue) (runs : List Run) : Type 0 where
       → slice_get runs k ≡ Some r → (us : List Source) → IsCovered t.units us → FollowsUnits us seat r
   pub thin_too : (texts : List (List ℕ)) (unit : u.Unit) (w : IsWithin texts unit) → is_covered_program (w.thin.source ∷ []) ≡ true
 
--- what was told is of a world of the job's sessions in which each is so
+-- what was told is of a world of the job's sessions in which each is so, and the programs carry what they are made of
 pub record ReportsAsAlone (v : Verb) (bytes : List ℕ) (made : List Program) (old new : Option (List ℕ)) : Type 0 where
   pub job : JobValue
   pub world : World
   pub runs : Runs bytes job made world
+  pub carry : CarryTheirs job.programs made
   pub each : EachIsAsAlone job world.runs
   pub appends : Appends old new (account_of v bytes job world)
 
--- of a job that is run
+-- the program that was made of a job that is prepared carries what it is made of
+pub record CarriesPrepared (bytes : List ℕ) (made : List Program) : Type 0 where
+  pub job : JobValue
+  pub program : Program
+  pub is : IsPrepared bytes job program
+  pub made_is : made ≡ program ∷ []
+  pub carry : CarryTheirs job.programs made
+
+-- of a job that is run, or prepared
 abbrev pub AreAsAlone : Option Verb → Option (List ℕ) → List Program → Option (List ℕ) → Option (List ℕ) → Type 0
 AreAsAlone (Some verb.Run) left made old new = Over verb.Run left (λ bytes. ReportsAsAlone verb.Run bytes made old new)
 AreAsAlone (Some (verb.Gen n)) left made old new = Over (verb.Gen n) left (λ bytes. ReportsAsAlone (verb.Gen n) bytes made old new)
+AreAsAlone (Some verb.Prep) left made old new = Over verb.Prep left (λ bytes. CarriesPrepared bytes made)
 AreAsAlone _ left made old new = Unit {0}
 
 -- ---- when each answer has to come

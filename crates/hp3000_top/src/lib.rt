@@ -4,6 +4,7 @@
 mod answer;
 mod answering;
 mod exit;
+mod filing;
 mod linking;
 mod programs;
 mod ran;

@@ -6,6 +6,7 @@ ghost use Rattle.job_text.specs.Views.{text_value};
 ghost use Rattle.hp3000_top.specs.Programs.{fault_line, IsMade, AreMade};
 ghost use Rattle.hp3000_top.specs.Steps.{IsTold, thin_among, MakesThin, RefusedBy, RefusedAmong};
 
+use crate::filing::through_file;
 use crate::linking::linked_program;
 use crate::unmade::Unmade;
 use hp_program::Program;
@@ -52,7 +53,7 @@ fn thin_program(alloc: Global, units: &[SplUnit]) -> Result<Program, Unread>
 }
 
 /// The program that is made of a program's texts.
-fn program_of(alloc: Global, text: &Text) -> Result<Program, Unmade>
+fn made_program(alloc: Global, text: &Text) -> Result<Program, Unmade>
     requires { ProgramFits 1048576 (text_value text.now) }
     ensures made { IfOk result (λ p. IsMade (text_value text.now).units p) }
     ensures refused { IfErr result (λ e. RefusedBy (text_value text.now) e) }
@@ -69,6 +70,18 @@ fn program_of(alloc: Global, text: &Text) -> Result<Program, Unmade>
         Err(Unread::Later) => linked_program(alloc, &text.name, &sound),
         Err(Unread::NoMemory) => Err(Unmade::NoMemory),
     }
+}
+
+/// The program that is made of a program's texts, as it is read of its file: what runs is what `prep` writes.
+#[tactic(auto, using(crate::proofs::Making::filed_is_made))]
+fn program_of(alloc: Global, text: &Text) -> Result<Program, Unmade>
+    requires { ProgramFits 1048576 (text_value text.now) }
+    ensures made { IfOk result (λ p. IsMade (text_value text.now).units p) }
+    ensures refused { IfErr result (λ e. RefusedBy (text_value text.now) e) }
+{
+    let program = made_program(alloc, text)?;
+    let filed = through_file(alloc, &program)?;
+    Ok(filed)
 }
 
 /// The programs that are made of the texts of a job's programs, in order.

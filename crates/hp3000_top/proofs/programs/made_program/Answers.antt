@@ -8,7 +8,7 @@ use Rattle.spl_program.specs.Programs.{texts_of, IsProgram}
 use Rattle.thin_jobs.specs.declared.unread.Unread.{Unread}
 use Rattle.hp3000_top.specs.Steps.{thin_among, MakesThin}
 use Rattle.hp3000_top.proofs.Making.{short_so, refused_so, made_so, beyond_so, linked_made, linked_refused}
-use Rattle.hp3000_top.proofs.programs.program_of.Goals as goal
+use Rattle.hp3000_top.proofs.programs.made_program.Goals as goal
 
 pub read_program-requires-clause-short : goal.read_program-requires-clause-short
 read_program-requires-clause-short c = short_so c.args.text.now.units.items c.deref.result.now c.requires.short c.deref.ensures.value
