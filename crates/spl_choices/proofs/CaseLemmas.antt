@@ -7,7 +7,6 @@ use Rattle.std.proofs.lemmas.List.{append_assoc, append-nil}
 use Rattle.hp_word.specs.declared.arithmetic.Code.{Code}
 use Rattle.hp_word.specs.declared.arithmetic.Code.TheVariants.{Greater, Less, Equal}
 use Rattle.hp_word.specs.Words.{signed, word_of, compared, word_code, logically_subtracted, word_result}
-use Rattle.hp_word.proofs.WordLaws.{word_of-below}
 use Rattle.hp_instr.specs.declared.instruction.Instr.TheVariants as i
 use Rattle.hp_instr.specs.Instructions.{op}
 use Rattle.hp_session.specs.State.{Machine, word, with_code}
@@ -46,7 +45,7 @@ use Rattle.spl_follow.proofs.WayLemmas.{goes_wider, lead}
 use Rattle.spl_control.specs.Laws.{Settles}
 use Rattle.spl_values.specs.Reached.{IsWhole}
 use Rattle.spl_values.proofs.GiveLemmas.{last_leads}
-use Rattle.spl_values.proofs.SumLemmas.{front_on, yielding}
+use Rattle.spl_values.proofs.SumLemmas.{front_on, yielding, logically_subtracted_small}
 use Rattle.spl_values.proofs.WholeLemmas.{closed_mark}
 use Rattle.spl_choices.specs.Laws.{Chooses, NoArmChooses, chosen_before, ArmsChoose, CasesPerform}
 use Rattle.spl_choices.proofs.ChoiceLemmas.{first_side}
@@ -77,10 +76,6 @@ zero_code = refl
 less_one : (v : ℕ) → suc v < 65536 → (logically_subtracted (suc v) 1).value ≡ v
 unfolding logically_subtracted word_result word_of
 less_one v fits = grind (arith, ints, nat_tests)
-
-less_small : (v u : ℕ) → (logically_subtracted v u).value < 65536
-unfolding logically_subtracted word_result
-less_small v u = word_of-below _
 
 -- ---- rows
 
@@ -146,7 +141,7 @@ value_lessened g w p r q st k v s m d0 m0 leads then_leads room x =
     subst (λ (u : ℕ). Follows g w (pos q - pos p) 0 w.reach (tally s) m (IsValue st q 1 k d0 m0) NoExit (done (u ∷ []) s)) (less_one v x.small.0)
     (then_follows g w (pos r - pos p) 0 w.reach (pos q - pos r) 0 w.reach (pos q - pos p) 0 w.reach (tally s) m (tally s) one.0 (IsValue st q 1 k d0 m0) NoExit
     (done ((logically_subtracted (suc v) 1).value ∷ []) s) one.1
-    (yielding 0o62 (λ a b. (logically_subtracted a b).value) stack.logical_subtract less_small g w r q st s one.0 d0 m0 k (suc v) 1 then_leads two)
+    (yielding 0o62 (λ a b. (logically_subtracted a b).value) stack.logical_subtract logically_subtracted_small g w r q st s one.0 d0 m0 k (suc v) 1 then_leads two)
     (omega (arith, rise, further)) (omega arith) (omega (arith, many)))
 
 -- ---- arms

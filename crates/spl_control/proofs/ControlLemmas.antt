@@ -192,7 +192,7 @@ repeats g w st x d need k top b q test body pays does tested (suc fuel) s m less
 -- ---- jumps
 
 -- a bound may be higher
-leaves_below : (a b : ℕ) (o : Outcome (Unit {0})) → a ≤ b → LeavesBelow a o → LeavesBelow b o
+pub leaves_below : (a b : ℕ) (o : Outcome (Unit {0})) → a ≤ b → LeavesBelow a o → LeavesBelow b o
 leaves_below a b (done u s) l h = tt
 leaves_below a b (leaves x s) l h = omega (arith, l, h)
 leaves_below a b (spent s) l h = tt

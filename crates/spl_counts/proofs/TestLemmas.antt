@@ -1,14 +1,13 @@
 -- A variable that counts, at its address: how it is read and raised, and what TBA and MTBA do with address, step and limit on top.
-use Rattle.std.proofs.Common.{◌≡◌, ◌≢◌, ◌⊎◌, inl, inr, ℕ, ◌+◌, ◌-◌, ◌<◌, ◌≤◌, Bool, true, false, List, [], ◌∷◌, ◌++◌, length, refl, sym, ap, subst, ◌∙◌, arith}
-use Rattle.std.specs.Prelude.{Option, Some, None, Ok, Err, nat_lt, nat_eq, take, slice_index, slice_set, unwrap_or, if◌then◌else◌}
-use Rattle.std.proofs.lemmas.Bool.{eq-eqb, eqb-true, false≢true}
+use Rattle.std.proofs.Common.{◌≡◌, ◌⊎◌, ℕ, ◌+◌, ◌-◌, ◌<◌, ◌≤◌, Bool, true, false, List, [], ◌∷◌, ◌++◌, length, refl, sym, ap, subst, ◌∙◌, arith}
+use Rattle.std.specs.Prelude.{Option, Some, None, Ok, Err, nat_lt, take, slice_index, slice_set, if◌then◌else◌}
+use Rattle.std.proofs.lemmas.Bool.{eq-eqb}
 use Rattle.std.proofs.lemmas.List.{append-nil, length-set, get_or-set_same, get_or-set_other}
 use Rattle.std.proofs.lemmas.Option.{none-some}
 use Rattle.std.proofs.Math.Logic.{⊎_elim}
 use Rattle.hp_word.specs.declared.arithmetic.Code.{Code}
 use Rattle.hp_word.specs.declared.endings.Trap.TheVariants.{Bounds, IntegerOverflow}
-use Rattle.hp_word.specs.Words.{added, word_result}
-use Rattle.hp_word.proofs.WordLaws.{word_of-below}
+use Rattle.hp_word.specs.Words.{added}
 use Rattle.hp_instr.specs.declared.instruction.Instr.TheVariants as i
 use Rattle.hp_session.specs.declared.places.Place.TheVariants.{Stack}
 use Rattle.hp_session.specs.State.{Machine, word, without}
@@ -30,9 +29,10 @@ use Rattle.spl_follow.specs.Matching.{Outer, outer, Matches, Kept, Stand, IsValu
 use Rattle.spl_follow.specs.Following.{Rate, tally, Goes}
 use Rattle.spl_follow.specs.Doing.{turned, turning, loop_turning}
 use Rattle.spl_follow.proofs.KeepLemmas.{kept_top, matched_length, value_word}
-use Rattle.spl_follow.proofs.RowLemmas.{no_print, shown, yields_matched, yields_kept}
+use Rattle.spl_follow.proofs.RowLemmas.{no_print, shown, yields_matched, yields_kept, put_cases, put_none}
 use Rattle.spl_follow.proofs.StackLemmas.{stand_kept}
 use Rattle.spl_follow.proofs.WayLemmas.{lead}
+use Rattle.spl_values.proofs.SumLemmas.{added_small}
 
 -- ---- what is meant
 
@@ -129,20 +129,6 @@ dropped_three st p q k d m vs s m1 m2 at less rest x =
     }
 
 -- ---- a word that is put beneath
-
--- at its address it is that one, and at each other the one before
-put_cases : (mem : ℕ → Option ℕ) (a v b x : ℕ) → put a v mem b ≡ Some x → ((b ≡ a) × (x ≡ v)) ⊎ ((b ≢ a) × (mem b ≡ Some x))
-put_cases mem a v b x e = by (nat_eq a b) refl e where
-  by : (t : Bool) → nat_eq a b ≡ t → (if t then Some v else mem b) ≡ Some x → ((b ≡ a) × (x ≡ v)) ⊎ ((b ≢ a) × (mem b ≡ Some x))
-  by true t e = inl (sym (eqb-true a b t), sym (ap (λ (o : Option ℕ). unwrap_or o 0) e))
-  by false t e = inr (λ same. false≢true (sym t ∙ eq-eqb a b (sym same)), e)
-
--- what is no data word is none then either
-put_none : (mem : ℕ → Option ℕ) (a v old b : ℕ) → mem a ≡ Some old → mem b ≡ None → put a v mem b ≡ None
-put_none mem a v old b there none = by (nat_eq a b) refl where
-  by : (t : Bool) → nat_eq a b ≡ t → (if t then Some v else mem b) ≡ None
-  by true t = absurd (none-some old (sym none ∙ ap mem (sym (eqb-true a b t)) ∙ there))
-  by false t = none
 
 -- Words that wait still wait where a data word beneath them is stored.
 stored_beneath : (st : Setting) (p q : Spot) (n k a v old : ℕ) (d : Data) (m : Machine) (vs : List ℕ) (s : State) (m1 m2 : Machine) → spot m2 ≡ q
@@ -262,11 +248,6 @@ tested g w st p q to k a u l v d m s n leads x there =
 abbrev summed : ℕ → ℕ → Machine → Machine
 summed a r m = record m { stack = slice_set m.stack a r; regs = record m.regs { overflow = false } }
 
--- a sum is a word
-sum_small : (b a : ℕ) → (added b a).value < 65536
-unfolding added word_result
-sum_small b a = word_of-below _
-
 -- MTBA, where the variable is a data word and the sum in range
 pub stepped : (g : Ground) (w : Rate) (st : Setting) (p q to : Spot) (k a u l v : ℕ) (d : Data) (m : Machine) (s : State) (n : Machine)
     → Leads g (on p) q (turning (i.Loop true false 0) to q) → IsValue st p 3 k d m (a ∷ u ∷ l ∷ []) s n → s.now.mem a ≡ Some v
@@ -292,7 +273,7 @@ stepped g w st p q to k a u l v d m s n leads x there fits =
     ap (λ o. ended n o) (loop.loop_stepped false 0 v to q (record (at_left n) { stack = slice_set n.stack a r }) (at_left n) three (found st p k a u l v d m s n x there)
     (ap (λ (b : ℕ). (added v b).overflow) step ∙ fits) puts)
     ∙ ap (λ (b : Bool). turned_to b to q (summed a r (at_left n))) answer in
-    let stored = stored_beneath st p to 3 k a r v d m (a ∷ u ∷ l ∷ []) s n (landed to (summed a r (at_left n))) refl refl refl there (sum_small v u) x in (
+    let stored = stored_beneath st p to 3 k a r v d m (a ∷ u ∷ l ∷ []) s n (landed to (summed a r (at_left n))) refl refl refl there (added_small v u) x in (
       n1,
       lead g w (on p) q (turning (i.Loop true false 0) to q) s.begun s n n1 leads x.at shows.ending refl is (printed_same (goes_on u l r)),
       went st to to q k d m (a ∷ u ∷ l ∷ []) (placed_word false a r s) (landed to (summed a r (at_left n))) (summed a r (at_left n)) refl refl stored (goes_on u l r),

@@ -1,7 +1,7 @@
 -- Expressions that are covered, along the tree: their code is whole, their values are of one word, and the code gives them or tests them.
 use Rattle.std.proofs.Common.{◌≡◌, ℕ, ◌+◌, ◌%◌, ◌<◌, ◌≤◌, Bool, true, false, List, refl, sym, subst, ◌∙◌, arith}
 use Rattle.std.specs.Prelude.{Option, ◌&&◌, not, nat_lt, nat_le}
-use Rattle.std.proofs.lemmas.Bool.{ltb-true, false≢true}
+use Rattle.std.proofs.lemmas.Bool.{ltb-true, false≢true, not-true}
 use Rattle.std.proofs.Math.Logic.{⊎_elim}
 use Rattle.spl_tree.specs.declared.expressions.Kind.{Kind}
 use Rattle.spl_tree.specs.declared.names_and_places.At.{At}
@@ -48,11 +48,6 @@ connective_parts : (c : Scope) (st : Setting) (o : ℕ) (a b : Tree) (at : At) (
     → is_covered c st (tree.Tree.binary o a b at) k ≡ true → (is_covered c st a k ≡ true) × (is_covered c st b k ≡ true)
 connective_parts c st o a b at k i e = both (is_covered c st a k) (is_covered c st b k) (of_true (is_connective o) _ _ i e)
 
--- what is not so
-not_so : (b : Bool) → not b ≡ true → b ≡ false
-not_so false e = refl
-not_so true e = absurd (false≢true e)
-
 -- of those of any other: the operator, that no bytes from a reference on are compared, the class, and both are covered, where the left one waits for the right one
 record AreOperands (c : Scope) (st : Setting) (o : ℕ) (a b : Tree) (k : ℕ) : Type 0 where
   operator : is_covered_operator o ≡ true
@@ -67,7 +62,7 @@ operator_parts c st o a b at k i e =
     let parts = four (is_covered_operator o && not (compares_text c.names o a b)) (is_word_class (class_of (kind_of c.names a) (kind_of c.names b))) (is_covered c st a k)
     (is_covered c st b (k + operand_width (kind_of c.names a))) (of_false (is_connective o) _ _ i e) in
     let two = both (is_covered_operator o) (not (compares_text c.names o a b)) parts.0 in
-    record { operator = two.0; apart = not_so (compares_text c.names o a b) two.1; class = parts.1; left = parts.2; right = parts.3 }
+    record { operator = two.0; apart = not-true (compares_text c.names o a b) two.1; class = parts.1; left = parts.2; right = parts.3 }
 
 -- ---- constructs in a tree
 

@@ -1,7 +1,7 @@
 -- Names whose words lead to words, by index or not: what they stand for, and their code.
 use Rattle.std.proofs.Common.{◌≡◌, ℕ, ◌+◌, ◌≤◌, Bool, true, false, List, [], ◌∷◌, refl, sym, ap, subst, ◌∙◌, arith}
 use Rattle.std.specs.Prelude.{Option, Some, None, ◌&&◌, ◌||◌, not}
-use Rattle.std.proofs.lemmas.Bool.{false≢true}
+use Rattle.std.proofs.lemmas.Bool.{false≢true, not-true}
 use Rattle.spl_tree.specs.declared.expressions.Kind.{Kind}
 use Rattle.spl_tree.specs.declared.expressions.Kind.TheVariants as kind
 use Rattle.spl_tree.specs.declared.names_and_places.At.{At}
@@ -127,11 +127,6 @@ first_of st x k o pl r = record {
   side = r.side;
 }
 
--- what is not so
-not_true : (b : Bool) → not b ≡ true → false ≡ b
-not_true false e = refl
-not_true true e = absurd (false≢true e)
-
 -- a parameter by reference
 of_address : (st : Setting) (x : List ℕ) (k : ℕ) (t : Kind) (pl : Option Place) → is_led st k (by_address t) pl ≡ true
     → IsLed st x k (Some (n.by_reference t)) pl
@@ -151,7 +146,7 @@ of_address st x k t (Some place) e =
       is = refl;
       word = two.0;
       reached = rest.1;
-      side = not_true st.split rest.0;
+      side = sym (not-true st.split rest.0);
     }
 
 pub led_case : (st : Setting) (x : List ℕ) (k : ℕ) (o : Option Sort) (pl : Option Place) → is_led st k (access_of o) pl ≡ true → IsLed st x k o pl

@@ -180,14 +180,14 @@ row_drops g w p r F st l s m d0 m0 k n o y leads is at owes x kept coded =
 -- ---- stores
 
 -- a word that is put: at its address it is that one, and at each other the one before
-put_cases : (mem : ℕ → Option ℕ) (a v b x : ℕ) → put a v mem b ≡ Some x → ((b ≡ a) × (x ≡ v)) ⊎ ((b ≢ a) × (mem b ≡ Some x))
+pub put_cases : (mem : ℕ → Option ℕ) (a v b x : ℕ) → put a v mem b ≡ Some x → ((b ≡ a) × (x ≡ v)) ⊎ ((b ≢ a) × (mem b ≡ Some x))
 put_cases mem a v b x e = by (nat_eq a b) refl e where
   by : (t : Bool) → nat_eq a b ≡ t → (if t then Some v else mem b) ≡ Some x → ((b ≡ a) × (x ≡ v)) ⊎ ((b ≢ a) × (mem b ≡ Some x))
   by true t e = inl (sym (eqb-true a b t), sym (ap (λ (o : Option ℕ). unwrap_or o 0) e))
   by false t e = inr (λ same. false≢true (sym t ∙ eq-eqb a b (sym same)), e)
 
 -- what is no data word is none then either, where the address is that of one
-put_none : (mem : ℕ → Option ℕ) (a v old b : ℕ) → mem a ≡ Some old → mem b ≡ None → put a v mem b ≡ None
+pub put_none : (mem : ℕ → Option ℕ) (a v old b : ℕ) → mem a ≡ Some old → mem b ≡ None → put a v mem b ≡ None
 put_none mem a v old b there none = by (nat_eq a b) refl where
   by : (t : Bool) → nat_eq a b ≡ t → (if t then Some v else mem b) ≡ None
   by true t = absurd (none-some old (sym none ∙ ap mem (sym (eqb-true a b t)) ∙ there))

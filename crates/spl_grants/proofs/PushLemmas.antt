@@ -1,9 +1,8 @@
 -- A constant that is pushed, by one instruction or by three: where STACK has no room for it the first one traps.
-use Rattle.std.proofs.Common.{◌≡◌, ℕ, ◌+◌, ◌-◌, ◌*◌, ◌/◌, ◌%◌, ◌<◌, ◌≤◌, Bool, true, false, List, [], ◌∷◌, ◌++◌, length, refl, sym, ap, subst, ◌∙◌, arith}
+use Rattle.std.proofs.Common.{◌≡◌, ℕ, ◌-◌, ◌*◌, ◌/◌, ◌%◌, ◌<◌, ◌≤◌, Bool, true, false, List, [], ◌∷◌, ◌++◌, length, refl, sym, ap, subst, ◌∙◌, arith}
 use Rattle.std.specs.Prelude.{◌^◌, nat_lt, if◌then◌else◌, bit_or, Ok, Err}
 use Rattle.std.proofs.lemmas.Bool.{ltb-true}
 use Rattle.std.proofs.lemmas.Bool.Decides.{nat_tests}
-use Rattle.std.proofs.lemmas.Nat.{or_shifted}
 use Rattle.hp_word.specs.Bits.{shifted}
 use Rattle.hp_word.proofs.ShiftLemmas.{shifted-Lsl}
 use Rattle.hp_word.specs.declared.endings.Ending.TheVariants.{Running, Trapped}
@@ -24,6 +23,7 @@ use Rattle.spl_follow.specs.Doing.{going, doing}
 use Rattle.spl_follow.specs.Standing.{Sites, Stands}
 use Rattle.spl_follow.specs.Yielding.{Yields}
 use Rattle.spl_follow.proofs.WayLemmas.{goes_on, goes_wider}
+use Rattle.spl_values.proofs.ConstantLemmas.{minus_is, bytes_joined}
 use Rattle.spl_values.proofs.GiveLemmas.{last_leads}
 use Rattle.spl_grants.proofs.StepLemmas.{step_goes, step_traps, Holds, holds_runs, holds_top, holds_one, row_holds, row_replaces}
 
@@ -35,10 +35,6 @@ pub record Pushes (g : Ground) (w : Rate) (p r : Spot) (v : ℕ) : Type 0 where
       → (n : Machine) × Goes g w (pos r - pos p) 0 0 t m t n × (n.ending ≡ Trapped StackOverflow) × (n.printed ≡ m.printed)
 
 -- ---- one instruction
-
--- what LDNI pushes
-minus_is : (c : ℕ) → 65280 < c → c < 65536 → minus (65536 - c) ≡ c
-minus_is c low high = omega (arith, low, high)
 
 -- a row that pushes, or traps where there is no room
 row_pushes : (g : Ground) (w : Rate) (p r : Spot) (F : Machine → Machine) (v : ℕ) (o : Machine → Row) → Leads g (on p) r F
@@ -110,13 +106,6 @@ or_yields : (v u c : ℕ) (p : Spot) (m n : Machine) → bit_or v u ≡ c → Ho
 or_yields v u c p m n is h =
     subst (λ (x : ℕ). Yields 1 (x ∷ []) n (immediate_row 14 u (at_left n))) (ap (λ (x : ℕ). bit_or x u) (holds_top p m v n h) ∙ is)
     (rows.number_or u (at_left n) (holds_one p m v n h)).words
-
--- a left byte and a right one
-bytes_joined : (c : ℕ) → bit_or (c / 256 * 2 ^ 8) (c % 256) ≡ c
-bytes_joined c =
-    let low : c % 256 < 2 ^ 8 = omega arith in
-    let sum : c / 256 * 2 ^ 8 + c % 256 ≡ c = omega arith in
-    or_shifted (c / 256) 8 (c % 256) low ∙ sum
 
 -- By which instructions: one of the first 256, one of the last 255, and each other.
 pub constant_pushes : (g : Ground) (w : Rate) (sites : Sites) (p q : Spot) (c : ℕ) → c < 65536 → Stands g sites (on p) (constant c) q → Pushes g w p q c

@@ -1,22 +1,13 @@
 -- A list that takes the jumps to its labels, wherever its code stands.
-use Rattle.std.proofs.Common.{ℕ, ◌≤◌, arith}
+use Rattle.std.proofs.Common.{arith}
 use Rattle.std.specs.Prelude.{min}
-use Rattle.spl_meaning.specs.States.{Outcome, to_label, done, leaves, spent, ends, strays}
+use Rattle.spl_meaning.specs.States.{to_label}
 use Rattle.spl_follow.specs.Following.{tally}
 use Rattle.spl_follow.specs.Parts.{Completes, Leaving}
 use Rattle.spl_follow.proofs.FollowLemmas.{weaken}
 use Rattle.spl_follow.proofs.KeepLemmas.{arrives_after, arrives_begins}
-use Rattle.spl_control.specs.Laws.{LeavesBelow}
-use Rattle.spl_control.proofs.ControlLemmas.{landings}
+use Rattle.spl_control.proofs.ControlLemmas.{leaves_below, landings}
 use Rattle.spl_jumps.specs.Laws.{ListsLand}
-
--- a bound may be higher
-leaves_below : (a b : ℕ) (o : Outcome (Unit {0})) → a ≤ b → LeavesBelow a o → LeavesBelow b o
-leaves_below a b (done u s) l h = tt
-leaves_below a b (leaves x s) l h = omega (arith, l, h)
-leaves_below a b (spent s) l h = tt
-leaves_below a b (ends e s) l h = tt
-leaves_below a b (strays s) l h = tt
 
 -- what is followed from a label on is measured from the list's beginning
 pub lists_land : ListsLand

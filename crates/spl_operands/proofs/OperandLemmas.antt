@@ -1,7 +1,7 @@
 -- Where operands are: places by their modes, and words through the cells that stand there.
 use Rattle.std.proofs.Common.{◌≡◌, ℕ, ◌+◌, ◌%◌, ◌<◌, ◌≤◌, Bool, true, false, length, refl, sym, ap, subst, ◌∙◌, arith}
 use Rattle.std.specs.Prelude.{Some, Result, Ok, Err, not, nat_lt, nat_le, slice_index}
-use Rattle.std.proofs.lemmas.Bool.{ltb-true, leb-true, false≢true}
+use Rattle.std.proofs.lemmas.Bool.{ltb-true, leb-true, false≢true, not-true}
 use Rattle.hp_word.specs.declared.endings.Trap.{Trap}
 use Rattle.hp_word.specs.declared.endings.Trap.TheVariants.{Bounds}
 use Rattle.hp_instr.specs.declared.instruction.Mode.{Mode}
@@ -27,11 +27,6 @@ use Rattle.spl_operands.proofs.SeeLemmas.{see}
 
 -- ---- places
 
--- what is not so
-not_true : (b : Bool) → not b ≡ true → b ≡ false
-not_true false e = refl
-not_true true e = absurd (false≢true e)
-
 -- the mode of a place that is reached names the word at its address, however many words wait
 pub place_based : (st : Setting) (d : Data) (k j : ℕ) (place : Place) (m : Machine) → is_reached st k place ≡ true → Matched st d m j
     → Based (mode_of k place) (address_of place d) m
@@ -40,7 +35,7 @@ place_based st d k j (data_word a) m e x =
     let two = both (not st.split) (nat_lt a 256) e in
     let low = ltb-true a 256 two.1 in
     let split : m.split ≡ st.split = ap (λ (u : Outer). u.split) x.outer in
-    record { at = omega (arith, low); side = split ∙ not_true st.split two.0 }
+    record { at = omega (arith, low); side = split ∙ not-true st.split two.0 }
 place_based st d k j (above_base n) m e x =
     let low = ltb-true n 128 e in
     let q : m.regs.q ≡ d.base = ap (λ (u : Outer). u.q) x.outer in

@@ -45,7 +45,7 @@ use Rattle.spl_follow.proofs.StandLemmas.{stands_le}
 use Rattle.spl_follow.proofs.WayLemmas.{goes_none}
 use Rattle.spl_values.specs.Reached.{IsWhole}
 use Rattle.spl_values.proofs.GiveLemmas.{last_leads, value_row}
-use Rattle.spl_values.proofs.SumLemmas.{yielding}
+use Rattle.spl_values.proofs.SumLemmas.{yielding, logically_subtracted_small}
 use Rattle.spl_values.proofs.VariableLemmas.{both}
 use Rattle.spl_conditions.proofs.ComplementLemmas.{value_then}
 use Rattle.spl_operators.specs.Laws.{is_word_operand, SignsSimulate, ShiftsSimulate, FieldsSimulate, TransfersSimulate}
@@ -78,10 +78,6 @@ value_stays z d k need a meaning last same x = record {
 negated_small : (a : ℕ) → (negated a).value < 65536
 unfolding negated word_result
 negated_small a = word_of-below _
-
-difference_small : (b a : ℕ) → (logically_subtracted b a).value < 65536
-unfolding logically_subtracted word_result
-difference_small b a = word_of-below _
 
 -- NEG
 integer_negated : (z : Surroundings) (k need : ℕ) (r q : Spot) (v : ℕ) (s : State) (m : Machine) (d0 : Data) (m0 : Machine)
@@ -121,7 +117,7 @@ logical_negated z k need r q v s m d0 m0 enough stands room x =
     (zero_behind_one g w r stands.0 st s m d0 m0 k need v room enough stands.1 x) (λ m1 x1.
     row_then g w stands.0 second.0 q st s m1 d0 m0 k 2 (0 ∷ v ∷ []) P o (omega (arith, two)) last
     (exchanged g w stands.0 second.0 st s m1 d0 m0 k v 0 second.1 x1) (λ m2 x2.
-    yielding 0o62 (λ b a. (logically_subtracted b a).value) stack.logical_subtract difference_small g w second.0 q st s m2 d0 m0 k 0 v
+    yielding 0o62 (λ b a. (logically_subtracted b a).value) stack.logical_subtract logically_subtracted_small g w second.0 q st s m2 d0 m0 k 0 v
     (last_leads g z.sites (on second.0) (i.Pair (op 0o62) (op 0)) q second.2) x2))
 
 -- minus, by the kind

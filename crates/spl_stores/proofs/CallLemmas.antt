@@ -1,7 +1,7 @@
 -- Calls that end the session, along the tree: their code is whole, and performs them.
-use Rattle.std.proofs.Common.{◌≡◌, ℕ, ◌+◌, ◌≤◌, Bool, true, false, List, [], ◌∷◌, ◌++◌, refl, sym, ap, subst, ◌∙◌, arith}
+use Rattle.std.proofs.Common.{◌≡◌, ℕ, ◌+◌, ◌≤◌, true, false, List, [], ◌∷◌, ◌++◌, refl, sym, ap, subst, ◌∙◌, arith}
 use Rattle.std.specs.Prelude.{Option, Some, None, ◌&&◌, not, max, if◌then◌else◌}
-use Rattle.std.proofs.lemmas.Bool.{false≢true}
+use Rattle.std.proofs.lemmas.Bool.{false≢true, not-true}
 use Rattle.std.proofs.lemmas.List.{append-nil}
 use Rattle.hp_word.specs.declared.intrinsics.Intrinsic.{Intrinsic}
 use Rattle.hp_word.specs.declared.intrinsics.Intrinsic.TheVariants as gate
@@ -45,7 +45,7 @@ use Rattle.spl_values.proofs.SumLemmas.{front_on}
 use Rattle.spl_covered.proofs.CoverLemmas.{covered_width, covered_whole, covered_gives}
 use Rattle.spl_stores.specs.Covered.{is_terminate, is_quit, is_covered_call}
 use Rattle.spl_stores.specs.Laws.{MayCall}
-use Rattle.spl_stores.proofs.SameLemmas.{stopping_same, same_performs}
+use Rattle.spl_targets.proofs.SameLemmas.{stopping_same, same_performs}
 
 -- ---- which calls are covered
 
@@ -78,18 +78,14 @@ quit_is (Some gate.Dbinary) e = absurd (false≢true e)
 quit_is (Some gate.Terminate) e = absurd (false≢true e)
 quit_is None e = absurd (false≢true e)
 
-not_true : (b : Bool) → not b ≡ true → b ≡ false
-not_true false e = refl
-not_true true e = absurd (false≢true e)
-
 call_case : (c : Scope) (st : Setting) (x : List ℕ) (o : Option Sort) (es : Trees) (k : ℕ) → is_covered_call c st x o es k ≡ true → Ending c st x o k es
 call_case c st x (Some (n.intrinsic gate.Terminate)) tree.Trees.none k e =
     let two = both (not st.split) (is_terminate (intrinsic_named x)) e in
-    terminate refl (terminate_is (intrinsic_named x) two.1) (not_true st.split two.0)
+    terminate refl (terminate_is (intrinsic_named x) two.1) (not-true st.split two.0)
 call_case c st x (Some (n.intrinsic gate.Quit)) (tree.Trees.and v tree.Trees.none) k e =
     let two = both (not st.split) (is_quit (intrinsic_named x) && is_covered c st v k) e in
     let more = both (is_quit (intrinsic_named x)) (is_covered c st v k) two.1 in
-    quit refl (quit_is (intrinsic_named x) more.0) (not_true st.split two.0) more.1
+    quit refl (quit_is (intrinsic_named x) more.0) (not-true st.split two.0) more.1
 call_case c st x (Some (n.intrinsic gate.Terminate)) (tree.Trees.and v vs) k e = absurd (false≢true e)
 call_case c st x (Some (n.intrinsic gate.Quit)) tree.Trees.none k e = absurd (false≢true e)
 call_case c st x (Some (n.intrinsic gate.Quit)) (tree.Trees.and v (tree.Trees.and u vs)) k e = absurd (false≢true e)

@@ -42,7 +42,8 @@ use Rattle.spl_covered.specs.Covered.{is_covered}
 use Rattle.spl_covered.specs.Laws.{read_with}
 use Rattle.spl_values.proofs.VariableLemmas.{both}
 use Rattle.spl_values.proofs.SumLemmas.{front_on}
-use Rattle.spl_values.proofs.WholeLemmas.{whole_pieces}
+use Rattle.spl_values.proofs.WholeLemmas.{whole_pieces, then_same}
+use Rattle.spl_covered.proofs.OperatorLemmas.{either}
 use Rattle.spl_covered.proofs.CoverLemmas.{covered_width, covered_whole, covered_gives}
 use Rattle.spl_choices.specs.Laws.{Chooses}
 use Rattle.spl_choices.proofs.CaseLemmas.{no_arm, arm_keeps}
@@ -51,8 +52,8 @@ use Rattle.spl_stores.specs.Laws.{MayCall, CoveredStatementsAreWhole, CoveredSta
 use Rattle.spl_stores.proofs.StoreLemmas.{assignments}
 use Rattle.spl_stores.proofs.BlockLemmas.{blocks}
 use Rattle.spl_targets.specs.Targets.{is_led_target}
-use Rattle.spl_targets.proofs.ElementLemmas.{no_intrinsic, either, led_targets_whole, led_targets}
-use Rattle.spl_stores.proofs.SameLemmas.{then_same, stopping_same, same_performs}
+use Rattle.spl_targets.proofs.SameLemmas.{stopping_same, same_performs}
+use Rattle.spl_targets.proofs.ElementLemmas.{no_intrinsic, led_targets_whole, led_targets}
 use Rattle.spl_stores.proofs.CallLemmas.{call_whole, call_performs}
 use Rattle.spl_stores.proofs.CaseLemmas.{cased_whole, first_arm, case_performs}
 use Rattle.spl_counts.specs.Laws.{leaving_at_most}

@@ -15,7 +15,7 @@ use Rattle.spl_meaning.specs.Elements.{with_one}
 use Rattle.spl_meaning.specs.Names as n
 use Rattle.spl_meaning.specs.Names.{Sort}
 use Rattle.spl_meaning.specs.Pending.{most, trees_most}
-use Rattle.spl_meaning.specs.Places.{Place, data_word, above_base, below_base, below_return}
+use Rattle.spl_meaning.specs.Places.{Place}
 use Rattle.spl_meaning.specs.References.{Here, Setting, Access, Located, its_own, access_of, address_of, variable_located, own_located, locate, locate_by, store}
 use Rattle.spl_meaning.specs.States.{State, Outcome, then_go, stopping, code_dropped}
 use Rattle.spl_meaning.specs.Statements as meant
@@ -33,14 +33,15 @@ use Rattle.spl_follow.specs.Simulating.{Surroundings, Simulates, Performs}
 use Rattle.spl_values.specs.Reached.{is_reached, IsWhole}
 use Rattle.spl_values.proofs.ConstantLemmas.{constants_give}
 use Rattle.spl_values.proofs.VariableLemmas.{both}
-use Rattle.spl_values.proofs.WholeLemmas.{whole_pieces}
+use Rattle.spl_values.proofs.WholeLemmas.{whole_pieces, then_same}
 use Rattle.spl_covered.specs.Covered.{is_covered}
 use Rattle.spl_covered.specs.Laws.{read_with}
-use Rattle.spl_covered.proofs.CoverLemmas.{covered_width, covered_whole, covered_gives}
+use Rattle.spl_covered.proofs.CoverLemmas.{covered_whole}
+use Rattle.spl_targets.proofs.ElementLemmas.{not_from_top, word_given}
+use Rattle.spl_targets.proofs.SameLemmas.{stopping_same, same_performs}
 use Rattle.spl_counts.specs.Laws.{leaving_at_most}
 use Rattle.spl_counts.proofs.CountLemmas.{code_of, counts, count_whole}
 use Rattle.spl_stores.specs.Covered.{is_counted_name, is_covered_step, is_covered_statement}
-use Rattle.spl_stores.proofs.SameLemmas.{then_same, stopping_same, same_performs}
 
 -- ---- the parts
 
@@ -96,13 +97,6 @@ counter_case st k (Some (n.procedure p)) pl e = absurd (false≢true e)
 counter_case st k (Some (n.subroutine p)) pl e = absurd (false≢true e)
 counter_case st k (Some n.unknown) pl e = absurd (false≢true e)
 
--- what is reached is not counted from the top
-not_from_top : (st : Setting) (k : ℕ) (place : Place) → is_reached st k place ≡ true → from_top place ≡ false
-not_from_top st k (data_word n) e = refl
-not_from_top st k (above_base n) e = refl
-not_from_top st k (below_base n) e = refl
-not_from_top st k (below_return n) e = absurd (false≢true e)
-
 -- its code
 counter_code : (c : Scope) (st : Setting) (x : List ℕ) (k : ℕ) (r : IsCounter st k (c.names x) (c.places x))
     → counter c x k ≡ counter_at (its_own kind.Integer) false (mode_of k r.place)
@@ -118,18 +112,11 @@ step_whole : (c : Scope) (st : Setting) (step : Trees) (k : ℕ) → is_covered_
 step_whole c st tree.Trees.none k e = whole_pieces (LDI 1 ∷ []) refl
 step_whole c st (tree.Trees.and v vs) k e = covered_whole c st v k e
 
-word_gives : (c : Scope) (results : List ℕ → Option (Kind × Place)) (z : Surroundings) (call : Callee) (d : ℕ) (v : Tree) (k need : ℕ)
-    → is_covered c z.setting v k ≡ true → most c.names v + 8 ≤ need
-    → Simulates z d as_value 1 k need (code c v as_value k) (λ s. value (read_with c results z.setting) call v k s)
-word_gives c results z call d v k need covered enough =
-    subst (λ (j : ℕ). Simulates z d as_value j k need (code c v as_value k) (λ s. value (read_with c results z.setting) call v k s)) (covered_width c z.setting v k covered)
-    (covered_gives c results z call d v k need covered enough)
-
 step_gives : (c : Scope) (results : List ℕ → Option (Kind × Place)) (z : Surroundings) (call : Callee) (d : ℕ) (step : Trees) (k need : ℕ)
     → is_covered_step c z.setting step k ≡ true → trees_most c.names step + 8 ≤ need
     → Simulates z d as_value 1 k need (step_value c step k) (λ s. loop_step (read_with c results z.setting) call step k s)
 step_gives c results z call d tree.Trees.none k need covered enough = constants_give z d k need 1 (omega arith) (omega (arith, enough))
-step_gives c results z call d (tree.Trees.and v vs) k need covered enough = word_gives c results z call d v k need covered (omega (arith, enough))
+step_gives c results z call d (tree.Trees.and v vs) k need covered enough = word_given c results z call d v k need covered (omega (arith, enough))
 
 -- ---- the whole
 
@@ -198,5 +185,5 @@ for_performs c results z call d number x first step last s at k need counter' fi
     (counts z d k need (need - 1) (need - 2) (need - 3) number at r.place a b e (statement c s (k + 3)) (λ t. value h call first k t) (λ t. loop_step h call step (k + 1) t)
     (λ t. value h call last (k + 2) t) body r.reached (omega (arith, few4)) (omega (arith, few4)) (omega (arith, few4))
     (covered_whole c.scope z.setting first k first') (step_whole c.scope z.setting step (k + 1) step') (covered_whole c.scope z.setting last (k + 2) last') whole
-    (word_gives c.scope results z call d first k need first' few1) (step_gives c.scope results z call d step (k + 1) (need - 1) step' few2)
-    (word_gives c.scope results z call d last (k + 2) (need - 2) last' few3) performs)
+    (word_given c.scope results z call d first k need first' few1) (step_gives c.scope results z call d step (k + 1) (need - 1) step' few2)
+    (word_given c.scope results z call d last (k + 2) (need - 2) last' few3) performs)

@@ -1,7 +1,6 @@
 -- In reading order.
 pub mod StoreLemmas
 pub mod BlockLemmas
-pub mod SameLemmas
 pub mod CallLemmas
 pub mod ChoiceLemmas
 pub mod CaseLemmas

@@ -1,6 +1,6 @@
 -- Assignments to names whose words lead to words, by index or not, in a tree.
-use Rattle.std.proofs.Common.{◌≡◌, ◌⊎◌, inl, inr, ℕ, ◌+◌, ◌≤◌, Bool, true, false, List, ◌++◌, refl, sym, ap, subst, ◌∙◌, arith}
-use Rattle.std.specs.Prelude.{Option, Some, None, ◌&&◌, ◌||◌, if◌then◌else◌}
+use Rattle.std.proofs.Common.{◌≡◌, ℕ, ◌+◌, ◌≤◌, Bool, true, false, List, ◌++◌, refl, sym, ap, subst, ◌∙◌, arith}
+use Rattle.std.specs.Prelude.{Option, Some, None, ◌&&◌, if◌then◌else◌}
 use Rattle.std.proofs.lemmas.Bool.{false≢true}
 use Rattle.spl_branch.specs.declared.pieces.Piece.{Piece}
 use Rattle.spl_branch.specs.declared.pieces.Piece.TheVariants.{Begin}
@@ -127,16 +127,11 @@ left_access st k (Some (n.intrinsic i)) pl e = (refl, refl)
 left_access st k (Some n.unknown) pl e = (refl, refl)
 
 -- a place that is reached is not counted from the top
-not_from_top : (st : Setting) (k : ℕ) (place : Place) → is_reached st k place ≡ true → from_top place ≡ false
+pub not_from_top : (st : Setting) (k : ℕ) (place : Place) → is_reached st k place ≡ true → from_top place ≡ false
 not_from_top st k (data_word a) e = refl
 not_from_top st k (above_base n) e = refl
 not_from_top st k (below_base n) e = refl
 not_from_top st k (below_return n) e = absurd (false≢true e)
-
--- one of two tests
-pub either : (a b : Bool) → (a || b) ≡ true → (a ≡ true) ⊎ (b ≡ true)
-either true b e = inl refl
-either false b e = inr e
 
 -- ---- without an index
 
@@ -301,7 +296,7 @@ element_performs c results z call d number x i there e at k need more led enough
 -- ---- targets
 
 -- what is covered gives one word
-word_given : (c : Scope) (results : List ℕ → Option (Kind × Place)) (z : Surroundings) (call : Callee) (d : ℕ) (e : Tree) (k need : ℕ)
+pub word_given : (c : Scope) (results : List ℕ → Option (Kind × Place)) (z : Surroundings) (call : Callee) (d : ℕ) (e : Tree) (k need : ℕ)
     → is_covered c z.setting e k ≡ true → most c.names e + 8 ≤ need
     → Simulates z d as_value 1 k need (code c e as_value k) (λ s. value (read_with c results z.setting) call e k s)
 word_given c results z call d e k need covered enough =

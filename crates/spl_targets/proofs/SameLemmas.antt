@@ -1,6 +1,7 @@
 -- Meanings that are the same, and what follows for their code.
-use Rattle.std.proofs.Common.{◌≡◌, ℕ, zero, suc, refl, sym, subst}
+use Rattle.std.proofs.Common.{◌≡◌, ℕ, zero, suc, List, [], ◌∷◌, refl, sym, subst}
 use Rattle.spl_tree.specs.declared.names_and_places.At.{At}
+use Rattle.spl_meaning.specs.Elements.{with_one}
 use Rattle.spl_meaning.specs.Laws.{IsFront}
 use Rattle.spl_meaning.specs.States.{State, Outcome, step_of, without_code, noted, stopping}
 use Rattle.spl_code.specs.Parts.{Part}
@@ -8,6 +9,12 @@ use Rattle.spl_follow.specs.Spots.{on}
 use Rattle.spl_follow.specs.Standing.{Stands}
 use Rattle.spl_follow.specs.Parts.{Runs}
 use Rattle.spl_follow.specs.Simulating.{Surroundings, Performs}
+
+-- what is done with one word
+pub one_same : {A : Type 0} (vs : List ℕ) (s : State) (f g : ℕ → State → Outcome A) → ((v : ℕ) (u : State) → f v u ≡ g v u) → with_one vs s f ≡ with_one vs s g
+one_same [] s f g same = refl
+one_same (v ∷ []) s f g same = same v s
+one_same (v ∷ u ∷ vs) s f g same = refl
 
 -- what comes behind a statement's beginning
 pub stopping_same : (i : ℕ) (at : At) (s : State) (f g : State → Outcome (Unit {0})) → ((u : State) → f u ≡ g u) → stopping i at s f ≡ stopping i at s g

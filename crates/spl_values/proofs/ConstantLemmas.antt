@@ -27,7 +27,7 @@ use Rattle.spl_values.proofs.GiveLemmas.{last_leads, ready_room, row_gives, row_
 -- ---- numbers
 
 -- what LDNI pushes
-minus_is : (c : ℕ) → 65280 < c → c < 65536 → minus (65536 - c) ≡ c
+pub minus_is : (c : ℕ) → 65280 < c → c < 65536 → minus (65536 - c) ≡ c
 minus_is c low high = omega (arith, low, high)
 
 -- the left byte, shifted
@@ -39,7 +39,7 @@ left_shifted c small =
     shifted-Lsl (c / 256) 8 (omega arith) ∙ fits
 
 -- and the right one with it
-bytes_joined : (c : ℕ) → bit_or (c / 256 * 2 ^ 8) (c % 256) ≡ c
+pub bytes_joined : (c : ℕ) → bit_or (c / 256 * 2 ^ 8) (c % 256) ≡ c
 bytes_joined c =
     let low : c % 256 < 2 ^ 8 = omega arith in
     let sum : c / 256 * 2 ^ 8 + c % 256 ≡ c = omega arith in

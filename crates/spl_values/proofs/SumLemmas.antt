@@ -93,7 +93,7 @@ yielding code r row small g w p q st s m d0 m0 k v u leads x =
 
 -- ---- results are words
 
-added_small : (b a : ℕ) → (added b a).value < 65536
+pub added_small : (b a : ℕ) → (added b a).value < 65536
 unfolding added word_result
 added_small b a = word_of-below _
 
@@ -105,7 +105,7 @@ logically_added_small : (b a : ℕ) → (logically_added b a).value < 65536
 unfolding logically_added word_result
 logically_added_small b a = word_of-below _
 
-logically_subtracted_small : (b a : ℕ) → (logically_subtracted b a).value < 65536
+pub logically_subtracted_small : (b a : ℕ) → (logically_subtracted b a).value < 65536
 unfolding logically_subtracted word_result
 logically_subtracted_small b a = word_of-below _
 

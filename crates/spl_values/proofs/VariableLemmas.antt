@@ -1,7 +1,7 @@
 -- Variables of one word: where their places are among the words of the stack, and what is loaded there.
 use Rattle.std.proofs.Common.{◌≡◌, ℕ, ◌+◌, ◌-◌, ◌%◌, ◌<◌, ◌≤◌, Bool, true, false, List, [], ◌∷◌, length, refl, ap, ◌∙◌, arith}
 use Rattle.std.specs.Prelude.{Option, Some, None, Ok, ◌&&◌, not, nat_lt, nat_le, if◌then◌else◌, slice_index}
-use Rattle.std.proofs.lemmas.Bool.{ltb-true, ltb-false, leb-true, false≢true}
+use Rattle.std.proofs.lemmas.Bool.{ltb-true, ltb-false, leb-true, false≢true, not-true}
 use Rattle.hp_word.specs.declared.endings.Trap.TheVariants.{Bounds}
 use Rattle.hp_instr.specs.declared.instruction.Instr.TheVariants as i
 use Rattle.hp_session.specs.State.{Machine}
@@ -41,11 +41,6 @@ pub both : (a b : Bool) → (a && b) ≡ true → (a ≡ true) × (b ≡ true)
 both true b e = (refl, e)
 both false b e = absurd (false≢true e)
 
--- what is not so
-not_true : (b : Bool) → not b ≡ true → b ≡ false
-not_true false e = refl
-not_true true e = absurd (false≢true e)
-
 -- a place that is reached is one among the words of the stack, at its address
 pub place_found : (st : Setting) (d : Data) (k j : ℕ) (place : Place) (m : Machine) → is_reached st k place ≡ true → Matched st d m j
     → (x : Operand) × (operand 1 (mode_of k place) false false m ≡ Ok x) × Sided x false m × (address x ≡ address_of place d)
@@ -55,7 +50,7 @@ place_found st d k j (data_word a) m e x =
     let low = ltb-true a 256 two.1 in
     let split : m.split ≡ st.split = ap (λ (u : Outer). u.split) x.outer in
     let same : (a % 256 + 0) % 65536 ≡ a = omega (arith, low) in
-    (Db ((a % 256 + 0) % 65536), refl, split ∙ not_true st.split two.0, same)
+    (Db ((a % 256 + 0) % 65536), refl, split ∙ not-true st.split two.0, same)
 place_found st d k j (above_base n) m e x =
     let low = ltb-true n 128 e in
     let q : m.regs.q ≡ d.base = ap (λ (u : Outer). u.q) x.outer in
