@@ -1,0 +1,4 @@
+-- In reading order.
+mod EffectLemmas
+mod StoreLemmas
+mod CallLemmas
