@@ -2,3 +2,6 @@
 mod EffectLemmas
 mod StoreLemmas
 mod CallLemmas
+mod RoomLemmas
+mod AskLemmas
+mod PerformLemmas

@@ -3,4 +3,4 @@
 
 mod laws;
 
-pub use laws::intrinsics_answer;
+pub use laws::{intrinsic_calls_perform, intrinsics_answer};
