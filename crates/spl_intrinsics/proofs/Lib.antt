@@ -2,6 +2,6 @@
 mod EffectLemmas
 mod StoreLemmas
 mod CallLemmas
-mod RoomLemmas
-mod AskLemmas
-mod PerformLemmas
+pub mod RoomLemmas
+pub mod AskLemmas
+pub mod PerformLemmas

@@ -113,7 +113,7 @@ room_whole n ps a one x = whole_then (pieces (ZERO ∷ [])) a (whole_pieces (ZER
 room_whole n ps a two x = whole_then (pieces (DZRO ∷ [])) a (whole_pieces (DZRO ∷ []) refl) x
 
 -- with more room
-more_room : (z : Surroundings) (d n k need more : ℕ) (a : Part) (f : State → Outcome (List ℕ)) → need ≤ more → Simulates z d as_value n k need a f
+pub more_room : (z : Surroundings) (d n k need more : ℕ) (a : Part) (f : State → Outcome (List ℕ)) → need ≤ more → Simulates z d as_value n k need a f
     → Simulates z d as_value n k more a f
 more_room z d n k need more a f few x = record {
   does = λ h ws p q s l m stands front ready.
