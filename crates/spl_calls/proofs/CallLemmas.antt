@@ -249,7 +249,7 @@ dropped_whole gate.Terminate a x = whole_last a x
 dropped_whole gate.Quit a x = whole_last a x
 
 -- a beginning before what is whole
-begun_whole : (at : At) (a : Part) → IsWhole a → IsWhole (piece (Begin at) ⨟ a)
+pub begun_whole : (at : At) (a : Part) → IsWhole a → IsWhole (piece (Begin at) ⨟ a)
 begun_whole at a x = record { closed = λ l ws. x.closed (l + 0) ws; keeps = λ l ws. x.keeps (l + 0) ws }
 
 -- the other argument of a QUIT is none
