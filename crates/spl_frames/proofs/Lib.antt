@@ -1,4 +1,4 @@
-mod Steady
+pub mod Steady
 mod FrameReferences
 mod FrameOperations
 mod FrameElements
@@ -6,7 +6,7 @@ mod FrameValues
 mod FrameStatements
 mod FrameRuns
 mod PartLaws
-mod WordFacts
+pub mod WordFacts
 mod WordRuns
 mod SizeLaws
 mod UseLaws

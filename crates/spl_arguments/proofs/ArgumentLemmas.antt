@@ -1,0 +1,293 @@
+-- Arguments: a value as its parameter holds it, or the word of a name that is the address of what it leads to.
+use Rattle.std.proofs.Common.{◌≡◌, ℕ, ◌+◌, ◌-◌, ◌*◌, ◌%◌, ◌≤◌, ◌<◌, Bool, true, false, List, [], ◌∷◌, ◌++◌, refl, sym, ap, subst, ◌∙◌, arith}
+use Rattle.std.specs.Prelude.{Option, Some, None, ◌&&◌, not, if◌then◌else◌, max}
+use Rattle.std.proofs.lemmas.Bool.{false≢true}
+use Rattle.std.proofs.lemmas.List.{append-nil}
+use Rattle.hp_session.specs.State.{Machine}
+use Rattle.spl_tree.specs.declared.expressions.Kind.{Kind}
+use Rattle.spl_tree.specs.declared.expressions.Kind.TheVariants as kind
+use Rattle.spl_tree.specs.declared.names_and_places.At.{At}
+use Rattle.spl_tree.specs.Trees as tree
+use Rattle.spl_tree.specs.Trees.{Tree, Trees}
+use Rattle.spl_branch.specs.declared.pieces.Piece.{Piece}
+use Rattle.spl_meaning.specs.Names.{Formal}
+use Rattle.spl_meaning.specs.Operations.{passed}
+use Rattle.spl_meaning.specs.Pending.{by_value, value_words, formal_words, formals_words, most, most_of}
+use Rattle.spl_meaning.specs.Places.{Place}
+use Rattle.spl_meaning.specs.References.{Here, Setting, Access, its_own, by_address, by_cell, its_result, nowhere, access_of, address_of, variable_located, element_address, element_located, word_at, read, led_located, locate_by}
+use Rattle.spl_meaning.specs.States.{Data, State, Exit, Outcome, done, leaves, spent, ends, strays, then_go}
+use Rattle.spl_meaning.specs.Values as run
+use Rattle.spl_meaning.specs.Values.{Callee, value, located, address_done}
+use Rattle.spl_code.specs.Calls.{Scope}
+use Rattle.spl_code.specs.Code.{as_value, code, reference, arguments}
+use Rattle.spl_code.specs.Operands.{mode_of, loaded, address, at_place}
+use Rattle.spl_code.specs.Operators.{as_parameter}
+use Rattle.spl_code.specs.Parts.{Part, pieces, nothing, ◌⨟◌}
+use Rattle.spl_follow.specs.Spots.{Spot, pos, Ground}
+use Rattle.spl_follow.specs.Matching.{IsValue}
+use Rattle.spl_follow.specs.Following.{Rate, Tally, tally, tally_with, Follows, NoExit}
+use Rattle.spl_follow.specs.Simulating.{Surroundings, Simulates}
+use Rattle.spl_follow.proofs.FollowLemmas.{go_done}
+use Rattle.spl_values.specs.Reached.{is_reached, IsWhole}
+use Rattle.spl_values.proofs.VariableLemmas.{both, variables_give}
+use Rattle.spl_values.proofs.WholeLemmas.{whole_pieces, whole_first, whole_last, whole_then, then_same, same_simulates, first_simulates, last_simulates}
+use Rattle.spl_covered.specs.Covered.{has_reached, is_covered}
+use Rattle.spl_covered.specs.Laws.{read_with}
+use Rattle.spl_covered.proofs.CoverLemmas.{covered_width, covered_whole, covered_gives}
+use Rattle.spl_intrinsics.proofs.RoomLemmas.{joined, more_room}
+use Rattle.spl_arguments.specs.Covered.{is_passed_word, is_addressed, is_covered_reference, is_covered_argument, are_covered_arguments}
+use Rattle.spl_arguments.specs.Laws.{ArgumentsAreWhole, ArgumentsSimulate}
+
+-- ---- references
+
+-- what an address is that a name's word is
+record IsAddress (st : Setting) (k : ℕ) (a : Access) (pl : Option Place) : Type 0 where
+  type : Kind
+  place : Place
+  far : Bool
+  is : pl ≡ Some place
+  near : far ≡ false
+  reached : is_reached st k place ≡ true
+  made : (p : Place) → address a false (mode_of k p) ≡ loaded (its_own kind.Integer) false (mode_of k p)
+  means : (h : Here) (x : List ℕ) (s : State) → h.places x ≡ Some place → h.setting ≡ st → locate_by h x a None s ≡ led_located false type (Some place) 0 s
+
+not_true : (b : Bool) → not b ≡ true → b ≡ false
+not_true false e = refl
+not_true true e = absurd (false≢true e)
+
+never : (b : Bool) → b && false ≡ false
+never true = refl
+never false = refl
+
+address_case : (st : Setting) (k : ℕ) (a : Access) (pl : Option Place) → is_addressed st k a pl ≡ true → IsAddress st k a pl
+address_case st k (by_address t) (Some place) e =
+    let two = both (not st.split) (is_reached st k place) e in
+    record {
+      type = t;
+      place = place;
+      far = false;
+      is = refl;
+      near = refl;
+      reached = two.1;
+      made = λ p. refl;
+      means = λ h x s there same. ap (λ (o : Option Place). led_located false t o 0 s) there;
+    }
+address_case st k (by_cell is_pointer t) (Some place) e =
+    let two = both (not st.split) (is_reached st k place) e in
+    let whole = not_true st.split two.0 in
+    record {
+      type = t;
+      place = place;
+      far = false;
+      is = refl;
+      near = refl;
+      reached = two.1;
+      made = λ p. refl;
+      means = λ h x s there same.
+          ap (λ (o : Option Place). led_located (is_pointer && h.setting.split) t o 0 s) there
+          ∙ ap (λ (z : Setting). led_located (is_pointer && z.split) t (Some place) 0 s) same
+          ∙ ap (λ (b : Bool). led_located (is_pointer && b) t (Some place) 0 s) whole
+          ∙ ap (λ (b : Bool). led_located b t (Some place) 0 s) (never is_pointer);
+    }
+address_case st k (by_address t) None e = absurd (false≢true (both (not st.split) false e).1)
+address_case st k (by_cell is_pointer t) None e = absurd (false≢true (both (not st.split) false e).1)
+address_case st k (its_own t) pl e = absurd (false≢true e)
+address_case st k its_result pl e = absurd (false≢true e)
+address_case st k nowhere pl e = absurd (false≢true e)
+
+-- an address without an index is the word itself
+first_address : (t : Kind) (w : ℕ) → w < 65536 → element_address t w 0 % 65536 ≡ w
+first_address kind.Integer w small = omega (arith, small)
+first_address kind.Logical w small = omega (arith, small)
+first_address kind.Byte w small = omega (arith, small)
+first_address kind.Double w small = omega (arith, small)
+
+-- a word that is read, as the address of what it leads to
+word_as_address : (g : Ground) (w : Rate) (c lag e : ℕ) (u : Tally) (st : Setting) (q : Spot) (k : ℕ) (d : Data) (m m0 : Machine) (t : Kind) (o : Outcome ℕ)
+    → Follows g w c lag e u m (IsValue st q 1 k d m0) NoExit (then_go o (λ v s. done (v ∷ []) s))
+    → Follows g w c lag e u m (IsValue st q 1 k d m0) NoExit (then_go (then_go o (λ v s. done (element_located false t v 0) s)) address_done)
+word_as_address g w c lag e u st q k d m m0 t (done v s) f =
+    subst (λ (a : ℕ). Follows g w c lag e u m (IsValue st q 1 k d m0) NoExit (done (a ∷ []) s)) (sym (first_address t v f.2.small.0)) f
+word_as_address g w c lag e u st q k d m m0 t (leaves x s) f = f
+word_as_address g w c lag e u st q k d m m0 t (spent s) f = f
+word_as_address g w c lag e u st q k d m m0 t (ends x s) f = f
+word_as_address g w c lag e u st q k d m m0 t (strays s) f = f
+
+-- the code of such a reference
+reference_code : (c : Scope) (st : Setting) (x : List ℕ) (at : At) (k : ℕ) (r : IsAddress st k (access_of (c.names x)) (c.places x))
+    → reference c (tree.Tree.named x tree.Trees.none at) k ≡ nothing ⨟ pieces (loaded (its_own kind.Integer) false (mode_of k r.place))
+reference_code c st x at k r =
+    ap (λ (o : Option Place). nothing ⨟ pieces (at_place o (λ place. address (access_of (c.names x)) false (mode_of k place)))) r.is
+    ∙ ap (λ (ps : List Piece). nothing ⨟ pieces ps) (r.made r.place)
+
+word_whole : (k : ℕ) (place : Place) → IsWhole (nothing ⨟ pieces (loaded (its_own kind.Integer) false (mode_of k place)))
+word_whole k place =
+    whole_first (pieces (loaded (its_own kind.Integer) false (mode_of k place))) (whole_pieces (loaded (its_own kind.Integer) false (mode_of k place)) refl)
+
+reference_whole : (c : Scope) (st : Setting) (e : Tree) (k : ℕ) → is_covered_reference c st e k ≡ true → IsWhole (reference c e k)
+reference_whole c st (tree.Tree.named x tree.Trees.none at) k e =
+    let r = address_case st k (access_of (c.names x)) (c.places x) e in
+    subst (λ (a : Part). IsWhole a) (sym (reference_code c st x at k r)) (word_whole k r.place)
+reference_whole c st (tree.Tree.named x (tree.Trees.and i is) at) k e = absurd (false≢true e)
+reference_whole c st (tree.Tree.number v) k e = absurd (false≢true e)
+reference_whole c st (tree.Tree.wide v) k e = absurd (false≢true e)
+reference_whole c st (tree.Tree.text bytes) k e = absurd (false≢true e)
+reference_whole c st (tree.Tree.truth b) k e = absurd (false≢true e)
+reference_whole c st (tree.Tree.address x es at) k e = absurd (false≢true e)
+reference_whole c st (tree.Tree.unary o a at) k e = absurd (false≢true e)
+reference_whole c st (tree.Tree.binary o a b at) k e = absurd (false≢true e)
+reference_whole c st (tree.Tree.shift o a by at) k e = absurd (false≢true e)
+reference_whole c st (tree.Tree.field a start size at) k e = absurd (false≢true e)
+reference_whole c st (tree.Tree.transfer to a at) k e = absurd (false≢true e)
+reference_whole c st (tree.Tree.bytes o a b count at) k e = absurd (false≢true e)
+
+reference_gives : (c : Scope) (results : List ℕ → Option (Kind × Place)) (z : Surroundings) (call : Callee) (d : ℕ) (e : Tree) (k need : ℕ)
+    → is_covered_reference c z.setting e k ≡ true → 1 ≤ need
+    → Simulates z d as_value 1 k need (reference c e k) (λ s. then_go (located (read_with c results z.setting) call e k s) address_done)
+reference_gives c results z call d (tree.Tree.named x tree.Trees.none at) k need e enough =
+    let r = address_case z.setting k (access_of (c.names x)) (c.places x) e in
+    let h = read_with c results z.setting in
+    same_simulates z d as_value 1 k need (reference c (tree.Tree.named x tree.Trees.none at) k) (nothing ⨟ pieces (loaded (its_own kind.Integer) false (mode_of k r.place)))
+    (λ s. then_go (located h call (tree.Tree.named x tree.Trees.none at) k s) address_done)
+    (λ s. then_go (led_located false r.type (Some r.place) 0 s) address_done) (reference_code c z.setting x at k r)
+    (λ s. ap (λ (o : Outcome _). then_go o address_done) (r.means h x s r.is refl))
+    (first_simulates z d as_value 1 k need (pieces (loaded (its_own kind.Integer) false (mode_of k r.place))) (λ s. then_go (led_located false r.type (Some r.place) 0 s) address_done)
+    (record {
+      does = λ i ws p q s l m stands front ready.
+          word_as_address z.ground z.rate (pos q - pos p.at) 1 z.rate.reach (tally_with l s) z.setting q k s.now m m r.type (word_at false (address_of r.place s.now) s)
+          ((variables_give z d k need kind.Integer r.place refl r.reached enough).does i ws p q s l m stands front ready);
+    }))
+reference_gives c results z call d (tree.Tree.named x (tree.Trees.and i is) at) k need e enough = absurd (false≢true e)
+reference_gives c results z call d (tree.Tree.number v) k need e enough = absurd (false≢true e)
+reference_gives c results z call d (tree.Tree.wide v) k need e enough = absurd (false≢true e)
+reference_gives c results z call d (tree.Tree.text bytes) k need e enough = absurd (false≢true e)
+reference_gives c results z call d (tree.Tree.truth b) k need e enough = absurd (false≢true e)
+reference_gives c results z call d (tree.Tree.address x es at) k need e enough = absurd (false≢true e)
+reference_gives c results z call d (tree.Tree.unary o a at) k need e enough = absurd (false≢true e)
+reference_gives c results z call d (tree.Tree.binary o a b at) k need e enough = absurd (false≢true e)
+reference_gives c results z call d (tree.Tree.shift o a by at) k need e enough = absurd (false≢true e)
+reference_gives c results z call d (tree.Tree.field a start size at) k need e enough = absurd (false≢true e)
+reference_gives c results z call d (tree.Tree.transfer to a at) k need e enough = absurd (false≢true e)
+reference_gives c results z call d (tree.Tree.bytes o a b count at) k need e enough = absurd (false≢true e)
+
+-- ---- values
+
+-- a word that is passed as it is
+word_passed : (g : Ground) (w : Rate) (c lag e : ℕ) (u : Tally) (st : Setting) (q : Spot) (k : ℕ) (d : Data) (m m0 : Machine) (t : Option Kind)
+    (o : Outcome (List ℕ)) → is_passed_word t ≡ true → Follows g w c lag e u m (IsValue st q 1 k d m0) NoExit o
+    → Follows g w c lag e u m (IsValue st q 1 k d m0) NoExit (then_go o (λ vs s. passed t vs s))
+word_passed g w c lag e u st q k d m m0 (Some kind.Integer) (done (v ∷ []) s) word f = f
+word_passed g w c lag e u st q k d m m0 (Some kind.Logical) (done (v ∷ []) s) word f = f
+word_passed g w c lag e u st q k d m m0 t (done [] s) word f = let wide = f.2.wide in absurd (omega (arith, wide))
+word_passed g w c lag e u st q k d m m0 t (done (v ∷ x ∷ vs) s) word f = let wide = f.2.wide in absurd (omega (arith, wide))
+word_passed g w c lag e u st q k d m m0 None (done (v ∷ []) s) word f = absurd (false≢true word)
+word_passed g w c lag e u st q k d m m0 (Some kind.Byte) (done (v ∷ []) s) word f = absurd (false≢true word)
+word_passed g w c lag e u st q k d m m0 (Some kind.Double) (done (v ∷ []) s) word f = absurd (false≢true word)
+word_passed g w c lag e u st q k d m m0 t (leaves x s) word f = f
+word_passed g w c lag e u st q k d m m0 t (spent s) word f = f
+word_passed g w c lag e u st q k d m m0 t (ends x s) word f = f
+word_passed g w c lag e u st q k d m m0 t (strays s) word f = f
+
+-- nothing stands behind its code
+parameter_none : (t : Option Kind) → is_passed_word t ≡ true → as_parameter t ≡ []
+parameter_none (Some kind.Integer) e = refl
+parameter_none (Some kind.Logical) e = refl
+parameter_none (Some kind.Byte) e = absurd (false≢true e)
+parameter_none (Some kind.Double) e = absurd (false≢true e)
+parameter_none None e = absurd (false≢true e)
+
+-- ---- an argument
+
+-- it is one word
+argument_width : (c : Scope) (st : Setting) (given : Bool) (t : Option Kind) (e : Tree) (k : ℕ) → is_covered_argument c st given t e k ≡ true
+    → value_words given t ≡ 1
+argument_width c st true (Some kind.Integer) e k h = refl
+argument_width c st true (Some kind.Logical) e k h = refl
+argument_width c st true (Some kind.Byte) e k h = absurd (false≢true h)
+argument_width c st true (Some kind.Double) e k h = absurd (false≢true h)
+argument_width c st true None e k h = refl
+argument_width c st false t e k h = refl
+
+argument_whole : (c : Scope) (st : Setting) (given : Bool) (t : Option Kind) (e : Tree) (k : ℕ) → is_covered_argument c st given t e k ≡ true
+    → IsWhole (if given then code c e as_value k ⨟ pieces (as_parameter t) else reference c e k)
+argument_whole c st true t e k h =
+    let two = both (is_passed_word t) (is_covered c st e k) h in
+    subst (λ (ps : List Piece). IsWhole (code c e as_value k ⨟ pieces ps)) (sym (parameter_none t two.0)) (whole_last (code c e as_value k) (covered_whole c st e k two.1))
+argument_whole c st false t e k h = reference_whole c st e k h
+
+argument_gives : (c : Scope) (results : List ℕ → Option (Kind × Place)) (z : Surroundings) (call : Callee) (d : ℕ) (given : Bool) (t : Option Kind) (e : Tree)
+    (k need : ℕ) → is_covered_argument c z.setting given t e k ≡ true → most c.names e + 8 ≤ need
+    → Simulates z d as_value 1 k need (if given then code c e as_value k ⨟ pieces (as_parameter t) else reference c e k)
+    (λ s. if given then then_go (value (read_with c results z.setting) call e k s) (λ vs u. passed t vs u)
+    else then_go (located (read_with c results z.setting) call e k s) address_done)
+argument_gives c results z call d true t e k need h enough =
+    let two = both (is_passed_word t) (is_covered c z.setting e k) h in
+    let v = read_with c results z.setting in
+    let word = subst (λ (j : ℕ). Simulates z d as_value j k need (code c e as_value k) (λ s. value v call e k s)) (covered_width c z.setting e k two.1)
+    (covered_gives c results z call d e k need two.1 enough) in
+    subst (λ (ps : List Piece). Simulates z d as_value 1 k need (code c e as_value k ⨟ pieces ps) (λ s. then_go (value v call e k s) (λ vs u. passed t vs u)))
+    (sym (parameter_none t two.0))
+    (last_simulates z d as_value 1 k need (code c e as_value k) (λ s. then_go (value v call e k s) (λ vs u. passed t vs u))
+    (record {
+      does = λ i ws p q s l m stands front ready.
+          word_passed z.ground z.rate (pos q - pos p.at) 1 z.rate.reach (tally_with l s) z.setting q k s.now m m t (value v call e k s) two.0
+          (word.does i ws p q s l m stands front ready);
+    }))
+argument_gives c results z call d false t e k need h enough = reference_gives c results z call d e k need h (omega (arith, enough))
+
+-- ---- lists
+
+-- what is made of an argument and of no others is the argument
+one_alone : (o : Outcome (List ℕ)) → then_go o (λ ws s. then_go (done [] s) (λ vs t. done (ws ++ vs) t)) ≡ o
+one_alone (done ws s) = ap (λ (vs : List ℕ). done vs s) (append-nil ws)
+one_alone (leaves x s) = refl
+one_alone (spent s) = refl
+one_alone (ends e s) = refl
+one_alone (strays s) = refl
+
+pub arguments_whole : ArgumentsAreWhole
+arguments_whole c st f [] (tree.Trees.and e tree.Trees.none) k h =
+    let two = both (is_covered_argument c st (by_value f) f.kind e k) true h in
+    whole_last (if by_value f then code c e as_value k ⨟ pieces (as_parameter f.kind) else reference c e k) (argument_whole c st (by_value f) f.kind e k two.0)
+arguments_whole c st f (g ∷ fs) (tree.Trees.and e es) k h =
+    let two = both (is_covered_argument c st (by_value f) f.kind e k) (are_covered_arguments c st (g ∷ fs) es (k + formal_words f)) h in
+    whole_then (if by_value f then code c e as_value k ⨟ pieces (as_parameter f.kind) else reference c e k) (arguments c (g ∷ fs) es (k + formal_words f))
+    (argument_whole c st (by_value f) f.kind e k two.0) (arguments_whole c st g fs es (k + formal_words f) two.1)
+arguments_whole c st f [] (tree.Trees.and e (tree.Trees.and e' es)) k h =
+    absurd (false≢true (both (is_covered_argument c st (by_value f) f.kind e k) false h).1)
+arguments_whole c st f fs tree.Trees.none k h = absurd (false≢true h)
+
+pub arguments_give : ArgumentsSimulate
+arguments_give c results z call d f [] (tree.Trees.and e tree.Trees.none) k w need h enough fits =
+    let two = both (is_covered_argument c z.setting (by_value f) f.kind e k) true h in
+    let one = argument_width c z.setting (by_value f) f.kind e k two.0 in
+    let a : Part = if by_value f then code c e as_value k ⨟ pieces (as_parameter f.kind) else reference c e k in
+    let all : 1 ≡ formals_words (f ∷ []) = omega (arith, one) in
+    subst (λ (j : ℕ). Simulates z d as_value j k need (a ⨟ nothing) (λ s. run.arguments v call (f ∷ []) (tree.Trees.and e tree.Trees.none) k s)) all
+    (same_simulates z d as_value 1 k need (a ⨟ nothing) (a ⨟ nothing) (λ s. run.arguments v call (f ∷ []) (tree.Trees.and e tree.Trees.none) k s)
+    (λ s. run.argument f (λ s1. value v call e k s1) (λ s1. located v call e k s1) s) refl
+    (λ s. one_alone (run.argument f (λ s1. value v call e k s1) (λ s1. located v call e k s1) s))
+    (last_simulates z d as_value 1 k need a (λ s. run.argument f (λ s1. value v call e k s1) (λ s1. located v call e k s1) s)
+    (argument_gives c results z call d (by_value f) f.kind e k need two.0 (omega (arith, enough))))) where
+      v : Here
+      v = read_with c results z.setting
+arguments_give c results z call d f (g ∷ fs) (tree.Trees.and e es) k w need h enough fits =
+    let two = both (is_covered_argument c z.setting (by_value f) f.kind e k) (are_covered_arguments c z.setting (g ∷ fs) es (k + formal_words f)) h in
+    let one = argument_width c z.setting (by_value f) f.kind e k two.0 in
+    let a : Part = if by_value f then code c e as_value k ⨟ pieces (as_parameter f.kind) else reference c e k in
+    let more = need - 1 in
+    let rest = arguments_give c results z call d g fs es (k + formal_words f) (w + formal_words f) more two.1 (omega (arith, enough, fits, one)) (omega (arith, fits, one)) in
+    let word : k + formal_words f ≡ k + 1 = omega (arith, one) in
+    let all : 1 + formals_words (g ∷ fs) ≡ formals_words (f ∷ g ∷ fs) = omega (arith, one) in
+    subst (λ (j : ℕ). Simulates z d as_value j k need (a ⨟ arguments c (g ∷ fs) es (k + formal_words f)) (λ s. run.arguments v call (f ∷ g ∷ fs) (tree.Trees.and e es) k s)) all
+    (joined z d 1 (formals_words (g ∷ fs)) k need more a (arguments c (g ∷ fs) es (k + formal_words f))
+    (λ s. run.argument f (λ s1. value v call e k s1) (λ s1. located v call e k s1) s) (λ s. run.arguments v call (g ∷ fs) es (k + formal_words f) s)
+    (argument_whole c z.setting (by_value f) f.kind e k two.0) (arguments_whole c z.setting g fs es (k + formal_words f) two.1)
+    (argument_gives c results z call d (by_value f) f.kind e k need two.0 (omega (arith, enough)))
+    (subst (λ (j : ℕ). Simulates z d as_value (formals_words (g ∷ fs)) j more (arguments c (g ∷ fs) es (k + formal_words f)) (λ s. run.arguments v call (g ∷ fs) es (k + formal_words f) s)) word rest)
+    (omega (arith, fits, one))) where
+      v : Here
+      v = read_with c results z.setting
+arguments_give c results z call d f [] (tree.Trees.and e (tree.Trees.and e' es)) k w need h enough fits =
+    absurd (false≢true (both (is_covered_argument c z.setting (by_value f) f.kind e k) false h).1)
+arguments_give c results z call d f fs tree.Trees.none k w need h enough fits = absurd (false≢true h)

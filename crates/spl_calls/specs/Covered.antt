@@ -1,0 +1,62 @@
+-- Which calls of intrinsics are covered, by themselves and as what is assigned.
+use Rattle.std.specs.Prelude.{ℕ, ◌+◌, ◌==◌, ◌&&◌, not, Bool, true, false, List, Option, Some, None}
+use Rattle.hp_word.specs.declared.intrinsics.Intrinsic.{Intrinsic}
+use Rattle.hp_word.specs.declared.intrinsics.Intrinsic.TheVariants as gate
+use Rattle.hp_word.specs.Intrinsics.{answer_words}
+use Rattle.spl_tree.specs.Trees as tree
+use Rattle.spl_tree.specs.Trees.{Tree, Trees}
+use Rattle.spl_tree.specs.StatementTrees as stat
+use Rattle.spl_tree.specs.StatementTrees.{Target}
+use Rattle.spl_meaning.specs.Names as n
+use Rattle.spl_meaning.specs.Names.{Sort, intrinsic_named, intrinsic_profile}
+use Rattle.spl_meaning.specs.Pending.{result_words}
+use Rattle.spl_meaning.specs.Places.{Place}
+use Rattle.spl_meaning.specs.References.{Setting}
+use Rattle.spl_code.specs.Calls.{Scope}
+use Rattle.spl_values.specs.Reached.{is_word_kind}
+use Rattle.spl_covered.specs.Covered.{has_reached}
+use Rattle.spl_arguments.specs.Covered.{are_covered_arguments}
+
+-- the entry of the gate at which an intrinsic is served
+abbrev pub entry_of : Intrinsic → ℕ
+entry_of gate.Print = 1
+entry_of gate.Read = 2
+entry_of gate.Ascii = 3
+entry_of gate.Dascii = 4
+entry_of gate.Binary = 5
+entry_of gate.Dbinary = 6
+entry_of gate.Terminate = 7
+entry_of gate.Quit = 8
+
+-- the intrinsic of a name is this one
+abbrev pub is_that : Intrinsic → Option Intrinsic → Bool
+is_that i (Some j) = entry_of i == entry_of j
+is_that i None = false
+
+-- a call of an intrinsic, in no split mode, whose arguments are covered
+abbrev pub is_covered_question : Scope → Setting → List ℕ → Intrinsic → Trees → ℕ → Bool
+is_covered_question c st x i es k =
+    not st.split && (is_that i (intrinsic_named x)
+    && are_covered_arguments c st (intrinsic_profile i).formals es (k + result_words (intrinsic_profile i)))
+
+-- a call by itself
+abbrev pub is_covered_call : Scope → Setting → List ℕ → Option Sort → Trees → ℕ → Bool
+is_covered_call c st x (Some (n.intrinsic i)) es k = is_covered_question c st x i es k
+is_covered_call c st x sort es k = false
+
+-- a call that answers one word
+abbrev pub is_covered_value : Scope → Setting → List ℕ → Option Sort → Trees → ℕ → Bool
+is_covered_value c st x (Some (n.intrinsic i)) es k = (answer_words i == 1) && is_covered_question c st x i es k
+is_covered_value c st x sort es k = false
+
+-- a variable of one word, which keeps the condition code of the call that it is assigned: a simple one or a parameter by value, where it is reached
+abbrev pub is_answered_name : Setting → ℕ → Option Sort → Option Place → Bool
+is_answered_name st k (Some (n.simple t own)) place = is_word_kind t && has_reached st k place
+is_answered_name st k (Some (n.value t)) place = is_word_kind t && has_reached st k place
+is_answered_name st k sort place = false
+
+-- an assignment of such a call to such a variable
+abbrev pub is_covered_answer : Scope → Setting → Target → Tree → ℕ → Bool
+is_covered_answer c st (stat.Target.plain (tree.Tree.named y tree.Trees.none there)) (tree.Tree.named x es at) k =
+    is_answered_name st k (c.names y) (c.places y) && is_covered_value c st x (c.names x) es k
+is_covered_answer c st to e k = false

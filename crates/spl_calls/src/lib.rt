@@ -1,0 +1,6 @@
+//! Calls of intrinsics as statements that are covered: their code performs them, wherever it stands.
+#![tactic(auto)]
+
+mod laws;
+
+pub use laws::covered_calls_perform;
