@@ -14,7 +14,7 @@ use Rattle.spl_follow.specs.Simulating.{Surroundings}
 use Rattle.spl_followed.specs.Mains.{main_setting, MainStatementsFollow}
 use Rattle.spl_covered.specs.Laws.{read_with}
 use Rattle.spl_stores.specs.Covered.{are_covered}
-use Rattle.spl_stores.specs.Laws.{MayCall}
+use Rattle.spl_calls.specs.Laws.{MayCall}
 
 -- Where the code of a main body's statements stands from `first` to `leave`, all are covered, the code was made with the body's names and places,
 -- the body's room is above all that waits in it, and its calls find what they name, they are followed; RETURN leads to `leave`.

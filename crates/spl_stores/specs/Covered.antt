@@ -1,14 +1,12 @@
 -- Which statements are proved: those whose every part has a law. A further construct makes it larger.
 use Rattle.std.specs.Prelude.{ℕ, ◌+◌, ◌&&◌, not, Bool, true, false, List, Option, Some, ◌||◌}
-use Rattle.hp_word.specs.declared.intrinsics.Intrinsic.{Intrinsic}
-use Rattle.hp_word.specs.declared.intrinsics.Intrinsic.TheVariants as gate
 use Rattle.spl_tree.specs.declared.expressions.Kind.TheVariants as kind
 use Rattle.spl_tree.specs.Trees as tree
-use Rattle.spl_tree.specs.Trees.{Trees}
+use Rattle.spl_tree.specs.Trees.{Tree, Trees}
 use Rattle.spl_tree.specs.StatementTrees as stat
 use Rattle.spl_tree.specs.StatementTrees.{Statement, Statements, Target}
 use Rattle.spl_meaning.specs.Names as n
-use Rattle.spl_meaning.specs.Names.{Sort, intrinsic_named}
+use Rattle.spl_meaning.specs.Names.{Sort}
 use Rattle.spl_meaning.specs.Pending.{waiting}
 use Rattle.spl_meaning.specs.Places.{Place}
 use Rattle.spl_meaning.specs.References.{Setting}
@@ -16,6 +14,7 @@ use Rattle.spl_code.specs.Calls.{Scope}
 use Rattle.spl_values.specs.Reached.{is_word_kind}
 use Rattle.spl_covered.specs.Covered.{has_reached, is_covered}
 use Rattle.spl_targets.specs.Targets.{is_led_target}
+use Rattle.spl_calls.specs.Covered.{is_covered_call, is_covered_answer}
 
 -- a name on the left of :=, a simple variable or a parameter by value of one word, where it is reached
 abbrev pub is_stored_name : Setting → ℕ → Option Sort → Option Place → Bool
@@ -29,21 +28,9 @@ is_covered_target c st (stat.Target.plain (tree.Tree.named x tree.Trees.none at)
     is_stored_name st k (c.names x) (c.places x) || is_led_target c st (stat.Target.plain (tree.Tree.named x tree.Trees.none at)) k
 is_covered_target c st to k = is_led_target c st to k
 
--- the intrinsic of a name is TERMINATE, or QUIT
-abbrev pub is_terminate : Option Intrinsic → Bool
-is_terminate (Some gate.Terminate) = true
-is_terminate _ = false
-
-abbrev pub is_quit : Option Intrinsic → Bool
-is_quit (Some gate.Quit) = true
-is_quit _ = false
-
--- a call by itself that ends the session, in no split mode: TERMINATE, or QUIT with a value that is covered
-abbrev pub is_covered_call : Scope → Setting → List ℕ → Option Sort → Trees → ℕ → Bool
-is_covered_call c st x (Some (n.intrinsic gate.Terminate)) tree.Trees.none k = not st.split && is_terminate (intrinsic_named x)
-is_covered_call c st x (Some (n.intrinsic gate.Quit)) (tree.Trees.and e tree.Trees.none) k =
-    not st.split && (is_quit (intrinsic_named x) && is_covered c st e k)
-is_covered_call c st x sort es k = false
+-- a value that is covered, in a target that is
+abbrev pub is_covered_store : Scope → Setting → Target → Tree → ℕ → Bool
+is_covered_store c st to e k = is_covered_target c st to k && is_covered c st e (waiting to k)
 
 -- the variable of a FOR: an INTEGER one, simple or a parameter by value, where it is reached
 abbrev pub is_counted_name : Setting → ℕ → Option Sort → Option Place → Bool
@@ -57,13 +44,13 @@ is_covered_step c st tree.Trees.none k = true
 is_covered_step c st (tree.Trees.and e es) k = is_covered c st e k
 
 abbrev mutual
-  -- A statement, in a body with this setting and while k words wait: the empty one, assignments of what is covered, blocks of such, IF, WHILE
-  -- and DO of such with a condition that is covered, CASE of such with a value that is, calls that end the session, and
+  -- A statement, in a body with this setting and while k words wait: the empty one, assignments of what is covered and of what an intrinsic
+  -- answers, blocks of such, IF, WHILE and DO of such with a condition that is covered, CASE of such with a value that is, calls of intrinsics, and
   -- FOR of such with values that are, each while as many words more wait as stand before it.
   pub is_covered_statement : Scope → Setting → Statement → ℕ → Bool
   is_covered_statement c st stat.Statement.empty k = true
   is_covered_statement c st (stat.Statement.block ss) k = are_covered c st ss k
-  is_covered_statement c st (stat.Statement.assign to e at) k = is_covered_target c st to k && is_covered c st e (waiting to k)
+  is_covered_statement c st (stat.Statement.assign to e at) k = is_covered_store c st to e k || is_covered_answer c st to e k
   is_covered_statement c st (stat.Statement.if_test (stat.Test.condition e) s stat.Statements.none at) k =
       is_covered c st e k && is_covered_statement c st s k
   is_covered_statement c st (stat.Statement.if_test (stat.Test.condition e) s (stat.Statements.and other stat.Statements.none) at) k =

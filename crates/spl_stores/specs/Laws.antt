@@ -17,9 +17,9 @@ use Rattle.spl_code.specs.Stores.{stored}
 use Rattle.spl_statement_code.specs.Landings.{Context}
 use Rattle.spl_statement_code.specs.Statements.{idle, statement, listed}
 use Rattle.spl_follow.specs.Simulating.{Surroundings, Simulates, Performs, PerformsAll}
-use Rattle.spl_endings.specs.Gates.{GatesLead}
 use Rattle.spl_values.specs.Reached.{is_word_kind, is_reached, IsWhole}
 use Rattle.spl_covered.specs.Laws.{read_with}
+use Rattle.spl_calls.specs.Laws.{MayCall}
 use Rattle.spl_stores.specs.Covered.{is_covered_statement, are_covered}
 
 -- ---- constructs
@@ -43,10 +43,6 @@ BlocksPerform = (z : Surroundings) (d k need fuel : ℕ) (a : Part) (has : List 
 -- what is covered has whole code
 abbrev pub CoveredStatementsAreWhole : Type 0
 CoveredStatementsAreWhole = (c : Context) (st : Setting) (s : Statement) (k : ℕ) → is_covered_statement c.scope st s k ≡ true → IsWhole (statement c s k)
-
--- What the calls of a body find around it: the intrinsics that its module wants.
-pub record MayCall (z : Surroundings) : Type 0 where
-  pub gates : GatesLead z.sites z.wants
 
 -- The code of a statement that is covered performs it, wherever it stands.
 abbrev pub CoveredStatementsPerform : Type 0
