@@ -1,8 +1,8 @@
 -- A program whose main body is covered follows the run of its units.
-use Rattle.std.proofs.Common.{◌≡◌, ℕ, zero, suc, ◌+◌, ◌-◌, ◌*◌, ◌<◌, ◌≤◌, Bool, true, false, List, [], ◌∷◌, ◌++◌, length, Option, Some, None, refl, sym, ap, subst, ◌∙◌, arith, inl}
-use Rattle.std.specs.Prelude.{◌==◌, ◌&&◌, ◌||◌, not, nat_eq, nat_le, nat_lt, slice_get, unwrap_or, option_map, codes, if◌then◌else◌}
+use Rattle.std.proofs.Common.{◌≡◌, ℕ, zero, suc, ◌+◌, ◌-◌, ◌*◌, ◌≤◌, Bool, true, false, List, [], ◌∷◌, ◌++◌, length, Option, Some, None, refl, sym, ap, subst, ◌∙◌, arith, inl}
+use Rattle.std.specs.Prelude.{◌==◌, ◌&&◌, ◌||◌, not, nat_eq, nat_le, slice_get, unwrap_or, option_map, codes, if◌then◌else◌}
 use Rattle.std.specs.List.{list_all}
-use Rattle.std.proofs.lemmas.Bool.{and_parts, eqb-true, ltb-true, leb-true, false≢true}
+use Rattle.std.proofs.lemmas.Bool.{and_parts, eqb-true, leb-true, false≢true}
 use Rattle.hp_word.specs.declared.endings.Ending.TheVariants.{Running, Terminated}
 use Rattle.hp_word.specs.declared.intrinsics.Intrinsic.TheVariants as gate
 use Rattle.hp_instr.specs.declared.instruction.Instr.TheVariants as i
@@ -82,7 +82,6 @@ use Rattle.spl_carried.proofs.MainLemmas.{IsIn, at_front, behind, in_all, MainTh
 use Rattle.spl_carried.proofs.GateLemmas.{module_gates_lead}
 use Rattle.spl_carried.proofs.PieceLemmas.{MainPieces, main_pieces, MainStands, main_stands}
 use Rattle.spl_covered.specs.Laws.{read_with}
-use Rattle.spl_stores.specs.Covered.{are_covered}
 use Rattle.spl_followed.specs.Mains.{main_setting}
 use Rattle.spl_carries.specs.Segments.{initial_words}
 use Rattle.spl_carries.specs.Carries.{words_in, weight, MaySit}
@@ -243,14 +242,8 @@ module _ (us : List Source) (p : Program) (ms : List Module) (f : MadeOf us p ms
       programs_stand p (words_near p) ms f.links seg front m back is of.code finished sites (λ l. refl) well kinds
       (complete unit name unit.unit.tree.segment of.code of.is).pieces calls
 
-  room_fits : body.depth' < 65536
-  room_fits = ltb-true body.depth' 65536 (and_parts (nat_lt body.depth' 65536) (are_covered (statements_scope es main body) main_setting body.statements 0) covered).0
-
-  all_covered : are_covered (statements_scope es main body) main_setting body.statements 0 ≡ true
-  all_covered = (and_parts (nat_lt body.depth' 65536) (are_covered (statements_scope es main body) main_setting body.statements 0) covered).1
-
   clear : due_after false statements.pieces ≡ false
-  clear = list_clear (context_of es main body parts_of.table (length es)) main_setting body.statements 0 all_covered parts_of.marks parts_of.wants
+  clear = list_clear (context_of es main body parts_of.table (length es)) main_setting body.statements 0 covered parts_of.marks parts_of.wants
 
   stands : MainStands ground sites (length es) (granted body.depth') statements.pieces index end
   stands =
@@ -301,7 +294,7 @@ module _ (us : List Source) (p : Program) (ms : List Module) (f : MadeOf us p ms
       let left = stands.left in
       let within = stands.within in
       record {
-        room = pieces_grant ground rate sites (sites.marks (length es)) stands.first body.depth' (omega arith) room_fits stands.room_stands;
+        room = pieces_grant ground rate sites (sites.marks (length es)) stands.first body.depth' (omega arith) stands.room_stands;
         paid = omega (arith, left, within, far);
         behind = end;
         stop = calling (i.Control 0 0) (sites.ways true index) end;
@@ -324,7 +317,7 @@ module _ (us : List Source) (p : Program) (ms : List Module) (f : MadeOf us p ms
   followed =
       let within = stands.within in
       bodies_follow us body (context_of es main body parts_of.table (length es)) around stands.first stands.leave parts_of.marks parts_of.wants refl refl
-      (here_is es unit) (omega arith) all_covered stands.statements_stand wanted (omega (arith, within, far)) (record { gates = gates })
+      (here_is es unit) (omega arith) covered stands.statements_stand wanted (omega (arith, within, far)) (record { gates = gates })
 
 -- ---- the program
 

@@ -1,5 +1,5 @@
 -- Which programs are proved: those whose main body is. A further construct makes more bodies so.
-use Rattle.std.specs.Prelude.{ℕ, ◌+◌, ◌==◌, ◌&&◌, ◌||◌, nat_lt, Bool, if◌then◌else◌, List, [], ◌∷◌}
+use Rattle.std.specs.Prelude.{ℕ, ◌+◌, ◌==◌, ◌&&◌, ◌||◌, Bool, if◌then◌else◌, List, [], ◌∷◌}
 use Rattle.std.specs.List.{list_all}
 use Rattle.spl_meaning.specs.Tables.{Source}
 use Rattle.spl_meaning.specs.Bodies.{Body, main_body}
@@ -14,9 +14,9 @@ abbrev pub main_count : List Source → ℕ
 main_count [] = 0
 main_count (u ∷ us) = (if u.subprogram then 0 else 1) + main_count us
 
--- a main body in a module with these entries: each of its statements is covered, and its depth fits a word
+-- a main body in a module with these entries: each of its statements is covered
 abbrev pub is_covered_body : List Entry → Body → Bool
-is_covered_body es b = nat_lt b.depth' 65536 && are_covered (statements_scope es main b) main_setting b.statements 0
+is_covered_body es b = are_covered (statements_scope es main b) main_setting b.statements 0
 
 -- a unit: it is a subprogram, of which nothing is asked, or its main body is covered
 abbrev pub is_covered_unit : Placed → Bool

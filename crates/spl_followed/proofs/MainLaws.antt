@@ -65,7 +65,8 @@ module _ (g : Ground) (w : Rate) (us : List Source) (b : Body) (entry first leav
     lacks less =
         let words = x.words in
         let paid = framed.paid in
-        let way = framed.room.lacking m at shows.ending (omega (arith, less, words, limit)) (tally s) in (
+        let least = x.lies.least in
+        let way = framed.room.lacking m at shows.ending (omega (arith, least, limit)) (omega (arith, less, words, limit)) (tally s) in (
           way.0,
           goes_wider g w (pos first - pos entry) 0 0 w.step 0 0 (tally s) m (tally s) way.0 way.1 paid (omega arith),
           record { ending = way.2; printed = way.3 ∙ shows.printed },

@@ -46,7 +46,7 @@ number_grants g w p q need some leads = record {
         y.words ∙ append-nil (take (length m.stack - 0) m.stack) ∙ all m.stack,
         y.same,
       );
-  lacking = λ m at runs full t. (
+  lacking = λ m at runs limit full t. (
     record m { ending = Trapped StackOverflow },
     step_traps g w p q (doing g.segments (i.Control 6 need) q) t m (count_row 6 need (at_left m)) StackOverflow leads refl at runs
         (rows.room_lacking need (at_left m) some full),
@@ -75,7 +75,7 @@ top_grants g w p r q need some before first leads = record {
         y.words ∙ append-nil (take (length n.stack - 1) n.stack) ∙ beneath m n h,
         y.same ∙ h.same,
       );
-  lacking = λ m at runs full t. by m at runs full t (nat_lt (length m.stack) m.stack_limit) refl;
+  lacking = λ m at runs limit full t. by m at runs full t (nat_lt (length m.stack) m.stack_limit) refl;
 } where
   -- what stands beneath the number
   beneath : (m n : Machine) → Holds r m need n → take (length n.stack - 1) n.stack ≡ m.stack
@@ -129,14 +129,20 @@ constant_clear c = by (nat_lt c 256) (nat_lt 65280 c) where
   by false true = refl
   by false false = refl
 
+-- A number that is no word is granted as the greatest word: no stack has room for either.
+widest : (g : Ground) (w : Rate) (p q : Spot) (need : ℕ) → Grants g w p q (min need 65535) → Grants g w p q need
+widest g w p q need r = record {
+  enough = λ m at runs room t. r.enough m at runs (omega (arith, room)) t;
+  lacking = λ m at runs limit full t. r.lacking m at runs limit (omega (arith, limit, full)) t;
+}
+
 pub pieces_grant : GrantedPiecesGrant
-pieces_grant g w sites p q need some small = by (nat_lt 0 need && nat_lt need 256) where
+pieces_grant g w sites p q need some = by (nat_lt 0 need && nat_lt need 256) where
   by : (b : Bool) → Stands g sites (on p) (if b then ROOM need ∷ [] else constant (min need 65535) ++ ROOM 0 ∷ []) q → Grants g w p q need
   by true stands = number_grants g w p q need some (last_leads g sites (on p) (i.Control 6 need) q stands)
   by false stands =
-      let same : min need 65535 ≡ need = omega (arith, small) in
       let cut = stand_from_place g sites (constant (min need 65535)) (ROOM 0 ∷ []) p q (constant_clear (min need 65535)) stands in
       let before = cut.3 in
-      top_grants g w p cut.0 q need some before
-      (subst (λ (v : ℕ). Pushes g w p cut.0 v) same (constant_pushes g w sites p cut.0 (min need 65535) (omega (arith, small)) cut.1))
-      (last_leads g sites (on cut.0) (i.Control 6 0) q cut.2)
+      widest g w p q need
+      (top_grants g w p cut.0 q (min need 65535) (omega (arith, some)) before (constant_pushes g w sites p cut.0 (min need 65535) (omega arith) cut.1)
+      (last_leads g sites (on cut.0) (i.Control 6 0) q cut.2))

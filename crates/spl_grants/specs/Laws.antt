@@ -1,12 +1,12 @@
 -- The law of this crate.
-use Rattle.std.specs.Prelude.{ℕ, ◌<◌, ◌≤◌}
+use Rattle.std.specs.Prelude.{ℕ, ◌≤◌}
 use Rattle.spl_body_code.specs.Frames.{granted}
 use Rattle.spl_follow.specs.Spots.{Spot, on, Ground}
 use Rattle.spl_follow.specs.Following.{Rate}
 use Rattle.spl_follow.specs.Standing.{Sites, Stands}
 use Rattle.spl_follow.specs.Rooms.{Grants}
 
--- Where the code at a body's entry stands, that grants the room: some words, no more than a word holds.
+-- Where the code at a body's entry stands, that grants the room: some words.
 abbrev pub GrantedPiecesGrant : Type 0
-GrantedPiecesGrant = (g : Ground) (w : Rate) (sites : Sites) (p q : Spot) (need : ℕ) → 1 ≤ need → need < 65536 → Stands g sites (on p) (granted need) q
+GrantedPiecesGrant = (g : Ground) (w : Rate) (sites : Sites) (p q : Spot) (need : ℕ) → 1 ≤ need → Stands g sites (on p) (granted need) q
     → Grants g w p q need

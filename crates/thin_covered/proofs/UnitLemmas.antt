@@ -16,7 +16,6 @@ use Rattle.spl_tree.specs.StatementTrees.{Statement, statements}
 use Rattle.spl_meaning.specs.Names.{Sort, Table, find, or_else, nothing_declared}
 use Rattle.spl_meaning.specs.Tables.{Source, with_items, with_intrinsics, with_declarations, unit_table}
 use Rattle.spl_meaning.specs.Places.{Place, data_word, places_from}
-use Rattle.spl_meaning.specs.Pending.{statements_most}
 use Rattle.spl_meaning.specs.Bodies.{Body, main_body}
 use Rattle.spl_code.specs.Calls.{Scope}
 use Rattle.spl_scopes.specs.Entries.{main, Entry, module_entries}
@@ -27,7 +26,6 @@ use Rattle.spl_followed.specs.Mains.{main_setting}
 use Rattle.spl_values.proofs.VariableLemmas.{both}
 use Rattle.spl_covered.specs.Covered.{has_reached}
 use Rattle.spl_covered.proofs.OperatorLemmas.{four}
-use Rattle.spl_stores.specs.Covered.{are_covered}
 use Rattle.spl_carried.specs.Covered.{is_covered_body}
 use Rattle.thin_jobs.specs.ThinUnits as u
 use Rattle.thin_jobs.specs.ThinTrees as thin
@@ -246,20 +244,10 @@ no_result : (b : Bool) (o : Option Place) → or_else (option_map (λ (r : Kind 
 no_result true o = refl
 no_result false o = refl
 
--- a depth of at most one word and eight more
-shallow : (most : ℕ) → most ≤ 1 → nat_lt (most + 8) 65536 ≡ true
-shallow most few = let l : most + 8 < 65536 = omega (arith, few) in grind (arith, nat_tests, l)
-
--- both of two tests
-both_true : (a b : Bool) → a ≡ true → b ≡ true → (a && b) ≡ true
-both_true true b ea eb = eb
-both_true false b ea eb = never ea
-
 -- behind them the places of a main body's statements are those of its unit's table
 body_covered : (source : Source) (es : List Entry) → IsThinTree source.tree.items source.tree.statements
     → is_covered_body es (main_body (places_from data_word 0 0 (unit_table source)) source) ≡ true
-body_covered source es tree =
-    both_true (nat_lt body.depth' 65536) (are_covered scope main_setting body.statements 0) (shallow (statements_most scope.names body.statements) run.waits) run.covered
+body_covered source es tree = run.covered
   where
     body : Body
     body = main_body (places_from data_word 0 0 (unit_table source)) source
