@@ -21,7 +21,8 @@ use Rattle.spl_code.specs.Calls.{Scope}
 use Rattle.spl_values.proofs.VariableLemmas.{both}
 use Rattle.spl_covered.specs.Covered.{is_covered}
 use Rattle.spl_targets.specs.Targets.{is_led_target}
-use Rattle.spl_stores.specs.Covered.{is_stored_name, is_covered_call, is_covered_statement, are_covered}
+use Rattle.spl_calls.specs.Covered.{is_covered_call, is_covered_answer}
+use Rattle.spl_stores.specs.Covered.{is_stored_name, is_covered_store, is_covered_statement, are_covered}
 use Rattle.thin_jobs.specs.ThinUnits as u
 use Rattle.thin_jobs.specs.ThinTrees.{tree_sum, tree_call, tree_assignment, tree_statement}
 use Rattle.thin_jobs.specs.ThinShapes.{is_sum, is_short, is_statement}
@@ -60,11 +61,12 @@ stored_fits : {names : List (List ℕ)} {gates : List u.Gate} (c : Scope) (st : 
 stored_fits {names} c st shows x a at e is short =
     let sum = sum_fits c st shows e (short_sum names (tree_sum e) short) in
     let target = ap (λ (o : Option Sort). is_stored_name st 0 o (c.places x)) (shows.variable x is) ∙ shows.reached x is 0 in
-    let led = is_led_target c st (stat.Target.plain (tree.Tree.named x tree.Trees.none a)) 0 in
+    let to = stat.Target.plain (tree.Tree.named x tree.Trees.none a) in
+    let led = is_led_target c st to 0 in
     let few = sum.waits in
     record {
-      covered = all_true (is_stored_name st 0 (c.names x) (c.places x) || led) (is_covered c st e 0)
-          (true_or (is_stored_name st 0 (c.names x) (c.places x)) led target) (sum.covered 0);
+      covered = true_or (is_covered_store c st to e 0) (is_covered_answer c st to e 0)
+          (all_true (is_stored_name st 0 (c.names x) (c.places x) || led) (is_covered c st e 0) (true_or (is_stored_name st 0 (c.names x) (c.places x)) led target) (sum.covered 0));
       waits = max-le (omega arith) few;
     }
 
@@ -119,7 +121,7 @@ quit_fits {names} c st shows e at has short =
     let sum = sum_fits c st shows e (short_sum names (tree_sum e) short) in
     let few = sum.waits in
     called c st (codes "QUIT") (tree.Trees.and e tree.Trees.none) at (Some (n.intrinsic gate.Quit)) (shows.quit has)
-    (all_true (not st.split) (is_covered c st e 0) (no_split st.split shows.whole) (sum.covered 0))
+    (all_true (not st.split) (is_covered c st e 0 && true) (no_split st.split shows.whole) (all_true (is_covered c st e 0) true (sum.covered 0) refl))
     (max-le (max-le (omega (arith, few)) (omega arith)) (omega arith))
 
 -- by its arguments and its name
