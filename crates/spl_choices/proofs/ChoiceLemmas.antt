@@ -55,14 +55,29 @@ sides_same o yes' no' =
 
 -- ---- without ELSE
 
+-- Code of a test is whole, whatever its mark is, and from its first word it leads behind it or to its mark, by the outcome of a test.
+pub record Tests (z : Surroundings) (k : ℕ) (test : ℕ → Part) (p : Point) (t : State) (l : List Begun) (m : Machine) (o : Outcome Bool) : Type 0 where
+  pub whole : (fail : ℕ) → IsWhole (test fail)
+  pub follows : (fail h : ℕ) (ws : List Wanted) (r : Spot) → Stands z.ground z.sites p (test fail h ws).pieces r → IsFront (test fail h ws).wants z.wants
+      → Follows z.ground z.rate (pos r - pos p.at) 1 z.rate.reach (tally_with l t) m (Truth z.setting r (z.sites.marks fail) k t.now m) NoExit o
+
+-- so does a condition's
+decides_tests : (z : Surroundings) (d k need : ℕ) (test : ℕ → Part) (value : State → Outcome (List ℕ)) (p : Point) (t : State) (l : List Begun) (m : Machine)
+    → Decides z d k need test value → Ready z.setting d p k need t l m → Tests z k test p t l m (decided value t)
+decides_tests z d k need test value p t l m tests ready = record {
+  whole = tests.whole;
+  follows = λ fail h ws r stands front. test_follows z d k need fail h ws test value p r t l m tests stands front ready;
+}
+
 -- Behind the beginning: the test, and then the statement inside or its end.
-choice_inside : (z : Surroundings) (d k need h : ℕ) (ws : List Wanted) (at : At) (test : ℕ → Part) (a : Part) (value : State → Outcome (List ℕ))
-    (yes' : State → Outcome (Unit {0})) (p q : Spot) (t : State) (l : List Begun) (m : Machine) → Decides z d k need test value → IsWhole a
+pub choice_inside : (z : Surroundings) (d k need h : ℕ) (ws : List Wanted) (at : At) (test : ℕ → Part) (a : Part) (o : Outcome Bool)
+    (yes' : State → Outcome (Unit {0})) (p q : Spot) (t : State) (l : List Begun) (m : Machine)
+    → Tests z k test (record { at = p; due = Some at }) t l m o → IsWhole a
     → Performs z d k need a yes' → Stands z.ground z.sites (record { at = p; due = Some at }) (chosen test a h ws).pieces q
-    → IsFront (chosen test a h ws).wants z.wants → pos q ≤ z.rate.step → Ready z.setting d (record { at = p; due = Some at }) k need t l m
+    → IsFront (chosen test a h ws).wants z.wants → pos q ≤ z.rate.step → t.now.top + k + need ≤ t.now.stack → t.left ≤ d
     → Follows z.ground z.rate z.rate.step 2 3 (tally_with l t) m (Completes z.setting q k t.now m) (Leaving z.setting z.exits k t.now m)
-    (then_go (decided value t) (λ b v. code_dropped (if b then yes' v else done tt v)))
-choice_inside z d k need h ws at test a value yes' p q t l m tests whole x stands front pays ready =
+    (then_go o (λ b v. code_dropped (if b then yes' v else done tt v)))
+choice_inside z d k need h ws at test a o yes' p q t l m tests whole x stands front pays room fuel =
     let g = z.ground in
     let w = z.rate in
     let st = z.setting in
@@ -74,17 +89,14 @@ choice_inside z d k need h ws at test a value yes' p q t l m tests whole x stand
     let cut = stand_in_order g z.sites tested.pieces inner.pieces first q ((tests.whole h).closed (suc h) ws) end.0 in
     let before = cut.3 in
     let behind = cut.4 in
-    let room = ready.room in
-    let fuel = ready.fuel in
-    let condition = subst (λ (y : Spot). Follows g w (pos cut.0 - pos p) 1 w.reach (tally_with l t) m (Truth st cut.0 y k t.now m) NoExit (decided value t)) end.1
-    (test_follows z d k need h (suc h) ws test value first cut.0 t l m tests cut.1
-    (front_on tested.wants inner.wants z.wants (whole.keeps (suc h + tested.marks) tested.wants) front) ready) in
-    settles_completes z w.step 2 3 k q t l m (then_go (decided value t) (λ b v. code_dropped (if b then yes' v else done tt v)))
-    (subst (λ (o : Outcome (Unit {0})). Follows g w w.step 2 3 (tally_with l t) m (Settles st q k t.now m) (Leaving st z.exits k t.now m) o)
-    (sym (sides_same (decided value t) yes' (λ v. done tt v)))
+    let condition = subst (λ (y : Spot). Follows g w (pos cut.0 - pos p) 1 w.reach (tally_with l t) m (Truth st cut.0 y k t.now m) NoExit o) end.1
+    (tests.follows h (suc h) ws cut.0 cut.1 (front_on tested.wants inner.wants z.wants (whole.keeps (suc h + tested.marks) tested.wants) front)) in
+    settles_completes z w.step 2 3 k q t l m (then_go o (λ b v. code_dropped (if b then yes' v else done tt v)))
+    (subst (λ (y : Outcome (Unit {0})). Follows g w w.step 2 3 (tally_with l t) m (Settles st q k t.now m) (Leaving st z.exits k t.now m) y)
+    (sym (sides_same o yes' (λ v. done tt v)))
     (widen g w (pos cut.0 - pos p + 0) 1 3 w.step 2 3 (tally_with l t) m (Settles st q k t.now m) (Leaving st z.exits k t.now m)
-    (then_go (decided value t) (λ b v. if b then code_dropped (yes' v) else code_dropped (done tt v)))
-    (control.choices g w st z.exits (pos cut.0 - pos p) 0 cut.0 q q k (tally_with l t) m t.now m (decided value t) (λ v. code_dropped (yes' v))
+    (then_go o (λ b v. if b then code_dropped (yes' v) else code_dropped (done tt v)))
+    (control.choices g w st z.exits (pos cut.0 - pos p) 0 cut.0 q q k (tally_with l t) m t.now m o (λ v. code_dropped (yes' v))
     (λ v. code_dropped (done tt v)) condition
     (λ s n truth less. widen g w 0 3 3 0 3 0 (tally s) n (Settles st q k t.now m) (Leaving st z.exits k t.now m) (code_dropped (yes' s))
     (side_follows z d k need (suc h + tested.marks) tested.wants a yes' cut.0 q t m x cut.2 front pays room fuel s n truth.0 less)
@@ -101,7 +113,8 @@ choices z d k need number at test a value yes' tests whole x = record {
   does = λ h ws p q s m stands front pays b.
       statements_begin_noted z.ground z.rate z.setting z.exits d number at p q k need s m
       (λ u. then_go (decided value u) (λ c v. code_dropped (if c then yes' v else done tt v))) b
-      (λ t same fewer ready. choice_inside z d k need (h + 0) ws at test a value yes' p q t s.begun m tests whole x stands.1 front pays ready);
+      (λ t same fewer ready. choice_inside z d k need (h + 0) ws at test a (decided value t) yes' p q t s.begun m
+      (decides_tests z d k need test value (record { at = p; due = Some at }) t s.begun m tests ready) whole x stands.1 front pays ready.room ready.fuel);
 }
 
 -- ---- with ELSE
@@ -131,13 +144,14 @@ first_side z d k need h ws a yes' r b c q l t m x stands front pays leads end ro
     (omega arith) (omega arith) (omega arith) (omega (arith, many))
 
 -- Behind the beginning: the test, and then the one side or the other.
-either_inside : (z : Surroundings) (d k need h : ℕ) (ws : List Wanted) (at : At) (test : ℕ → Part) (a b : Part) (value : State → Outcome (List ℕ))
-    (yes' no' : State → Outcome (Unit {0})) (p q : Spot) (t : State) (l : List Begun) (m : Machine) → Decides z d k need test value → IsWhole a → IsWhole b
+pub either_inside : (z : Surroundings) (d k need h : ℕ) (ws : List Wanted) (at : At) (test : ℕ → Part) (a b : Part) (o : Outcome Bool)
+    (yes' no' : State → Outcome (Unit {0})) (p q : Spot) (t : State) (l : List Begun) (m : Machine)
+    → Tests z k test (record { at = p; due = Some at }) t l m o → IsWhole a → IsWhole b
     → Performs z d k need a yes' → Performs z d k need b no' → Stands z.ground z.sites (record { at = p; due = Some at }) (chosen_or test a b h ws).pieces q
-    → IsFront (chosen_or test a b h ws).wants z.wants → pos q ≤ z.rate.step → Ready z.setting d (record { at = p; due = Some at }) k need t l m
+    → IsFront (chosen_or test a b h ws).wants z.wants → pos q ≤ z.rate.step → t.now.top + k + need ≤ t.now.stack → t.left ≤ d
     → Follows z.ground z.rate z.rate.step 2 3 (tally_with l t) m (Completes z.setting q k t.now m) (Leaving z.setting z.exits k t.now m)
-    (then_go (decided value t) (λ c v. code_dropped (if c then yes' v else no' v)))
-either_inside z d k need h ws at test a b value yes' no' p q t l m tests wa wb xa xb stands front pays ready =
+    (then_go o (λ c v. code_dropped (if c then yes' v else no' v)))
+either_inside z d k need h ws at test a b o yes' no' p q t l m tests wa wb xa xb stands front pays room fuel =
     let g = z.ground in
     let w = z.rate in
     let st = z.setting in
@@ -157,17 +171,15 @@ either_inside z d k need h ws at test a b value yes' no' p q t l m tests wa wb x
     let upto = side.3 in
     let rise = branch.1.rise in
     let behind = stands_le g z.sites two.pieces (on branch.0) q other.0 in
-    let room = ready.room in
-    let fuel = ready.fuel in
     let wants_one = front_on one.wants two.wants z.wants (wb.keeps i3 one.wants) front in
     let wants_test = front_on tested.wants one.wants z.wants (wa.keeps i2 tested.wants) wants_one in
-    let condition = test_follows z d k need h i1 ws test value first cut.0 t l m tests cut.1 wants_test ready in
-    settles_completes z w.step 2 3 k q t l m (then_go (decided value t) (λ c v. code_dropped (if c then yes' v else no' v)))
-    (subst (λ (o : Outcome (Unit {0})). Follows g w w.step 2 3 (tally_with l t) m (Settles st q k t.now m) (Leaving st z.exits k t.now m) o)
-    (sym (sides_same (decided value t) yes' no'))
+    let condition = tests.follows h i1 ws cut.0 cut.1 wants_test in
+    settles_completes z w.step 2 3 k q t l m (then_go o (λ c v. code_dropped (if c then yes' v else no' v)))
+    (subst (λ (y : Outcome (Unit {0})). Follows g w w.step 2 3 (tally_with l t) m (Settles st q k t.now m) (Leaving st z.exits k t.now m) y)
+    (sym (sides_same o yes' no'))
     (widen g w (pos cut.0 - pos p + (pos branch.0 - pos side.0)) 1 3 w.step 2 3 (tally_with l t) m (Settles st q k t.now m) (Leaving st z.exits k t.now m)
-    (then_go (decided value t) (λ c v. if c then code_dropped (yes' v) else code_dropped (no' v)))
-    (control.choices g w st z.exits (pos cut.0 - pos p) (pos branch.0 - pos side.0) cut.0 (z.sites.marks h) q k (tally_with l t) m t.now m (decided value t)
+    (then_go o (λ c v. if c then code_dropped (yes' v) else code_dropped (no' v)))
+    (control.choices g w st z.exits (pos cut.0 - pos p) (pos branch.0 - pos side.0) cut.0 (z.sites.marks h) q k (tally_with l t) m t.now m o
     (λ v. code_dropped (yes' v)) (λ v. code_dropped (no' v)) condition
     (λ s n truth less. first_side z d k need i2 tested.wants a yes' cut.0 side.0 branch.0 q (suc h) t m xa side.1 wants_one
     (omega (arith, rise, behind, pays)) branch.1 other.1 room fuel s n truth.0 less)
@@ -182,5 +194,6 @@ eithers z d k need number at test a b value yes' no' tests wa wb xa xb = record 
   does = λ h ws p q s m stands front pays begins.
       statements_begin_noted z.ground z.rate z.setting z.exits d number at p q k need s m
       (λ u. then_go (decided value u) (λ c v. code_dropped (if c then yes' v else no' v))) begins
-      (λ t same fewer ready. either_inside z d k need (h + 0) ws at test a b value yes' no' p q t s.begun m tests wa wb xa xb stands.1 front pays ready);
+      (λ t same fewer ready. either_inside z d k need (h + 0) ws at test a b (decided value t) yes' no' p q t s.begun m
+      (decides_tests z d k need test value (record { at = p; due = Some at }) t s.begun m tests ready) wa wb xa xb stands.1 front pays ready.room ready.fuel);
 }

@@ -7,11 +7,11 @@ use Rattle.spl_branch.specs.declared.pieces.Piece.TheVariants.{Begin}
 use Rattle.spl_meaning.specs.Elements.{with_one}
 use Rattle.spl_meaning.specs.Laws.{IsFront}
 use Rattle.spl_meaning.specs.Operations.{is_odd}
-use Rattle.spl_meaning.specs.States.{State, Outcome, done, then_go, beginning, stopping, code_dropped}
-use Rattle.spl_meaning.specs.Statements.{looping, repeating}
+use Rattle.spl_meaning.specs.States.{State, Outcome, done, then_go, stepping, without_code, noted, beginning, stopping, code_dropped}
+use Rattle.spl_meaning.specs.Statements.{looping, repeating, code_tested}
 use Rattle.spl_code.specs.Instructions.{DEL}
 use Rattle.spl_code.specs.Parts.{Part, Wanted, piece, nothing, ◌⨟◌}
-use Rattle.spl_code.specs.Code.{as_value, as_test}
+use Rattle.spl_code.specs.Code.{as_value, as_test, related}
 use Rattle.spl_statement_code.specs.Statements.{chosen, chosen_or, repeated_while, repeated_until, arm, chosen_among}
 use Rattle.spl_follow.specs.Spots.{Spot, pos, on}
 use Rattle.spl_follow.specs.Matching.{IsValue}
@@ -45,6 +45,25 @@ EitherPerforms = (z : Surroundings) (d k need number : ℕ) (at : At) (test : �
     (yes' no' : State → Outcome (Unit {0})) → Decides z d k need test value → IsWhole a → IsWhole b → Performs z d k need a yes' → Performs z d k need b no'
     → Performs z d k need (piece (Begin at) ⨟ chosen_or test a b)
     (λ s. stopping number at s (λ u. then_go (decided value u) (λ c v. code_dropped (if c then yes' v else no' v))))
+
+-- ---- the condition code
+
+-- A test of the condition code, which a call has left: a step, the note, and the relation that the code answers. Where none is known the run strays.
+abbrev pub told : ℕ → ℕ → At → State → (Bool → State → Outcome (Unit {0})) → Outcome (Unit {0})
+told number op at s go = stepping s (λ t. code_tested op t.code (noted number at t) (λ b u. go b (without_code u)))
+
+-- IF on the condition code, without ELSE and with it
+abbrev pub CodeChoicesPerform : Type 0
+CodeChoicesPerform = (z : Surroundings) (d k need number op : ℕ) (at : At) (a : Part) (yes' : State → Outcome (Unit {0})) → IsWhole a
+    → Performs z d k need a yes'
+    → Performs z d k need (piece (Begin at) ⨟ chosen (λ fail. related op fail) a)
+    (λ s. told number op at s (λ b v. code_dropped (if b then yes' v else done tt v)))
+
+abbrev pub CodeEitherPerforms : Type 0
+CodeEitherPerforms = (z : Surroundings) (d k need number op : ℕ) (at : At) (a b : Part) (yes' no' : State → Outcome (Unit {0})) → IsWhole a → IsWhole b
+    → Performs z d k need a yes' → Performs z d k need b no'
+    → Performs z d k need (piece (Begin at) ⨟ chosen_or (λ fail. related op fail) a b)
+    (λ s. told number op at s (λ c v. code_dropped (if c then yes' v else no' v)))
 
 -- ---- CASE
 

@@ -3,4 +3,4 @@
 
 mod laws;
 
-pub use laws::{cases_perform, choices_perform, loops_perform};
+pub use laws::{cases_perform, choices_perform, code_choices_perform, loops_perform};

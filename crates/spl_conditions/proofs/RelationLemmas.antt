@@ -46,7 +46,7 @@ use Rattle.spl_conditions.proofs.ConditionLemmas.{Answers, answers_then, conditi
 -- ---- where the branch leads
 
 -- the mask names the codes in which a relation does not hold
-fails_where : (n : ℕ) (c : Code) (to r : Spot)
+pub fails_where : (n : ℕ) (c : Code) (to r : Spot)
     → (if is_named (failing_codes n) c then to else r) ≡ (if is_odd (truth_word (related n c)) then r else to)
 unfolding is_named
 fails_where n c to r = by (n == 0) (n == 1) (n == 2) (n == 3) (n == 4) c where
