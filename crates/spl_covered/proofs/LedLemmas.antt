@@ -24,7 +24,7 @@ use Rattle.spl_code.specs.Code as made
 use Rattle.spl_code.specs.Code.{Aim, as_value, closing, code}
 use Rattle.spl_follow.specs.Standing.{IsClosed}
 use Rattle.spl_follow.specs.Simulating.{Surroundings, Simulates}
-use Rattle.spl_values.specs.Reached.{is_word_kind, is_reached, IsWhole}
+use Rattle.spl_values.specs.Reached.{is_reached, IsWhole}
 use Rattle.spl_values.proofs.VariableLemmas.{both}
 use Rattle.spl_values.proofs.WholeLemmas.{whole_pieces, whole_first, whole_behind, same_simulates, first_simulates}
 use Rattle.spl_operands.proofs.ReadLemmas.{cells_give, elements_give}
@@ -169,13 +169,6 @@ led_case st x k (Some (n.intrinsic i)) pl e = absurd (false≢true e)
 led_case st x k (Some (n.procedure p)) pl e = absurd (false≢true e)
 led_case st x k (Some (n.subroutine p)) pl e = absurd (false≢true e)
 led_case st x k (Some n.unknown) pl e = absurd (false≢true e)
-
--- a value of a kind of one whole word has one word
-pub word_operand : (t : Kind) → is_word_kind t ≡ true → is_word_operand (of t) ≡ true
-word_operand kind.Integer e = refl
-word_operand kind.Logical e = refl
-word_operand kind.Byte e = absurd (false≢true e)
-word_operand kind.Double e = absurd (false≢true e)
 
 -- a kind of one word
 pub single_word : (to : Kind) → is_single to ≡ true → is_word_operand (of to) ≡ true

@@ -9,7 +9,7 @@ use Rattle.spl_meaning.specs.Places.{Place}
 use Rattle.spl_meaning.specs.References.{Setting, Access, by_address, by_cell, access_of}
 use Rattle.spl_meaning.specs.Values.{small_constant}
 use Rattle.spl_code.specs.Calls.{Scope}
-use Rattle.spl_values.specs.Reached.{is_word_kind, is_reached, is_sum, is_word_class}
+use Rattle.spl_values.specs.Reached.{is_reached, is_sum, is_word_class}
 use Rattle.spl_operators.specs.Laws.{is_quotient, is_bitwise, is_single}
 
 -- a place that there is, and that is reached
@@ -28,12 +28,12 @@ is_led st k (by_address t) place = is_single t && (not st.split && has_reached s
 is_led st k (by_cell is_pointer t) place = is_led_element st k (by_cell is_pointer t) place
 is_led st k _ place = false
 
--- a name without an index: a constant that has a value; a simple variable or a parameter by value of one word, where it is reached; or one whose
--- word leads to a word
+-- a name without an index: a constant that has a value; a simple variable or a parameter by value of one word or BYTE, where it is reached; or
+-- one whose word leads to a word
 abbrev pub is_covered_name : Setting → ℕ → Option Sort → Option Place → Bool
 is_covered_name st k (Some (n.equate (Some v))) place = true
-is_covered_name st k (Some (n.simple t own)) place = is_word_kind t && has_reached st k place
-is_covered_name st k (Some (n.value t)) place = is_word_kind t && has_reached st k place
+is_covered_name st k (Some (n.simple t own)) place = is_single t && has_reached st k place
+is_covered_name st k (Some (n.value t)) place = is_single t && has_reached st k place
 is_covered_name st k sort place = is_led st k (access_of sort) place
 
 -- an operator of two operands by its number, none of AND and OR, and no relation: + - * / MOD, LOR, XOR and LAND

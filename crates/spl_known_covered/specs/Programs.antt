@@ -13,7 +13,7 @@ abbrev pub AllSo : Bool → List String → Type 0
 AllSo covered [] = Unit {0}
 AllSo covered (t ∷ ts) = IsSo covered t × AllSo covered ts
 
--- sums, loops, choices, elements of arrays, and what is declared and not called
+-- sums, loops, choices, elements of arrays, BYTEs, and what is declared and not called
 abbrev pub covered_texts : List String
 covered_texts =
     "BEGIN INTEGER I; INTRINSIC QUIT; I:=2; I:=I+3; QUIT(I) END."
@@ -22,14 +22,14 @@ covered_texts =
     ∷ "BEGIN INTEGER I; CASE I OF BEGIN I:=1; I:=2 END END."
     ∷ "BEGIN INTEGER ARRAY A(0:9); INTEGER I; A(3):=7; I:=A(I+3)*2 END."
     ∷ "BEGIN BYTE ARRAY B(0:3); B(1):=65 END."
+    ∷ "BEGIN BYTE C,D; C:=65; IF C=65 THEN D:=C+1 END."
     ∷ "BEGIN INTEGER I; PROCEDURE P; I:=1; I:=2 END."
     ∷ "BEGIN INTRINSIC TERMINATE; TERMINATE END." ∷ []
 
--- a BYTE variable, a DOUBLE, a label, a call of a procedure, an intrinsic that goes on, and a unit without a main body
+-- a DOUBLE, a label, a call of a procedure, an intrinsic that goes on, and a unit without a main body
 abbrev pub other_texts : List String
 other_texts =
-    "BEGIN BYTE C; C:=65 END."
-    ∷ "BEGIN DOUBLE D; D:=1D END."
+    "BEGIN DOUBLE D; D:=1D END."
     ∷ "BEGIN INTEGER I; L: I:=1; GO TO L END."
     ∷ "BEGIN INTEGER I; PROCEDURE P; I:=1; P END."
     ∷ "BEGIN LOGICAL ARRAY W(0:3); INTRINSIC PRINT; PRINT(W,2,0) END."

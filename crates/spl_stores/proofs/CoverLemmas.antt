@@ -37,7 +37,8 @@ use Rattle.spl_follow.specs.Standing.{IsClosed, due_after}
 use Rattle.spl_follow.specs.Simulating.{Surroundings, Simulates, Performs}
 use Rattle.spl_follow.proofs.StandLemmas.{closed_any, closed_last, due_add}
 use Rattle.spl_control.proofs.SequenceLemmas.{idle_performs, nothing_performs, lists_perform}
-use Rattle.spl_values.specs.Reached.{is_word_kind, is_reached, IsWhole}
+use Rattle.spl_values.specs.Reached.{is_reached, IsWhole}
+use Rattle.spl_operators.specs.Laws.{is_single}
 use Rattle.spl_covered.specs.Covered.{is_covered}
 use Rattle.spl_covered.specs.Laws.{read_with}
 use Rattle.spl_values.proofs.VariableLemmas.{both}
@@ -61,26 +62,26 @@ use Rattle.spl_stores.proofs.ChoiceLemmas.{if_whole, if_performs, else_whole, el
 
 -- ---- targets
 
--- what a covered target is: a variable of one word where it is reached
+-- what a covered target is: a variable of one word or a BYTE where it is reached
 record IsTarget (st : Setting) (k : ℕ) (o : Option Sort) (pl : Option Place) : Type 0 where
   type : Kind
   place : Place
   access : target_access o ≡ its_own type
   made : assigned_access o ≡ its_own type
   is : pl ≡ Some place
-  word : is_word_kind type ≡ true
+  word : is_single type ≡ true
   reached : is_reached st k place ≡ true
 
 -- by what it stands for
 target_case : (st : Setting) (k : ℕ) (o : Option Sort) (pl : Option Place) → is_stored_name st k o pl ≡ true → IsTarget st k o pl
 target_case st k (Some (n.simple t own)) (Some place) e =
-    let two = both (is_word_kind t) (is_reached st k place) e in
+    let two = both (is_single t) (is_reached st k place) e in
     record { type = t; place = place; access = refl; made = refl; is = refl; word = two.0; reached = two.1 }
 target_case st k (Some (n.value t)) (Some place) e =
-    let two = both (is_word_kind t) (is_reached st k place) e in
+    let two = both (is_single t) (is_reached st k place) e in
     record { type = t; place = place; access = refl; made = refl; is = refl; word = two.0; reached = two.1 }
-target_case st k (Some (n.simple t own)) None e = absurd (false≢true (both (is_word_kind t) false e).1)
-target_case st k (Some (n.value t)) None e = absurd (false≢true (both (is_word_kind t) false e).1)
+target_case st k (Some (n.simple t own)) None e = absurd (false≢true (both (is_single t) false e).1)
+target_case st k (Some (n.value t)) None e = absurd (false≢true (both (is_single t) false e).1)
 target_case st k None pl e = absurd (false≢true e)
 target_case st k (Some (n.equate v)) pl e = absurd (false≢true e)
 target_case st k (Some (n.array t own low high)) pl e = absurd (false≢true e)
@@ -102,7 +103,7 @@ stored_code c st x k r =
     ∙ ap (λ (o : Option Place). at_place o (λ place. stored (its_own r.type) false k place)) r.is
 
 -- a store closes
-stored_closed : (st : Setting) (t : Kind) (k : ℕ) (place : Place) → is_word_kind t ≡ true → is_reached st k place ≡ true
+stored_closed : (st : Setting) (t : Kind) (k : ℕ) (place : Place) → is_single t ≡ true → is_reached st k place ≡ true
     → IsClosed (stored (its_own t) false k place)
 stored_closed st kind.Integer k (data_word n) e r = refl
 stored_closed st kind.Integer k (above_base n) e r = refl
@@ -111,7 +112,9 @@ stored_closed st kind.Logical k (data_word n) e r = refl
 stored_closed st kind.Logical k (above_base n) e r = refl
 stored_closed st kind.Logical k (below_base n) e r = refl
 stored_closed st t k (below_return n) e r = absurd (false≢true r)
-stored_closed st kind.Byte k place e r = absurd (false≢true e)
+stored_closed st kind.Byte k (data_word n) e r = refl
+stored_closed st kind.Byte k (above_base n) e r = refl
+stored_closed st kind.Byte k (below_base n) e r = refl
 stored_closed st kind.Double k place e r = absurd (false≢true e)
 
 -- ---- assignments
