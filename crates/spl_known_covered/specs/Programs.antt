@@ -13,7 +13,7 @@ abbrev pub AllSo : Bool → List String → Type 0
 AllSo covered [] = Unit {0}
 AllSo covered (t ∷ ts) = IsSo covered t × AllSo covered ts
 
--- sums, loops, choices, elements of arrays, BYTEs, and what is declared and not called
+-- sums, loops, choices, elements of arrays, BYTEs, bit fields, pointers, and what is declared and not called
 abbrev pub covered_texts : List String
 covered_texts =
     "BEGIN INTEGER I; INTRINSIC QUIT; I:=2; I:=I+3; QUIT(I) END."
@@ -23,6 +23,8 @@ covered_texts =
     ∷ "BEGIN INTEGER ARRAY A(0:9); INTEGER I; A(3):=7; I:=A(I+3)*2 END."
     ∷ "BEGIN BYTE ARRAY B(0:3); B(1):=65 END."
     ∷ "BEGIN BYTE C,D; C:=65; IF C=65 THEN D:=C+1 END."
+    ∷ "BEGIN INTEGER I; LOGICAL ARRAY L(0:3); I.(4:3):=5; L(1).(0:2):=I.(4:3) END."
+    ∷ "BEGIN INTEGER ARRAY A(0:3); INTEGER POINTER P; @P:=@A(1); P:=7; P(1):=P END."
     ∷ "BEGIN INTEGER I; PROCEDURE P; I:=1; I:=2 END."
     ∷ "BEGIN INTRINSIC TERMINATE; TERMINATE END." ∷ []
 

@@ -18,7 +18,7 @@ use Rattle.spl_meaning.specs.Names as n
 use Rattle.spl_meaning.specs.Names.{Sort}
 use Rattle.spl_meaning.specs.Operations.{kept}
 use Rattle.spl_meaning.specs.Laws.{IsFront}
-use Rattle.spl_meaning.specs.Pending.{most, statements_most}
+use Rattle.spl_meaning.specs.Pending.{most, waiting, statements_most}
 use Rattle.spl_meaning.specs.Places.{Place, data_word, above_base, below_base, below_return}
 use Rattle.spl_meaning.specs.References.{Here, Setting, Access, its_own, address_of, variable_located, target_access, own_located, locate_by, locate_target, store}
 use Rattle.spl_meaning.specs.States.{State, then_go, stopping}
@@ -52,7 +52,8 @@ use Rattle.spl_stores.specs.Laws.{MayCall, CoveredStatementsAreWhole, CoveredSta
 use Rattle.spl_stores.proofs.StoreLemmas.{assignments}
 use Rattle.spl_stores.proofs.BlockLemmas.{blocks}
 use Rattle.spl_targets.specs.Targets.{is_led_target}
-use Rattle.spl_targets.proofs.ElementLemmas.{no_intrinsic, either, led_targets_whole, led_targets}
+use Rattle.spl_targets.proofs.ElementLemmas.{no_intrinsic, either}
+use Rattle.spl_targets.proofs.TargetLemmas.{led_targets_whole, led_targets}
 use Rattle.spl_stores.proofs.SameLemmas.{then_same, stopping_same, same_performs}
 use Rattle.spl_stores.proofs.CallLemmas.{call_whole, call_performs}
 use Rattle.spl_stores.proofs.CaseLemmas.{cased_whole, first_arm, case_performs}
@@ -233,8 +234,13 @@ mutual
   statement_whole c st (stat.Statement.assign (stat.Target.plain (tree.Tree.field a start size there)) v at) k e = absurd (false≢true e)
   statement_whole c st (stat.Statement.assign (stat.Target.plain (tree.Tree.transfer t a there)) v at) k e = absurd (false≢true e)
   statement_whole c st (stat.Statement.assign (stat.Target.plain (tree.Tree.bytes o a b count there)) v at) k e = absurd (false≢true e)
-  statement_whole c st (stat.Statement.assign (stat.Target.field r start size) v at) k e = absurd (false≢true e)
-  statement_whole c st (stat.Statement.assign (stat.Target.address x there) v at) k e = absurd (false≢true e)
+  statement_whole c st (stat.Statement.assign (stat.Target.field r start size) v at) k e =
+      let to = stat.Target.field r start size in
+      let two = both (is_led_target c.scope st to k) (is_covered c.scope st v (waiting to k)) e in
+      led_targets_whole c st to v at k two.0 two.1
+  statement_whole c st (stat.Statement.assign (stat.Target.address x there) v at) k e =
+      let two = both (is_led_target c.scope st (stat.Target.address x there) k) (is_covered c.scope st v k) e in
+      led_targets_whole c st (stat.Target.address x there) v at k two.0 two.1
   statement_whole c st (stat.Statement.labelled y at s) k e = absurd (false≢true e)
   statement_whole c st (stat.Statement.if_test (stat.Test.condition v) s stat.Statements.none at) k e =
       let two = both (is_covered c.scope st v k) (is_covered_statement c.scope st s k) e in
@@ -321,8 +327,13 @@ mutual
   statement_performs c results z call d number (stat.Statement.assign (stat.Target.plain (tree.Tree.field a start size there)) v at) k need e enough may = absurd (false≢true e)
   statement_performs c results z call d number (stat.Statement.assign (stat.Target.plain (tree.Tree.transfer t a there)) v at) k need e enough may = absurd (false≢true e)
   statement_performs c results z call d number (stat.Statement.assign (stat.Target.plain (tree.Tree.bytes o a b count there)) v at) k need e enough may = absurd (false≢true e)
-  statement_performs c results z call d number (stat.Statement.assign (stat.Target.field r start size) v at) k need e enough may = absurd (false≢true e)
-  statement_performs c results z call d number (stat.Statement.assign (stat.Target.address x there) v at) k need e enough may = absurd (false≢true e)
+  statement_performs c results z call d number (stat.Statement.assign (stat.Target.field r start size) v at) k need e enough may =
+      let to = stat.Target.field r start size in
+      let two = both (is_led_target c.scope z.setting to k) (is_covered c.scope z.setting v (waiting to k)) e in
+      led_targets c results z call d number to v at k need two.0 two.1 enough
+  statement_performs c results z call d number (stat.Statement.assign (stat.Target.address x there) v at) k need e enough may =
+      let two = both (is_led_target c.scope z.setting (stat.Target.address x there) k) (is_covered c.scope z.setting v k) e in
+      led_targets c results z call d number (stat.Target.address x there) v at k need two.0 two.1 enough
   statement_performs c results z call d number (stat.Statement.labelled y at s) k need e enough may = absurd (false≢true e)
   statement_performs c results z call d number (stat.Statement.if_test (stat.Test.condition v) s stat.Statements.none at) k need e enough may =
       let two = both (is_covered c.scope z.setting v k) (is_covered_statement c.scope z.setting s k) e in
