@@ -26,10 +26,12 @@ use Rattle.spl_values.proofs.VariableLemmas.{both}
 use Rattle.spl_values.proofs.WholeLemmas.{whole_then, same_simulates}
 use Rattle.spl_conditions.proofs.ConnectiveLemmas.{connected_whole, connectives}
 use Rattle.spl_operators.specs.Laws.{is_word_operand, is_single}
-use Rattle.spl_covered.specs.Covered.{is_led_element, is_covered_operator, is_covered_sign, is_covered}
+use Rattle.spl_covered.specs.Covered.{is_led_element, is_addressed_element, is_covered_operator, is_covered_sign, is_covered}
 use Rattle.spl_covered.specs.Laws.{read_with, CoveredCodeIsWhole, CoveredTestsAreWhole, CoveredValuesSimulate, CoveredTestsSimulate}
 use Rattle.spl_covered.proofs.LedLemmas.{single_word, element_case, kind_operand, element_whole, element_simulates}
 use Rattle.spl_covered.proofs.NameLemmas.{closing_whole, constant_whole, constant_simulates, text_whole, text_simulates, name_cases, name_whole, name_simulates}
+use Rattle.spl_covered.proofs.AddressLemmas as located
+use Rattle.spl_covered.proofs.AddressLemmas.{addressed_case, address_whole, address_simulates}
 use Rattle.spl_covered.proofs.OperatorLemmas.{truths, where_true, where_false, of_true, of_false, four, connective_operand, binary_word, word_wide, operated_whole, operated_simulates}
 use Rattle.spl_covered.proofs.UnaryLemmas.{sign_word, sign_whole, sign_simulates, shift_whole, shift_simulates, field_whole, field_simulates, transfer_whole, transfer_simulates}
 
@@ -144,7 +146,7 @@ covered_word c st (tree.Tree.binary o a b at) k e =
     (λ i. binary_word o (kind_of c.names a) (kind_of c.names b) (operator_parts c st o a b at k i e).class) (truths (is_connective o))
 covered_word c st (tree.Tree.named x (tree.Trees.and i (tree.Trees.and j js)) at) k e = absurd (false≢true e)
 covered_word c st (tree.Tree.wide v) k e = absurd (false≢true e)
-covered_word c st (tree.Tree.address x es at) k e = absurd (false≢true e)
+covered_word c st (tree.Tree.address x es at) k e = refl
 covered_word c st (tree.Tree.bytes o a b count at) k e = absurd (false≢true e)
 
 -- so it is one word wide
@@ -181,7 +183,11 @@ code_whole c st (tree.Tree.binary o a b at) aim k e =
     (truths (is_connective o))
 code_whole c st (tree.Tree.named x (tree.Trees.and i (tree.Trees.and j js)) at) aim k e = absurd (false≢true e)
 code_whole c st (tree.Tree.wide v) aim k e = absurd (false≢true e)
-code_whole c st (tree.Tree.address x es at) aim k e = absurd (false≢true e)
+code_whole c st (tree.Tree.address x tree.Trees.none at) aim k e = address_whole c st x at aim k e
+code_whole c st (tree.Tree.address x (tree.Trees.and i tree.Trees.none) at) aim k e =
+    let two = both (is_addressed_element st k (access_of (c.names x)) (c.places x)) (is_covered c st i k) e in
+    located.element_whole c st x i at aim k (addressed_case st k (access_of (c.names x)) (c.places x) two.0) (code_whole c st i as_value k two.1)
+code_whole c st (tree.Tree.address x (tree.Trees.and i (tree.Trees.and j js)) at) aim k e = absurd (false≢true e)
 code_whole c st (tree.Tree.bytes o a b count at) aim k e = absurd (false≢true e)
 
 pub covered_whole : CoveredCodeIsWhole
@@ -211,6 +217,10 @@ either_room names o a b at need i room =
 index_room : (names : Names) (x : List ℕ) (i : Tree) (at : At) (need : ℕ) → most names (tree.Tree.named x (tree.Trees.and i tree.Trees.none) at) + 8 ≤ need
     → most names i + 8 ≤ need
 index_room names x i at need room = omega (arith, room)
+
+address_room : (names : Names) (x : List ℕ) (i : Tree) (at : At) (need : ℕ)
+    → most names (tree.Tree.address x (tree.Trees.and i tree.Trees.none) at) + 8 ≤ need → most names i + 8 ≤ need
+address_room names x i at need room = omega (arith, room)
 
 -- Along the tree, each construct over its parts.
 simulated : (c : Scope) (results : List ℕ → Option (Kind × Place)) (z : Surroundings) (call : Callee) (d : ℕ) (e : Tree) (aim : Aim) (k need : ℕ)
@@ -263,7 +273,13 @@ simulated c results z call d (tree.Tree.binary o a b at) aim k need e enough =
     (truths (is_connective o))
 simulated c results z call d (tree.Tree.named x (tree.Trees.and i (tree.Trees.and j js)) at) aim k need e enough = absurd (false≢true e)
 simulated c results z call d (tree.Tree.wide v) aim k need e enough = absurd (false≢true e)
-simulated c results z call d (tree.Tree.address x es at) aim k need e enough = absurd (false≢true e)
+simulated c results z call d (tree.Tree.address x tree.Trees.none at) aim k need e enough =
+    address_simulates c results z call d x at aim k need e (omega (arith, enough))
+simulated c results z call d (tree.Tree.address x (tree.Trees.and i tree.Trees.none) at) aim k need e enough =
+    let two = both (is_addressed_element z.setting k (access_of (c.names x)) (c.places x)) (is_covered c z.setting i k) e in
+    located.element_simulates c results z call d x i at aim k need (addressed_case z.setting k (access_of (c.names x)) (c.places x) two.0) (omega (arith, enough))
+    (code_whole c z.setting i as_value k two.1) (simulated c results z call d i as_value k need two.1 (address_room c.names x i at need enough))
+simulated c results z call d (tree.Tree.address x (tree.Trees.and i (tree.Trees.and j js)) at) aim k need e enough = absurd (false≢true e)
 simulated c results z call d (tree.Tree.bytes o a b count at) aim k need e enough = absurd (false≢true e)
 
 -- the kind of a covered value is that of one word

@@ -18,13 +18,13 @@ use Rattle.spl_meaning.specs.Values.{Callee, Sense, a_variable, sense_of, as_ind
 use Rattle.spl_branch.specs.declared.pieces.Piece.{Piece}
 use Rattle.spl_code.specs.Parts.{Part, pieces, nothing, ◌⨟◌}
 use Rattle.spl_code.specs.Operands.{mode_of, load, loaded, index_to_x, at_place}
-use Rattle.spl_code.specs.Stores.{from_top, stored, cell_stored}
+use Rattle.spl_code.specs.Stores.{from_top, stored, cell_stored, field_stored, cell_field}
 use Rattle.spl_code.specs.Calls.{Scope}
 use Rattle.spl_code.specs.Code as made
 use Rattle.spl_code.specs.Code.{Aim, as_value, closing, code}
 use Rattle.spl_follow.specs.Standing.{IsClosed}
 use Rattle.spl_follow.specs.Simulating.{Surroundings, Simulates}
-use Rattle.spl_values.specs.Reached.{is_word_kind, is_reached, IsWhole}
+use Rattle.spl_values.specs.Reached.{is_reached, IsWhole}
 use Rattle.spl_values.proofs.VariableLemmas.{both}
 use Rattle.spl_values.proofs.WholeLemmas.{whole_pieces, whole_first, whole_behind, same_simulates, first_simulates}
 use Rattle.spl_operands.proofs.ReadLemmas.{cells_give, elements_give}
@@ -56,6 +56,7 @@ pub record IsLed (st : Setting) (x : List ℕ) (k : ℕ) (o : Option Sort) (pl :
   pub sense : sense_of x o ≡ a_variable
   pub loads : loaded (access_of o) false (mode_of k place) ≡ load type true false (mode_of k place) ∷ []
   pub stores : stored (access_of o) false k place ≡ cell_stored type (from_top place) (mode_of k place)
+  pub fields : (start size : ℕ) → field_stored (access_of o) start size false k place ≡ cell_field start size (from_top place) (mode_of k place)
   pub leads : (c : Scope) (results : List ℕ → Option (Kind × Place)) (s : State)
       → locate_by (read_with c results st) x (access_of o) None s ≡ led_located far type (c.places x) 0 s
   pub operand : named_operand o ≡ of type
@@ -119,6 +120,7 @@ first_of st x k o pl r = record {
   sense = r.sense;
   loads = ap (λ (a : Access). loaded a false (mode_of k r.place)) r.access;
   stores = ap (λ (a : Access). stored a false k r.place) r.access;
+  fields = λ start size. ap (λ (a : Access). field_stored a start size false k r.place) r.access;
   leads = λ c results s. ap (λ (a : Access). locate_by (read_with c results st) x a None s) r.access;
   operand = r.operand;
   is = r.is;
@@ -141,6 +143,7 @@ of_address st x k t (Some place) e =
       sense = refl;
       loads = refl;
       stores = refl;
+      fields = λ start size. refl;
       leads = λ c results s. refl;
       operand = refl;
       is = refl;
@@ -164,13 +167,6 @@ led_case st x k (Some (n.intrinsic i)) pl e = absurd (false≢true e)
 led_case st x k (Some (n.procedure p)) pl e = absurd (false≢true e)
 led_case st x k (Some (n.subroutine p)) pl e = absurd (false≢true e)
 led_case st x k (Some n.unknown) pl e = absurd (false≢true e)
-
--- a value of a kind of one whole word has one word
-pub word_operand : (t : Kind) → is_word_kind t ≡ true → is_word_operand (of t) ≡ true
-word_operand kind.Integer e = refl
-word_operand kind.Logical e = refl
-word_operand kind.Byte e = absurd (false≢true e)
-word_operand kind.Double e = absurd (false≢true e)
 
 -- a kind of one word
 pub single_word : (to : Kind) → is_single to ≡ true → is_word_operand (of to) ≡ true

@@ -26,15 +26,16 @@ use Rattle.spl_code.specs.Code.{Aim, as_value, as_test, closing, code}
 use Rattle.spl_code.specs.Instructions.{LDI, LDNI, LSL, ORI, BRE}
 use Rattle.spl_follow.specs.Standing.{IsClosed, due_after}
 use Rattle.spl_follow.specs.Simulating.{Surroundings, Simulates}
-use Rattle.spl_values.specs.Reached.{is_word_kind, is_reached, IsWhole}
+use Rattle.spl_values.specs.Reached.{is_reached, IsWhole}
 use Rattle.spl_values.proofs.ConstantLemmas.{constants_give}
-use Rattle.spl_values.proofs.VariableLemmas.{both, variables_give}
+use Rattle.spl_values.proofs.VariableLemmas.{both}
 use Rattle.spl_values.proofs.WholeLemmas.{whole_pieces, whole_first, whole_last, whole_behind, same_simulates, first_simulates}
-use Rattle.spl_operators.specs.Laws.{is_word_operand}
+use Rattle.spl_operators.specs.Laws.{is_word_operand, is_single}
+use Rattle.spl_variables.proofs.OwnLemmas.{own_words_give}
 use Rattle.spl_conditions.proofs.ConditionLemmas.{closed_values}
 use Rattle.spl_covered.specs.Covered.{is_covered_name}
 use Rattle.spl_covered.specs.Laws.{read_with}
-use Rattle.spl_covered.proofs.LedLemmas.{IsLed, led_case, word_operand, led_code, led_whole, led_simulates}
+use Rattle.spl_covered.proofs.LedLemmas.{IsLed, led_case, single_word, single_width, led_code, led_whole, led_simulates}
 
 -- ---- what is wanted
 
@@ -83,7 +84,7 @@ pub record IsVariable (st : Setting) (x : List ℕ) (k : ℕ) (o : Option Sort) 
   pub access : access_of o ≡ its_own type
   pub operand : is_word_operand (named_operand o) ≡ true
   pub is : pl ≡ Some place
-  pub word : is_word_kind type ≡ true
+  pub word : is_single type ≡ true
   pub reached : is_reached st k place ≡ true
 
 pub record IsConstant (x : List ℕ) (o : Option Sort) : Type 0 where
@@ -96,13 +97,13 @@ pub name_cases : (st : Setting) (x : List ℕ) (k : ℕ) (o : Option Sort) (pl :
     → IsConstant x o ⊎ (IsVariable st x k o pl ⊎ IsLed st x k o pl)
 name_cases st x k (Some (n.equate (Some v))) pl e = inl (record { number = v; sense = refl; operand = refl })
 name_cases st x k (Some (n.simple t own)) (Some place) e =
-    let two = both (is_word_kind t) (is_reached st k place) e in
-    inr (inl (record { type = t; place = place; sense = refl; access = refl; operand = word_operand t two.0; is = refl; word = two.0; reached = two.1 }))
+    let two = both (is_single t) (is_reached st k place) e in
+    inr (inl (record { type = t; place = place; sense = refl; access = refl; operand = single_word t two.0; is = refl; word = two.0; reached = two.1 }))
 name_cases st x k (Some (n.value t)) (Some place) e =
-    let two = both (is_word_kind t) (is_reached st k place) e in
-    inr (inl (record { type = t; place = place; sense = refl; access = refl; operand = word_operand t two.0; is = refl; word = two.0; reached = two.1 }))
-name_cases st x k (Some (n.simple t own)) None e = absurd (false≢true (both (is_word_kind t) false e).1)
-name_cases st x k (Some (n.value t)) None e = absurd (false≢true (both (is_word_kind t) false e).1)
+    let two = both (is_single t) (is_reached st k place) e in
+    inr (inl (record { type = t; place = place; sense = refl; access = refl; operand = single_word t two.0; is = refl; word = two.0; reached = two.1 }))
+name_cases st x k (Some (n.simple t own)) None e = absurd (false≢true (both (is_single t) false e).1)
+name_cases st x k (Some (n.value t)) None e = absurd (false≢true (both (is_single t) false e).1)
 name_cases st x k None pl e = absurd (false≢true e)
 name_cases st x k (Some (n.equate None)) pl e = absurd (false≢true e)
 name_cases st x k (Some (n.array t own low high)) pl e = inr (inr (led_case st x k (Some (n.array t own low high)) pl e))
@@ -133,16 +134,24 @@ variable_code c st x at aim k r =
     ∙ ap (λ (o : Option Place). nothing ⨟ pieces (at_place o (λ place. loaded (its_own r.type) false (mode_of k place))) ⨟ closing aim) r.is
 
 -- a load closes
-loaded_closed : (t : Kind) (k : ℕ) (place : Place) → is_word_kind t ≡ true → IsClosed (loaded (its_own t) false (mode_of k place))
+loaded_closed : (t : Kind) (k : ℕ) (place : Place) → is_single t ≡ true → IsClosed (loaded (its_own t) false (mode_of k place))
 loaded_closed kind.Integer k place e = refl
 loaded_closed kind.Logical k place e = refl
-loaded_closed kind.Byte k place e = absurd (false≢true e)
+loaded_closed kind.Byte k place e = refl
 loaded_closed kind.Double k place e = absurd (false≢true e)
 
 -- and so does a variable's code, with nothing before it
-variable_whole : (t : Kind) (k : ℕ) (place : Place) → is_word_kind t ≡ true → IsWhole (nothing ⨟ pieces (loaded (its_own t) false (mode_of k place)))
+variable_whole : (t : Kind) (k : ℕ) (place : Place) → is_single t ≡ true → IsWhole (nothing ⨟ pieces (loaded (its_own t) false (mode_of k place)))
 variable_whole t k place word =
     whole_first (pieces (loaded (its_own t) false (mode_of k place))) (whole_pieces (loaded (its_own t) false (mode_of k place)) (loaded_closed t k place word))
+
+-- a variable's one word is given
+one_variable : (z : Surroundings) (d k need : ℕ) (t : Kind) (place : Place) → is_single t ≡ true → is_reached z.setting k place ≡ true → 1 ≤ need
+    → Simulates z d as_value 1 k need (pieces (loaded (its_own t) false (mode_of k place))) (λ s. then_go (own_located t (Some place) None s) (λ p u. read p u))
+one_variable z d k need t place single reached enough =
+    let wide = single_width t single in
+    subst (λ (j : ℕ). Simulates z d as_value j k need (pieces (loaded (its_own t) false (mode_of k place))) (λ s. then_go (own_located t (Some place) None s) (λ p u. read p u)))
+    wide (own_words_give z d k need t place reached (omega (arith, wide, enough)))
 
 -- a covered name's code is whole, whatever is wanted of it
 pub name_whole : (c : Scope) (st : Setting) (x : List ℕ) (at : At) (aim : Aim) (k : ℕ) → is_covered_name st k (c.names x) (c.places x) ≡ true
@@ -176,7 +185,7 @@ name_simulates c results z call d x at aim k need e enough =
     (closed_values z d k need aim (nothing ⨟ pieces (loaded (its_own r.type) false (mode_of k r.place)))
     (λ s. then_go (own_located r.type (Some r.place) None s) (λ p t. read p t)) (variable_whole r.type k r.place r.word)
     (first_simulates z d as_value 1 k need (pieces (loaded (its_own r.type) false (mode_of k r.place))) (λ s. then_go (own_located r.type (Some r.place) None s) (λ p t. read p t))
-    (variables_give z d k need r.type r.place r.word r.reached enough))))
+    (one_variable z d k need r.type r.place r.word r.reached enough))))
     (λ r. led_simulates c results z call d x at aim k need r enough) other)
     (name_cases z.setting x k (c.names x) (c.places x) e) where
       h : Here

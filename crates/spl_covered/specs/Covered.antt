@@ -6,10 +6,10 @@ use Rattle.spl_meaning.specs.Names as n
 use Rattle.spl_meaning.specs.Names.{Names, Sort, text_value}
 use Rattle.spl_meaning.specs.Kinds.{positive, negative, complement, times, is_connective, is_relation, compares_text, kind_of, operand_width, class_of}
 use Rattle.spl_meaning.specs.Places.{Place}
-use Rattle.spl_meaning.specs.References.{Setting, Access, by_address, by_cell, access_of}
+use Rattle.spl_meaning.specs.References.{Setting, Access, its_own, by_address, by_cell, access_of}
 use Rattle.spl_meaning.specs.Values.{small_constant}
 use Rattle.spl_code.specs.Calls.{Scope}
-use Rattle.spl_values.specs.Reached.{is_word_kind, is_reached, is_sum, is_word_class}
+use Rattle.spl_values.specs.Reached.{is_reached, is_sum, is_word_class}
 use Rattle.spl_operators.specs.Laws.{is_quotient, is_bitwise, is_single}
 
 -- a place that there is, and that is reached
@@ -28,13 +28,24 @@ is_led st k (by_address t) place = is_single t && (not st.split && has_reached s
 is_led st k (by_cell is_pointer t) place = is_led_element st k (by_cell is_pointer t) place
 is_led st k _ place = false
 
--- a name without an index: a constant that has a value; a simple variable or a parameter by value of one word, where it is reached; or one whose
--- word leads to a word
+-- a name without an index: a constant that has a value; a simple variable or a parameter by value of one word or BYTE, where it is reached; or
+-- one whose word leads to a word
 abbrev pub is_covered_name : Setting → ℕ → Option Sort → Option Place → Bool
 is_covered_name st k (Some (n.equate (Some v))) place = true
-is_covered_name st k (Some (n.simple t own)) place = is_word_kind t && has_reached st k place
-is_covered_name st k (Some (n.value t)) place = is_word_kind t && has_reached st k place
+is_covered_name st k (Some (n.simple t own)) place = is_single t && has_reached st k place
+is_covered_name st k (Some (n.value t)) place = is_single t && has_reached st k place
 is_covered_name st k sort place = is_led st k (access_of sort) place
+
+-- A name has an address, without an index, where its place is reached: its own, or the one that its word is; and so have elements at an index.
+abbrev pub is_addressed : Setting → ℕ → Access → Option Place → Bool
+is_addressed st k (its_own t) place = has_reached st k place
+is_addressed st k (by_address t) place = has_reached st k place
+is_addressed st k (by_cell is_pointer t) place = has_reached st k place
+is_addressed st k _ place = false
+
+abbrev pub is_addressed_element : Setting → ℕ → Access → Option Place → Bool
+is_addressed_element st k (by_cell is_pointer t) place = has_reached st k place
+is_addressed_element st k _ place = false
 
 -- an operator of two operands by its number, none of AND and OR, and no relation: + - * / MOD, LOR, XOR and LAND
 abbrev pub is_plain : ℕ → Bool
@@ -49,8 +60,8 @@ abbrev pub is_covered_sign : ℕ → Bool
 is_covered_sign op = (op == complement) || ((op == positive) || (op == negative))
 
 -- An expression, in a body with this setting and while k words wait: numbers, truth values, strings that are a word, such names, and elements at
--- an index that is such; NOT, signs, shifts, fields within a word and transfers to kinds of one word of such; AND and OR of such; and the other
--- operators of such of one class, where they compare no bytes from a reference on.
+-- an index that is such; addresses of names, and of elements at such an index; NOT, signs, shifts, fields within a word and transfers to kinds of
+-- one word of such; AND and OR of such; and the other operators of such of one class, where they compare no bytes from a reference on.
 abbrev pub is_covered : Scope → Setting → Tree → ℕ → Bool
 is_covered c st (tree.Tree.number v) k = true
 is_covered c st (tree.Tree.truth b) k = true
@@ -58,6 +69,9 @@ is_covered c st (tree.Tree.text bytes) k = is_some (text_value bytes)
 is_covered c st (tree.Tree.named x tree.Trees.none at) k = is_covered_name st k (c.names x) (c.places x)
 is_covered c st (tree.Tree.named x (tree.Trees.and e tree.Trees.none) at) k =
     is_led_element st k (access_of (c.names x)) (c.places x) && is_covered c st e k
+is_covered c st (tree.Tree.address x tree.Trees.none at) k = is_addressed st k (access_of (c.names x)) (c.places x)
+is_covered c st (tree.Tree.address x (tree.Trees.and e tree.Trees.none) at) k =
+    is_addressed_element st k (access_of (c.names x)) (c.places x) && is_covered c st e k
 is_covered c st (tree.Tree.unary op a at) k = is_covered_sign op && is_covered c st a k
 is_covered c st (tree.Tree.shift op a by at) k = nat_lt op 6 && nat_lt (small_constant c.names by) 64 && is_covered c st a k
 is_covered c st (tree.Tree.field a start size at) k =

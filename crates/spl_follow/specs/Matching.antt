@@ -71,14 +71,14 @@ abbrev pub footing : Data → Footing
 footing d = record { top = d.top; base = d.base; inner = d.inner; stack = d.stack; room = d.room }
 
 -- The live frame of a body: its base, with what stands below it, is below its top, and that is within STACK. In a subroutine the return word
--- is the last of the frame, with what stands below that.
+-- is the last of the frame, with what stands below that. STACK is 32,000 words at most, so that twice the address of a variable is a word.
 pub record Lies (st : Setting) (f : Footing) : Type 0 where
   pub live : f.base < f.top
   pub deep : st.below ≤ f.base
   pub link : st.inside ≡ true → f.top ≡ f.inner + 1
   pub held : st.held ≤ f.inner
   pub within : f.top ≤ f.stack
-  pub least : f.stack ≤ 32767
+  pub least : f.stack ≤ 32000
 
 -- ---- matching
 

@@ -13,7 +13,7 @@ abbrev pub AllSo : Bool → List String → Type 0
 AllSo covered [] = Unit {0}
 AllSo covered (t ∷ ts) = IsSo covered t × AllSo covered ts
 
--- sums, loops, choices, elements of arrays, what is declared and not called, and calls of intrinsics by themselves and as what is assigned
+-- sums, loops, choices, elements of arrays, BYTEs, bit fields, pointers, what is declared and not called, and calls of intrinsics
 abbrev pub covered_texts : List String
 covered_texts =
     "BEGIN INTEGER I; INTRINSIC QUIT; I:=2; I:=I+3; QUIT(I) END."
@@ -22,16 +22,18 @@ covered_texts =
     ∷ "BEGIN INTEGER I; CASE I OF BEGIN I:=1; I:=2 END END."
     ∷ "BEGIN INTEGER ARRAY A(0:9); INTEGER I; A(3):=7; I:=A(I+3)*2 END."
     ∷ "BEGIN BYTE ARRAY B(0:3); B(1):=65 END."
+    ∷ "BEGIN BYTE C,D; C:=65; IF C=65 THEN D:=C+1 END."
+    ∷ "BEGIN INTEGER I; LOGICAL ARRAY L(0:3); I.(4:3):=5; L(1).(0:2):=I.(4:3) END."
+    ∷ "BEGIN INTEGER ARRAY A(0:3); INTEGER POINTER P; @P:=@A(1); P:=7; P(1):=P END."
     ∷ "BEGIN INTEGER I; PROCEDURE P; I:=1; I:=2 END."
     ∷ "BEGIN INTRINSIC TERMINATE; TERMINATE END."
     ∷ "BEGIN LOGICAL ARRAY W(0:3); INTEGER N; INTRINSIC READ,PRINT; N:=READ(W,-8); PRINT(W,-N,0) END."
     ∷ "BEGIN BYTE ARRAY B(0:7); LOGICAL L; INTEGER N; INTRINSIC ASCII,BINARY; N:=ASCII(6*7,10,B); L:=BINARY(B,N); ASCII(L,8,B) END." ∷ []
 
--- a BYTE variable, a DOUBLE, a label, a call of a procedure, an intrinsic within an expression, and a unit without a main body
+-- a DOUBLE, a label, a call of a procedure, an intrinsic within an expression, and a unit without a main body
 abbrev pub other_texts : List String
 other_texts =
-    "BEGIN BYTE C; C:=65 END."
-    ∷ "BEGIN DOUBLE D; D:=1D END."
+    "BEGIN DOUBLE D; D:=1D END."
     ∷ "BEGIN INTEGER I; L: I:=1; GO TO L END."
     ∷ "BEGIN INTEGER I; PROCEDURE P; I:=1; P END."
     ∷ "BEGIN LOGICAL ARRAY W(0:3); INTEGER N; INTRINSIC READ; N:=READ(W,4)+1 END."

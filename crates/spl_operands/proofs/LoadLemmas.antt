@@ -39,7 +39,7 @@ use Rattle.spl_operands.proofs.OperandLemmas.{moved_address, moved_side}
 -- ---- what is read
 
 -- a word that is seen is what the machine reads there, and one past its words traps
-seen_read : (place : Operand) (far : Bool) (a v : ℕ) (s : State) (m : Machine) → Sided place far m → address place ≡ a → Seen far a v s m
+pub seen_read : (place : Operand) (far : Bool) (a v : ℕ) (s : State) (m : Machine) → Sided place far m → address place ≡ a → Seen far a v s m
     → read_at place m ≡ Ok v
 seen_read place far a v s m side at seen =
     rows.read_there place far m side (subst (λ (b : ℕ). b < length (held far m)) (sym at) seen.there)
@@ -96,7 +96,7 @@ word_is_found kind.Byte mode i x m e = absurd (false≢true e)
 word_is_found kind.Double mode i x m e = absurd (false≢true e)
 
 -- where a load stands there is room for its words
-load_room : (st : Setting) (p : Point) (k n : ℕ) (d0 : Data) (m0 : Machine) (l : List Begun) (s : State) (m : Machine)
+pub load_room : (st : Setting) (p : Point) (k n : ℕ) (d0 : Data) (m0 : Machine) (l : List Begun) (s : State) (m : Machine)
     → Loading st p k n d0 m0 l s m → length m.stack + n ≤ m.stack_limit
 load_room st p k n d0 m0 l s m x =
     let words = x.matches.words in
@@ -105,7 +105,7 @@ load_room st p k n d0 m0 l s m x =
     omega (arith, words, room, limit)
 
 -- a value of n words behind a row that pushes them
-load_gives : (g : Ground) (w : Rate) (p : Point) (q : Spot) (F : Machine → Machine) (st : Setting) (k n : ℕ) (d0 : Data) (m0 : Machine) (l : List Begun)
+pub load_gives : (g : Ground) (w : Rate) (p : Point) (q : Spot) (F : Machine → Machine) (st : Setting) (k n : ℕ) (d0 : Data) (m0 : Machine) (l : List Begun)
     (s : State) (m : Machine) (vs : List ℕ) (o : Row) → Leads g p q F → F m ≡ going q o m → Loading st p k n d0 m0 l s m → Yields 0 vs m o → AreWords vs
     → length vs ≡ n → Follows g w (pos q - pos p.at) 0 w.reach (tally_with l s) m (IsValue st q n k d0 m0) NoExit (done vs s)
 load_gives g w p q F st k n d0 m0 l s m vs o leads is y row small wide =
@@ -113,14 +113,14 @@ load_gives g w p q F st k n d0 m0 l s m vs o leads is y row small wide =
     row_value g w p q F st l s m d0 m0 k 0 n vs o leads is y.at y.owes row (subst (λ (j : ℕ). Matched st s.now m j) none y.matches) y.kept y.silent small wide
 
 -- a load that traps
-load_traps : (g : Ground) (w : Rate) (p : Point) (q : Spot) (F : Machine → Machine) (st : Setting) (k n : ℕ) (d0 : Data) (m0 : Machine) (l : List Begun)
+pub load_traps : (g : Ground) (w : Rate) (p : Point) (q : Spot) (F : Machine → Machine) (st : Setting) (k n : ℕ) (d0 : Data) (m0 : Machine) (l : List Begun)
     (s : State) (m : Machine) (o : Row) → Leads g p q F → F m ≡ going q o m → Loading st p k n d0 m0 l s m → o ≡ Err Bounds
     → Follows g w (pos q - pos p.at) 0 w.reach (tally_with l s) m (IsValue st q n k d0 m0) NoExit (ends (trapped Bounds) s)
 load_traps g w p q F st k n d0 m0 l s m o leads is y lost =
     rows_trap g w p q q F st l s m d0 m0 k k n o Bounds leads is y.at y.owes y.matches lost
 
 -- one with which the run strays
-load_strays : (g : Ground) (w : Rate) (p : Point) (q : Spot) (F : Machine → Machine) (st : Setting) (k n : ℕ) (d0 : Data) (m0 : Machine) (l : List Begun)
+pub load_strays : (g : Ground) (w : Rate) (p : Point) (q : Spot) (F : Machine → Machine) (st : Setting) (k n : ℕ) (d0 : Data) (m0 : Machine) (l : List Begun)
     (s : State) (m : Machine) → Leads g p q F → Loading st p k n d0 m0 l s m
     → Follows g w (pos q - pos p.at) 0 w.reach (tally_with l s) m (IsValue st q n k d0 m0) NoExit (strays s)
 load_strays g w p q F st k n d0 m0 l s m leads y =

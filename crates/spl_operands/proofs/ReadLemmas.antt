@@ -2,6 +2,7 @@
 use Rattle.std.proofs.Common.{◌≡◌, ℕ, ◌+◌, ◌-◌, ◌≤◌, Bool, true, false, List, [], ◌∷◌, ◌++◌, length, take, refl, sym, subst, ◌∙◌, arith}
 use Rattle.std.specs.Prelude.{Option, Some, None}
 use Rattle.hp_instr.specs.declared.instruction.Instr.TheVariants as instr
+use Rattle.hp_instr.specs.declared.instruction.Mode.{Mode}
 use Rattle.hp_instr.specs.Instructions.{op}
 use Rattle.hp_session.specs.State.{Machine, word}
 use Rattle.hp_stack_rows.specs.StackRows.{operated}
@@ -13,7 +14,7 @@ use Rattle.spl_tree.specs.declared.expressions.Kind.TheVariants as kind
 use Rattle.spl_branch.specs.declared.pieces.Piece.TheVariants.{Do}
 use Rattle.spl_meaning.specs.Kinds.{width}
 use Rattle.spl_meaning.specs.Places.{Place}
-use Rattle.spl_meaning.specs.References.{Setting, led_located, index_or_zero, read}
+use Rattle.spl_meaning.specs.References.{Setting, Located, led_located, index_or_zero, read}
 use Rattle.spl_meaning.specs.States.{Data, State, Begun, Outcome, done, then_go}
 use Rattle.spl_meaning.specs.Values.{as_index}
 use Rattle.spl_code.specs.Code.{as_value}
@@ -22,7 +23,7 @@ use Rattle.spl_code.specs.Operands.{mode_of}
 use Rattle.spl_code.specs.Parts.{Part, pieces, ◌⨟◌}
 use Rattle.spl_follow.specs.Spots.{Spot, pos, Point, on, landed, Ground}
 use Rattle.spl_follow.specs.Leading.{Leads}
-use Rattle.spl_follow.specs.Matching.{outer, Matches, Kept, IsValue}
+use Rattle.spl_follow.specs.Matching.{outer, Matches, Matched, Kept, IsValue}
 use Rattle.spl_follow.specs.Following.{Rate, tally, tally_with, Follows, NoExit}
 use Rattle.spl_follow.specs.Doing.{doing}
 use Rattle.spl_follow.specs.Parts.{Ready}
@@ -34,7 +35,7 @@ use Rattle.spl_follow.proofs.PartLemmas.{stand_in_order}
 use Rattle.spl_follow.proofs.StandLemmas.{closed_last}
 use Rattle.spl_values.specs.Reached.{is_reached, IsWhole}
 use Rattle.spl_values.proofs.GiveLemmas.{last_leads}
-use Rattle.spl_operands.specs.Operands.{Loading, HasIndex}
+use Rattle.spl_operands.specs.Operands.{Refers, Loading, HasIndex}
 use Rattle.spl_operands.specs.Laws.{CellsSimulate, ElementsSimulate}
 use Rattle.spl_operands.proofs.OperandLemmas.{place_refers, first_element, indexed_element}
 use Rattle.spl_operands.proofs.LoadLemmas.{loading, load_follows}
@@ -55,22 +56,30 @@ ready_loading st d p k need n s l m r enough =
       room = omega (arith, room, enough);
     }
 
--- what a cell leads to, by the load of its kind
+-- what a reference without an index leads to, by the load of its kind
+pub reference_gives : (z : Surroundings) (d k need : ℕ) (t : Kind) (mode : Mode) (i : Bool) (o : State → Outcome Located) → width t ≤ need
+    → ((s : State) (m : Machine) → Matched z.setting s.now m k → s.now.top + k ≤ s.now.stack → Refers t mode i false s m (o s))
+    → Simulates z d as_value (width t) k need (pieces (Do (loading t i false mode) ∷ [])) (λ s. then_go (o s) (λ p u. read p u))
+reference_gives z d k need t mode i o enough refers = record {
+  does = λ h ws p q s l m stands front ready.
+      let room = ready.room in
+      widen z.ground z.rate (pos q - pos p.at) 0 z.rate.reach (pos q - pos p.at) 1 z.rate.reach (tally_with l s) m (IsValue z.setting q (width t) k s.now m) NoExit
+      (then_go (o s) (λ p u. read p u))
+      (load_follows z.ground z.rate p q z.setting t mode i false k s.now m l s m (o s)
+      (last_leads z.ground z.sites p (loading t i false mode) q stands)
+      (ready_loading z.setting d p k need (width t) s l m ready enough)
+      (refers s (at_left m) ready.matches (omega (arith, room))))
+      (omega arith) (omega arith) (omega arith);
+}
+
+-- through a name's word
 value_cells : (z : Surroundings) (d k need : ℕ) (far : Bool) (t : Kind) (place : Place) → is_reached z.setting k place ≡ true → far ≡ z.setting.split
     → width t ≤ need
     → Simulates z d as_value (width t) k need (pieces (Do (loading t true false (mode_of k place)) ∷ []))
     (λ s. then_go (led_located far t (Some place) 0 s) (λ p u. read p u))
-value_cells z d k need far t place reached side enough = record {
-  does = λ h ws p q s l m stands front ready.
-      let room = ready.room in
-      widen z.ground z.rate (pos q - pos p.at) 0 z.rate.reach (pos q - pos p.at) 1 z.rate.reach (tally_with l s) m (IsValue z.setting q (width t) k s.now m) NoExit
-      (then_go (led_located far t (Some place) 0 s) (λ p u. read p u))
-      (load_follows z.ground z.rate p q z.setting t (mode_of k place) true false k s.now m l s m (led_located far t (Some place) 0 s)
-      (last_leads z.ground z.sites p (loading t true false (mode_of k place)) q stands)
-      (ready_loading z.setting d p k need (width t) s l m ready enough)
-      (place_refers z.setting t far false 0 k k place s (at_left m) reached side ready.matches (omega (arith, room)) (λ cell. first_element t cell (at_left m))))
-      (omega arith) (omega arith) (omega arith);
-}
+value_cells z d k need far t place reached side enough =
+    reference_gives z d k need t (mode_of k place) true (λ s. led_located far t (Some place) 0 s) enough
+    (λ s m matches room. place_refers z.setting t far false 0 k k place s m reached side matches room (λ cell. first_element t cell m))
 
 -- by the kind
 pub cells_give : CellsSimulate
@@ -82,7 +91,7 @@ cells_give z d k need far kind.Double place reached side enough = value_cells z 
 -- ---- indices
 
 -- STAX behind an index: X has it, and it waits no more.
-index_to_register : (g : Ground) (w : Rate) (p r : Spot) (st : Setting) (s : State) (m : Machine) (d0 : Data) (m0 : Machine) (k v : ℕ)
+pub index_to_register : (g : Ground) (w : Rate) (p r : Spot) (st : Setting) (s : State) (m : Machine) (d0 : Data) (m0 : Machine) (k v : ℕ)
     → Leads g (on p) r (doing g.segments (instr.Pair (op 0o43) (op 0)) r) → IsValue st p 1 k d0 m0 (v ∷ []) s m
     → Follows g w (pos r - pos p) 0 w.reach (tally s) m (HasIndex st r k d0 m0) NoExit (done (Some v) s)
 index_to_register g w p r st s m d0 m0 k v leads x =

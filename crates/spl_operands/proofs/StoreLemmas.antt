@@ -85,7 +85,7 @@ word_is_put g w p q st t mode i x true a k v old d0 m0 s m one leads y f seen =
     (memory_row 5 true mode i x (at_left m)) leads refl y.at refl puts y.small y.matches y.kept y.coded
 
 -- STOR where its operand is at an address: what was there is seen, the run strays, or both trap.
-word_put : (g : Ground) (w : Rate) (p q : Spot) (st : Setting) (t : Kind) (mode : Mode) (i x far : Bool) (a k v : ℕ) (d0 : Data) (m0 : Machine)
+pub word_put : (g : Ground) (w : Rate) (p q : Spot) (st : Setting) (t : Kind) (mode : Mode) (i x far : Bool) (a k v : ℕ) (d0 : Data) (m0 : Machine)
     (s : State) (m : Machine) → is_word_kind t ≡ true → Leads g (on p) q (doing g.segments (instr.Memory 5 true x i mode) q) → Storing st p k d0 m0 v s m
     → Finds t mode i x far a (at_left m)
     → Follows g w (pos q - pos p) 0 w.reach (tally s) m (Completes st q k d0 m0) NoExit (word_stored far a (v ∷ []) s)
@@ -293,7 +293,7 @@ index_taken g w p r st s m d0 m0 k u v leads x room =
     (memory_row 11 true (SMinus 1) false false (at_left m)) leads refl x matches room y (y.words.words ∙ whole_stack m.stack)
 
 -- DEL: the index that waited is deleted, in a part that began with d0 and m0.
-index_deleted : (g : Ground) (w : Rate) (p q : Spot) (st : Setting) (k : ℕ) (d0 : Data) (m0 : Machine) (d1 : Data) (m1 : Machine) (s : State) (m : Machine)
+pub index_deleted : (g : Ground) (w : Rate) (p q : Spot) (st : Setting) (k : ℕ) (d0 : Data) (m0 : Machine) (d1 : Data) (m1 : Machine) (s : State) (m : Machine)
     → Leads g (on p) q (doing g.segments (instr.Pair (op 0o40) (op 0)) q) → Kept (d0.top + k) d0 m0.stack d1 m1.stack → Arrives st p (k + 1) d1 m1 s m
     → Follows g w (pos q - pos p) 0 w.reach (tally s) m (Completes st q k d0 m0) NoExit (done tt s)
 index_deleted g w p q st k d0 m0 d1 m1 s m leads before x =

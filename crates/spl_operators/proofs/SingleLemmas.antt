@@ -186,7 +186,7 @@ shifts z d k need o count a meaning low few whole x =
 -- ---- fields
 
 -- a field that lies within a word, by its eight bits
-field_first : (start size : ℕ) → 1 ≤ size → start + size ≤ 16 → bits 8 11 (16 * start + size % 16) ≡ start
+pub field_first : (start size : ℕ) → 1 ≤ size → start + size ≤ 16 → bits 8 11 (16 * start + size % 16) ≡ start
 field_first start size some within = omega (arith, some, within)
 
 -- a size that fits is below sixteen, or sixteen
@@ -196,7 +196,7 @@ sixteen start n l = by (nat_lt n 16) refl where
   by true e = inl (ltb-true n 16 e)
   by false e = let high = ltb-false n 16 e in inr (omega (arith, l, high))
 
-field_long : (start size : ℕ) → 1 ≤ size → start + size ≤ 16 → field_length (16 * start + size % 16) ≡ size
+pub field_long : (start size : ℕ) → 1 ≤ size → start + size ≤ 16 → field_length (16 * start + size % 16) ≡ size
 field_long start size some within = by (bits 12 15 (16 * start + size % 16) == 0) refl where
   last : bits 12 15 (16 * start + size % 16) ≡ size % 16
   last = omega arith

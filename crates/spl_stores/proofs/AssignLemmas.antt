@@ -18,7 +18,7 @@ use Rattle.spl_meaning.specs.Names as n
 use Rattle.spl_meaning.specs.Names.{Sort}
 use Rattle.spl_meaning.specs.Operations.{kept}
 use Rattle.spl_meaning.specs.Laws.{IsFront}
-use Rattle.spl_meaning.specs.Pending.{most, statement_most, statements_most}
+use Rattle.spl_meaning.specs.Pending.{most, waiting, statement_most, statements_most}
 use Rattle.spl_meaning.specs.Places.{Place, data_word, above_base, below_base, below_return}
 use Rattle.spl_meaning.specs.References.{Here, Setting, Access, its_own, address_of, variable_located, target_access, own_located, locate_by, locate_target, store}
 use Rattle.spl_meaning.specs.States.{State, then_go, stopping}
@@ -38,6 +38,7 @@ use Rattle.spl_follow.specs.Simulating.{Surroundings, Simulates, Performs}
 use Rattle.spl_follow.proofs.StandLemmas.{closed_any, closed_last, due_add}
 use Rattle.spl_control.proofs.SequenceLemmas.{idle_performs, nothing_performs, lists_perform}
 use Rattle.spl_values.specs.Reached.{is_word_kind, is_reached, IsWhole}
+use Rattle.spl_operators.specs.Laws.{is_single}
 use Rattle.spl_covered.specs.Covered.{is_covered}
 use Rattle.spl_covered.specs.Laws.{read_with}
 use Rattle.spl_values.proofs.VariableLemmas.{both}
@@ -54,7 +55,8 @@ use Rattle.spl_stores.proofs.StoreLemmas.{assignments}
 use Rattle.spl_stores.proofs.BlockLemmas.{blocks}
 use Rattle.spl_targets.specs.Targets.{is_led_target}
 use Rattle.spl_targets.proofs.SameLemmas.{stopping_same, same_performs}
-use Rattle.spl_targets.proofs.ElementLemmas.{no_intrinsic, led_targets_whole, led_targets}
+use Rattle.spl_targets.proofs.ElementLemmas.{no_intrinsic}
+use Rattle.spl_targets.proofs.TargetLemmas.{led_targets_whole, led_targets}
 use Rattle.spl_stores.proofs.CaseLemmas.{cased_whole, first_arm, case_performs}
 use Rattle.spl_counts.specs.Laws.{leaving_at_most}
 use Rattle.spl_stores.proofs.ForLemmas.{for_parts, for_whole, for_performs}
@@ -62,26 +64,26 @@ use Rattle.spl_stores.proofs.ChoiceLemmas.{if_whole, if_performs, else_whole, el
 
 -- ---- targets
 
--- what a covered target is: a variable of one word where it is reached
+-- what a covered target is: a variable of one word or a BYTE where it is reached
 record IsTarget (st : Setting) (k : ℕ) (o : Option Sort) (pl : Option Place) : Type 0 where
   type : Kind
   place : Place
   access : target_access o ≡ its_own type
   made : assigned_access o ≡ its_own type
   is : pl ≡ Some place
-  word : is_word_kind type ≡ true
+  word : is_single type ≡ true
   reached : is_reached st k place ≡ true
 
 -- by what it stands for
 target_case : (st : Setting) (k : ℕ) (o : Option Sort) (pl : Option Place) → is_stored_name st k o pl ≡ true → IsTarget st k o pl
 target_case st k (Some (n.simple t own)) (Some place) e =
-    let two = both (is_word_kind t) (is_reached st k place) e in
+    let two = both (is_single t) (is_reached st k place) e in
     record { type = t; place = place; access = refl; made = refl; is = refl; word = two.0; reached = two.1 }
 target_case st k (Some (n.value t)) (Some place) e =
-    let two = both (is_word_kind t) (is_reached st k place) e in
+    let two = both (is_single t) (is_reached st k place) e in
     record { type = t; place = place; access = refl; made = refl; is = refl; word = two.0; reached = two.1 }
-target_case st k (Some (n.simple t own)) None e = absurd (false≢true (both (is_word_kind t) false e).1)
-target_case st k (Some (n.value t)) None e = absurd (false≢true (both (is_word_kind t) false e).1)
+target_case st k (Some (n.simple t own)) None e = absurd (false≢true (both (is_single t) false e).1)
+target_case st k (Some (n.value t)) None e = absurd (false≢true (both (is_single t) false e).1)
 target_case st k None pl e = absurd (false≢true e)
 target_case st k (Some (n.equate v)) pl e = absurd (false≢true e)
 target_case st k (Some (n.array t own low high)) pl e = absurd (false≢true e)
@@ -103,7 +105,7 @@ stored_code c st x k r =
     ∙ ap (λ (o : Option Place). at_place o (λ place. stored (its_own r.type) false k place)) r.is
 
 -- a store closes
-stored_closed : (st : Setting) (t : Kind) (k : ℕ) (place : Place) → is_word_kind t ≡ true → is_reached st k place ≡ true
+stored_closed : (st : Setting) (t : Kind) (k : ℕ) (place : Place) → is_single t ≡ true → is_reached st k place ≡ true
     → IsClosed (stored (its_own t) false k place)
 stored_closed st kind.Integer k (data_word n) e r = refl
 stored_closed st kind.Integer k (above_base n) e r = refl
@@ -112,7 +114,9 @@ stored_closed st kind.Logical k (data_word n) e r = refl
 stored_closed st kind.Logical k (above_base n) e r = refl
 stored_closed st kind.Logical k (below_base n) e r = refl
 stored_closed st t k (below_return n) e r = absurd (false≢true r)
-stored_closed st kind.Byte k place e r = absurd (false≢true e)
+stored_closed st kind.Byte k (data_word n) e r = refl
+stored_closed st kind.Byte k (above_base n) e r = refl
+stored_closed st kind.Byte k (below_base n) e r = refl
 stored_closed st kind.Double k place e r = absurd (false≢true e)
 
 -- ---- assignments
@@ -201,8 +205,13 @@ store_whole c st (stat.Target.plain (tree.Tree.shift o a by there)) v at k e = a
 store_whole c st (stat.Target.plain (tree.Tree.field a start size there)) v at k e = absurd (false≢true e)
 store_whole c st (stat.Target.plain (tree.Tree.transfer t a there)) v at k e = absurd (false≢true e)
 store_whole c st (stat.Target.plain (tree.Tree.bytes o a b count there)) v at k e = absurd (false≢true e)
-store_whole c st (stat.Target.field r start size) v at k e = absurd (false≢true e)
-store_whole c st (stat.Target.address x there) v at k e = absurd (false≢true e)
+store_whole c st (stat.Target.field r start size) v at k e =
+    let to = stat.Target.field r start size in
+    let two = both (is_led_target c.scope st to k) (is_covered c.scope st v (waiting to k)) e in
+    led_targets_whole c st to v at k two.0 two.1
+store_whole c st (stat.Target.address x there) v at k e =
+    let two = both (is_led_target c.scope st (stat.Target.address x there) k) (is_covered c.scope st v k) e in
+    led_targets_whole c st (stat.Target.address x there) v at k two.0 two.1
 
 pub store_performs : (c : Context) (results : List ℕ → Option (Kind × Place)) (z : Surroundings) (call : Callee) (d number : ℕ) (to : Target) (v : Tree)
     (at : At) (k need : ℕ) → is_covered_store c.scope z.setting to v k ≡ true → statement_most c.scope.names (stat.Statement.assign to v at) + 8 ≤ need
@@ -230,5 +239,10 @@ store_performs c results z call d number (stat.Target.plain (tree.Tree.shift o a
 store_performs c results z call d number (stat.Target.plain (tree.Tree.field a start size there)) v at k need e enough = absurd (false≢true e)
 store_performs c results z call d number (stat.Target.plain (tree.Tree.transfer t a there)) v at k need e enough = absurd (false≢true e)
 store_performs c results z call d number (stat.Target.plain (tree.Tree.bytes o a b count there)) v at k need e enough = absurd (false≢true e)
-store_performs c results z call d number (stat.Target.field r start size) v at k need e enough = absurd (false≢true e)
-store_performs c results z call d number (stat.Target.address x there) v at k need e enough = absurd (false≢true e)
+store_performs c results z call d number (stat.Target.field r start size) v at k need e enough =
+    let to = stat.Target.field r start size in
+    let two = both (is_led_target c.scope z.setting to k) (is_covered c.scope z.setting v (waiting to k)) e in
+    led_targets c results z call d number to v at k need two.0 two.1 enough
+store_performs c results z call d number (stat.Target.address x there) v at k need e enough =
+    let two = both (is_led_target c.scope z.setting (stat.Target.address x there) k) (is_covered c.scope z.setting v k) e in
+    led_targets c results z call d number (stat.Target.address x there) v at k need two.0 two.1 enough

@@ -18,7 +18,7 @@ use Rattle.spl_meaning.specs.Names as n
 use Rattle.spl_meaning.specs.Names.{Sort}
 use Rattle.spl_meaning.specs.Operations.{kept}
 use Rattle.spl_meaning.specs.Laws.{IsFront}
-use Rattle.spl_meaning.specs.Pending.{most, statements_most}
+use Rattle.spl_meaning.specs.Pending.{most, waiting, statements_most}
 use Rattle.spl_meaning.specs.Places.{Place, data_word, above_base, below_base, below_return}
 use Rattle.spl_meaning.specs.References.{Here, Setting, Access, its_own, address_of, variable_located, target_access, own_located, locate_by, locate_target, store}
 use Rattle.spl_meaning.specs.States.{State, then_go, stopping}
@@ -37,7 +37,8 @@ use Rattle.spl_follow.specs.Standing.{IsClosed, due_after}
 use Rattle.spl_follow.specs.Simulating.{Surroundings, Simulates, Performs}
 use Rattle.spl_follow.proofs.StandLemmas.{closed_any, closed_last, due_add}
 use Rattle.spl_control.proofs.SequenceLemmas.{idle_performs, nothing_performs, lists_perform}
-use Rattle.spl_values.specs.Reached.{is_word_kind, is_reached, IsWhole}
+use Rattle.spl_values.specs.Reached.{is_reached, IsWhole}
+use Rattle.spl_operators.specs.Laws.{is_single}
 use Rattle.spl_covered.specs.Covered.{is_covered}
 use Rattle.spl_covered.specs.Laws.{read_with}
 use Rattle.spl_values.proofs.VariableLemmas.{both}
@@ -54,7 +55,7 @@ use Rattle.spl_stores.proofs.StoreLemmas.{assignments}
 use Rattle.spl_stores.proofs.BlockLemmas.{blocks}
 use Rattle.spl_targets.specs.Targets.{is_led_target}
 use Rattle.spl_targets.proofs.SameLemmas.{stopping_same, same_performs}
-use Rattle.spl_targets.proofs.ElementLemmas.{no_intrinsic, led_targets_whole, led_targets}
+use Rattle.spl_targets.proofs.ElementLemmas.{no_intrinsic}
 use Rattle.spl_calls.proofs.CallLemmas.{call_whole, call_performs}
 use Rattle.spl_calls.proofs.AnswerLemmas.{answers_whole, answers_perform}
 use Rattle.spl_calls.specs.Covered.{is_covered_answer}

@@ -11,15 +11,15 @@ use Rattle.spl_meaning.specs.Pending.{waiting}
 use Rattle.spl_meaning.specs.Places.{Place}
 use Rattle.spl_meaning.specs.References.{Setting}
 use Rattle.spl_code.specs.Calls.{Scope}
-use Rattle.spl_values.specs.Reached.{is_word_kind}
+use Rattle.spl_operators.specs.Laws.{is_single}
 use Rattle.spl_covered.specs.Covered.{has_reached, is_covered}
 use Rattle.spl_targets.specs.Targets.{is_led_target}
 use Rattle.spl_calls.specs.Covered.{is_covered_call, is_covered_answer}
 
--- a name on the left of :=, a simple variable or a parameter by value of one word, where it is reached
+-- a name on the left of :=, a simple variable or a parameter by value of one word or BYTE, where it is reached
 abbrev pub is_stored_name : Setting → ℕ → Option Sort → Option Place → Bool
-is_stored_name st k (Some (n.simple t own)) place = is_word_kind t && has_reached st k place
-is_stored_name st k (Some (n.value t)) place = is_word_kind t && has_reached st k place
+is_stored_name st k (Some (n.simple t own)) place = is_single t && has_reached st k place
+is_stored_name st k (Some (n.value t)) place = is_single t && has_reached st k place
 is_stored_name st k _ place = false
 
 -- a target: such a name without an index, or what a name's word leads to

@@ -17,18 +17,19 @@ use Rattle.spl_code.specs.Stores.{stored}
 use Rattle.spl_statement_code.specs.Landings.{Context}
 use Rattle.spl_statement_code.specs.Statements.{idle, statement, listed}
 use Rattle.spl_follow.specs.Simulating.{Surroundings, Simulates, Performs, PerformsAll}
-use Rattle.spl_values.specs.Reached.{is_word_kind, is_reached, IsWhole}
+use Rattle.spl_values.specs.Reached.{is_reached, IsWhole}
+use Rattle.spl_operators.specs.Laws.{is_single}
 use Rattle.spl_covered.specs.Laws.{read_with}
 use Rattle.spl_calls.specs.Laws.{MayCall}
 use Rattle.spl_stores.specs.Covered.{is_covered_statement, are_covered}
 
 -- ---- constructs
 
--- A value of one word, and the store behind it in a variable of one word at a place that is reached. Where that is no data word the run strays,
--- and past STACK both trap.
+-- A value of one word, and the store behind it in a variable of one word or a BYTE at a place that is reached. Where that is no data word the
+-- run strays, and past STACK both trap.
 abbrev pub AssignmentsPerform : Type 0
 AssignmentsPerform = (z : Surroundings) (d k need number : ℕ) (at : At) (t : Kind) (place : Place) (a : Part) (value : State → Outcome (List ℕ))
-    → is_word_kind t ≡ true → is_reached z.setting k place ≡ true → 1 ≤ need → IsWhole a → Simulates z d as_value 1 k need a value
+    → is_single t ≡ true → is_reached z.setting k place ≡ true → 1 ≤ need → IsWhole a → Simulates z d as_value 1 k need a value
     → Performs z d k need (piece (Begin at) ⨟ (nothing ⨟ a ⨟ pieces (stored (its_own t) false k place)))
     (λ s. stopping number at s (λ u. then_go (value u) (λ vs v. store (variable_located t (address_of place v.now)) (kept t vs) v)))
 

@@ -101,7 +101,7 @@ no_intrinsic c st (tree.Tree.bytes o a b count at) k e = refl
 -- ---- names
 
 -- what leads to elements leads to a word without an index
-led_of_element : (st : Setting) (k : ℕ) (a : Access) (pl : Option Place) → is_led_element st k a pl ≡ true → is_led st k a pl ≡ true
+pub led_of_element : (st : Setting) (k : ℕ) (a : Access) (pl : Option Place) → is_led_element st k a pl ≡ true → is_led st k a pl ≡ true
 led_of_element st k (by_cell is_pointer t) pl e = e
 led_of_element st k (its_own t) pl e = absurd (false≢true e)
 led_of_element st k (by_address t) pl e = absurd (false≢true e)
@@ -109,7 +109,7 @@ led_of_element st k its_result pl e = absurd (false≢true e)
 led_of_element st k nowhere pl e = absurd (false≢true e)
 
 -- on the left of := such a name leads where it does elsewhere
-left_access : (st : Setting) (k : ℕ) (o : Option Sort) (pl : Option Place) → is_led st k (access_of o) pl ≡ true
+pub left_access : (st : Setting) (k : ℕ) (o : Option Sort) (pl : Option Place) → is_led st k (access_of o) pl ≡ true
     → (target_access o ≡ access_of o) × (assigned_access o ≡ access_of o)
 left_access st k (Some (n.procedure p)) pl e = absurd (false≢true e)
 left_access st k (Some (n.subroutine p)) pl e = absurd (false≢true e)
@@ -154,7 +154,7 @@ led_code c st x there e at k r left =
     ∙ ap (λ (b : Bool). cell_stored r.type b (mode_of k r.place)) (not_from_top st k r.place r.reached))
 
 -- it is whole
-led_whole : (c : Context) (st : Setting) (x : List ℕ) (there : At) (e : Tree) (at : At) (k : ℕ)
+pub led_whole : (c : Context) (st : Setting) (x : List ℕ) (there : At) (e : Tree) (at : At) (k : ℕ)
     → is_led st k (access_of (c.scope.names x)) (c.scope.places x) ≡ true → IsWhole (code c.scope e as_value k)
     → IsWhole (statement c (stat.Statement.assign (stat.Target.plain (tree.Tree.named x tree.Trees.none there)) e at) k)
 led_whole c st x there e at k led whole =
@@ -184,7 +184,7 @@ led_is c results st call x there e k r left alone u =
       to = stat.Target.plain (tree.Tree.named x tree.Trees.none there)
 
 -- and it is performed
-led_performs : (c : Context) (results : List ℕ → Option (Kind × Place)) (z : Surroundings) (call : Callee) (d number : ℕ) (x : List ℕ) (there : At)
+pub led_performs : (c : Context) (results : List ℕ → Option (Kind × Place)) (z : Surroundings) (call : Callee) (d number : ℕ) (x : List ℕ) (there : At)
     (e : Tree) (at : At) (k need : ℕ) → is_led z.setting k (access_of (c.scope.names x)) (c.scope.places x) ≡ true → 1 ≤ need
     → is_intrinsic_alone c.scope.names e ≡ false → IsWhole (code c.scope e as_value k)
     → Simulates z d as_value 1 k need (code c.scope e as_value k) (λ s. value (read_with c.scope results z.setting) call e k s)
@@ -226,7 +226,7 @@ element_code c st x i there e at k r left =
     ∙ ap (λ (b : Bool). element_stored r.type b (mode_of k r.place)) (not_from_top st k r.place r.reached))
 
 -- it is whole
-element_whole : (c : Context) (st : Setting) (x : List ℕ) (i : Tree) (there : At) (e : Tree) (at : At) (k : ℕ)
+pub element_whole : (c : Context) (st : Setting) (x : List ℕ) (i : Tree) (there : At) (e : Tree) (at : At) (k : ℕ)
     → is_led_element st k (access_of (c.scope.names x)) (c.scope.places x) ≡ true → IsWhole (code c.scope i as_value k)
     → IsWhole (code c.scope e as_value (k + 1))
     → IsWhole (statement c (stat.Statement.assign (stat.Target.plain (tree.Tree.named x (tree.Trees.and i tree.Trees.none) there)) e at) k)
@@ -261,13 +261,13 @@ element_is c results st call x i there e k r left alone u =
       to = stat.Target.plain (tree.Tree.named x (tree.Trees.and i tree.Trees.none) there)
 
 -- the room of the index, and of the value above it
-element_room : (names : Names) (x : List ℕ) (i : Tree) (there : At) (e : Tree) (at : At) (need : ℕ)
+pub element_room : (names : Names) (x : List ℕ) (i : Tree) (there : At) (e : Tree) (at : At) (need : ℕ)
     → statement_most names (stat.Statement.assign (stat.Target.plain (tree.Tree.named x (tree.Trees.and i tree.Trees.none) there)) e at) + 8 ≤ need
     → (most names i + 8 ≤ need) × (most names e + 8 + 1 ≤ need)
 element_room names x i there e at need room = (omega (arith, room), omega (arith, room))
 
 -- and it is performed
-element_performs : (c : Context) (results : List ℕ → Option (Kind × Place)) (z : Surroundings) (call : Callee) (d number : ℕ) (x : List ℕ) (i : Tree)
+pub element_performs : (c : Context) (results : List ℕ → Option (Kind × Place)) (z : Surroundings) (call : Callee) (d number : ℕ) (x : List ℕ) (i : Tree)
     (there : At) (e : Tree) (at : At) (k need more : ℕ) → is_led_element z.setting k (access_of (c.scope.names x)) (c.scope.places x) ≡ true → 2 ≤ need
     → more + 1 ≤ need → is_intrinsic_alone c.scope.names e ≡ false → IsWhole (code c.scope i as_value k) → IsWhole (code c.scope e as_value (k + 1))
     → Simulates z d as_value 1 k need (code c.scope i as_value k) (λ s. value (read_with c.scope results z.setting) call i k s)
@@ -292,60 +292,3 @@ element_performs c results z call d number x i there e at k need more led enough
           let h = read_with c.scope results z.setting in
           then_go (then_go (value h call i k u) as_index) (λ j v. then_go (value h call e (k + 1) v)
           (λ vs w. then_go (led_located (is_pointer && z.setting.split) t (Some place) (index_or_zero j) w) (λ p x. store p (kept p.kind vs) x)))
-
--- ---- targets
-
--- what is covered gives one word
-pub word_given : (c : Scope) (results : List ℕ → Option (Kind × Place)) (z : Surroundings) (call : Callee) (d : ℕ) (e : Tree) (k need : ℕ)
-    → is_covered c z.setting e k ≡ true → most c.names e + 8 ≤ need
-    → Simulates z d as_value 1 k need (code c e as_value k) (λ s. value (read_with c results z.setting) call e k s)
-word_given c results z call d e k need covered enough =
-    subst (λ (j : ℕ). Simulates z d as_value j k need (code c e as_value k) (λ s. value (read_with c results z.setting) call e k s)) (covered_width c z.setting e k covered)
-    (covered_gives c results z call d e k need covered enough)
-
--- by whether there is an index
-pub led_targets_whole : LedTargetsAreWhole
-led_targets_whole c st (stat.Target.plain (tree.Tree.named x tree.Trees.none there)) e at k led covered =
-    led_whole c st x there e at k led (covered_whole c.scope st e k covered)
-led_targets_whole c st (stat.Target.plain (tree.Tree.named x (tree.Trees.and i tree.Trees.none) there)) e at k led covered =
-    let two = both (is_led_element st k (access_of (c.scope.names x)) (c.scope.places x)) (is_covered c.scope st i k) led in
-    element_whole c st x i there e at k two.0 (covered_whole c.scope st i k two.1) (covered_whole c.scope st e (k + 1) covered)
-led_targets_whole c st (stat.Target.plain (tree.Tree.named x (tree.Trees.and i (tree.Trees.and j js)) there)) e at k led covered = absurd (false≢true led)
-led_targets_whole c st (stat.Target.plain (tree.Tree.number w)) e at k led covered = absurd (false≢true led)
-led_targets_whole c st (stat.Target.plain (tree.Tree.wide w)) e at k led covered = absurd (false≢true led)
-led_targets_whole c st (stat.Target.plain (tree.Tree.text bytes)) e at k led covered = absurd (false≢true led)
-led_targets_whole c st (stat.Target.plain (tree.Tree.truth b)) e at k led covered = absurd (false≢true led)
-led_targets_whole c st (stat.Target.plain (tree.Tree.address x es there)) e at k led covered = absurd (false≢true led)
-led_targets_whole c st (stat.Target.plain (tree.Tree.unary o a there)) e at k led covered = absurd (false≢true led)
-led_targets_whole c st (stat.Target.plain (tree.Tree.binary o a b there)) e at k led covered = absurd (false≢true led)
-led_targets_whole c st (stat.Target.plain (tree.Tree.shift o a by there)) e at k led covered = absurd (false≢true led)
-led_targets_whole c st (stat.Target.plain (tree.Tree.field a start size there)) e at k led covered = absurd (false≢true led)
-led_targets_whole c st (stat.Target.plain (tree.Tree.transfer t a there)) e at k led covered = absurd (false≢true led)
-led_targets_whole c st (stat.Target.plain (tree.Tree.bytes o a b count there)) e at k led covered = absurd (false≢true led)
-led_targets_whole c st (stat.Target.field r start size) e at k led covered = absurd (false≢true led)
-led_targets_whole c st (stat.Target.address x there) e at k led covered = absurd (false≢true led)
-
-pub led_targets : LedTargetsPerform
-led_targets c results z call d number (stat.Target.plain (tree.Tree.named x tree.Trees.none there)) e at k need led covered enough =
-    led_performs c results z call d number x there e at k need led (omega (arith, enough)) (no_intrinsic c.scope z.setting e k covered)
-    (covered_whole c.scope z.setting e k covered) (word_given c.scope results z call d e k need covered (omega (arith, enough)))
-led_targets c results z call d number (stat.Target.plain (tree.Tree.named x (tree.Trees.and i tree.Trees.none) there)) e at k need led covered enough =
-    let two = both (is_led_element z.setting k (access_of (c.scope.names x)) (c.scope.places x)) (is_covered c.scope z.setting i k) led in
-    let room = element_room c.scope.names x i there e at need enough in
-    element_performs c results z call d number x i there e at k need (most c.scope.names e + 8) two.0 (omega (arith, enough)) room.1
-    (no_intrinsic c.scope z.setting e (k + 1) covered) (covered_whole c.scope z.setting i k two.1) (covered_whole c.scope z.setting e (k + 1) covered)
-    (word_given c.scope results z call d i k need two.1 room.0) (word_given c.scope results z call d e (k + 1) (most c.scope.names e + 8) covered (omega arith))
-led_targets c results z call d number (stat.Target.plain (tree.Tree.named x (tree.Trees.and i (tree.Trees.and j js)) there)) e at k need led covered enough = absurd (false≢true led)
-led_targets c results z call d number (stat.Target.plain (tree.Tree.number w)) e at k need led covered enough = absurd (false≢true led)
-led_targets c results z call d number (stat.Target.plain (tree.Tree.wide w)) e at k need led covered enough = absurd (false≢true led)
-led_targets c results z call d number (stat.Target.plain (tree.Tree.text bytes)) e at k need led covered enough = absurd (false≢true led)
-led_targets c results z call d number (stat.Target.plain (tree.Tree.truth b)) e at k need led covered enough = absurd (false≢true led)
-led_targets c results z call d number (stat.Target.plain (tree.Tree.address x es there)) e at k need led covered enough = absurd (false≢true led)
-led_targets c results z call d number (stat.Target.plain (tree.Tree.unary o a there)) e at k need led covered enough = absurd (false≢true led)
-led_targets c results z call d number (stat.Target.plain (tree.Tree.binary o a b there)) e at k need led covered enough = absurd (false≢true led)
-led_targets c results z call d number (stat.Target.plain (tree.Tree.shift o a by there)) e at k need led covered enough = absurd (false≢true led)
-led_targets c results z call d number (stat.Target.plain (tree.Tree.field a start size there)) e at k need led covered enough = absurd (false≢true led)
-led_targets c results z call d number (stat.Target.plain (tree.Tree.transfer t a there)) e at k need led covered enough = absurd (false≢true led)
-led_targets c results z call d number (stat.Target.plain (tree.Tree.bytes o a b count there)) e at k need led covered enough = absurd (false≢true led)
-led_targets c results z call d number (stat.Target.field r start size) e at k need led covered enough = absurd (false≢true led)
-led_targets c results z call d number (stat.Target.address x there) e at k need led covered enough = absurd (false≢true led)

@@ -1,3 +1,5 @@
 -- In reading order.
 pub mod SameLemmas
 pub mod ElementLemmas
+pub mod FieldLemmas
+pub mod TargetLemmas

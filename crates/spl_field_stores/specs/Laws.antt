@@ -1,0 +1,47 @@
+-- The laws of this crate: a value that is stored in a bit field, of a variable, of what the word of a name leads to, and of an element.
+use Rattle.std.specs.Prelude.{◌≡◌, ℕ, ◌+◌, ◌≤◌, ◌&&◌, nat_le, Bool, true, false, List, Some}
+use Rattle.spl_tree.specs.declared.expressions.Kind.{Kind}
+use Rattle.spl_tree.specs.declared.names_and_places.At.{At}
+use Rattle.spl_branch.specs.declared.pieces.Piece.TheVariants.{Begin}
+use Rattle.spl_meaning.specs.Places.{Place}
+use Rattle.spl_meaning.specs.References.{its_own, address_of, variable_located, led_located, index_or_zero, store_field}
+use Rattle.spl_meaning.specs.States.{State, Outcome, then_go, stopping}
+use Rattle.spl_meaning.specs.Values.{as_index}
+use Rattle.spl_code.specs.Code.{as_value}
+use Rattle.spl_code.specs.Operands.{mode_of}
+use Rattle.spl_code.specs.Parts.{Part, pieces, piece, nothing, ◌⨟◌}
+use Rattle.spl_code.specs.Stores.{field_stored, cell_field, element_field}
+use Rattle.spl_follow.specs.Simulating.{Surroundings, Simulates, Performs}
+use Rattle.spl_values.specs.Reached.{is_word_kind, is_reached, IsWhole}
+
+-- a field of so many bits from a first one on lies within a word
+abbrev pub is_within : ℕ → ℕ → Bool
+is_within start size = nat_le 1 size && nat_le (start + size) 16
+
+-- The last bits of a value are stored in a field of a variable of one word, whose other bits stay. Where that is no data word the run strays, and
+-- past STACK both trap.
+abbrev pub FieldsOfVariablesAssigned : Type 0
+FieldsOfVariablesAssigned = (z : Surroundings) (d k need number start size : ℕ) (at : At) (t : Kind) (place : Place) (a : Part)
+    (value : State → Outcome (List ℕ)) → is_within start size ≡ true → is_word_kind t ≡ true → is_reached z.setting k place ≡ true → 2 ≤ need → IsWhole a
+    → Simulates z d as_value 1 k need a value
+    → Performs z d k need (piece (Begin at) ⨟ (nothing ⨟ a ⨟ pieces (field_stored (its_own t) start size false k place)))
+    (λ s. stopping number at s (λ u. then_go (value u) (λ vs v. store_field (variable_located t (address_of place v.now)) start size vs v)))
+
+-- The same of the word to which the word of a name leads, in the extra segment in a split procedure.
+abbrev pub FieldsOfCellsAssigned : Type 0
+FieldsOfCellsAssigned = (z : Surroundings) (d k need number start size : ℕ) (at : At) (far : Bool) (t : Kind) (place : Place) (a : Part)
+    (value : State → Outcome (List ℕ)) → is_within start size ≡ true → is_word_kind t ≡ true → is_reached z.setting k place ≡ true
+    → far ≡ z.setting.split → 2 ≤ need → IsWhole a → Simulates z d as_value 1 k need a value
+    → Performs z d k need (piece (Begin at) ⨟ (nothing ⨟ a ⨟ pieces (cell_field start size false (mode_of k place))))
+    (λ s. stopping number at s (λ u. then_go (value u) (λ vs v.
+    then_go (led_located far t (Some place) 0 v) (λ p x. store_field p start size vs x))))
+
+-- The same of an element: its index is made first, and waits below the value until it goes to X.
+abbrev pub FieldsOfElementsAssigned : Type 0
+FieldsOfElementsAssigned = (z : Surroundings) (d k need more number start size : ℕ) (at : At) (far : Bool) (t : Kind) (place : Place) (a b : Part)
+    (index value : State → Outcome (List ℕ)) → is_within start size ≡ true → is_word_kind t ≡ true → is_reached z.setting k place ≡ true
+    → far ≡ z.setting.split → 3 ≤ need → more + 1 ≤ need → IsWhole a → IsWhole b → Simulates z d as_value 1 k need a index
+    → Simulates z d as_value 1 (k + 1) more b value
+    → Performs z d k need (piece (Begin at) ⨟ (a ⨟ b ⨟ pieces (element_field start size false (mode_of k place))))
+    (λ s. stopping number at s (λ u. then_go (then_go (index u) as_index) (λ i v. then_go (value v) (λ vs w.
+    then_go (led_located far t (Some place) (index_or_zero i) w) (λ p x. store_field p start size vs x)))))
