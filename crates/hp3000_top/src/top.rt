@@ -117,7 +117,8 @@ pub fn hp3000_main<I: Source, O: Sink>(
     ensures done { result ≡ Exit.Done → Delivers (asked (map (λ w. string_bytes w) words.now.items)) (I.left input.old) made.new.items ran.new (O.written output.old) (O.written output.new) }
 
     // The headline: each session of a thin program has printed and ended exactly as its source, run alone, has at some step, and so
-    // has each whose program's main body is covered, unless its run made a stray reference. And when it has to be done, or refused.
+    // has each whose program's main body is covered, unless its run made a stray reference; and the programs that were made carry their sources,
+    // both ways. And when it has to be done, or refused.
     ensures headline { result ≡ Exit.Done → AreAsAlone (asked (map (λ w. string_bytes w) words.now.items)) (I.left input.old) made.new.items (O.written output.old) (O.written output.new) }
     ensures complete { IsSurelyDone (asked (map (λ w. string_bytes w) words.now.items)) (I.left input.old) → (Rose (I.faults input.old) (I.faults input.new) → ⊥) → (Rose (O.faults output.old) (O.faults output.new) → ⊥) → IsDone result }
     ensures faulty { (line : List ℕ) → IsSurelyRefused (asked (map (λ w. string_bytes w) words.now.items)) (I.left input.old) line → (Rose (I.faults input.old) (I.faults input.new) → ⊥) → (Rose (O.faults output.old) (O.faults output.new) → ⊥) → IsRefusedBy result (O.written output.old) (O.written output.new) line }
