@@ -8,25 +8,27 @@ use Rattle.spl_tree.specs.StatementTrees as stat
 use Rattle.spl_tree.specs.StatementTrees.{Statement}
 use Rattle.spl_meaning.specs.Pending.{most}
 use Rattle.spl_meaning.specs.Places.{Place}
-use Rattle.spl_meaning.specs.References.{Setting}
+use Rattle.spl_meaning.specs.References.{Here, Setting}
 use Rattle.spl_meaning.specs.States.{State, Outcome, done, leaves, spent, ends, strays, then_go}
 use Rattle.spl_meaning.specs.Statements.{run}
 use Rattle.spl_meaning.specs.Stops.{stops}
 use Rattle.spl_meaning.specs.Values.{Callee, value}
 use Rattle.spl_code.specs.Parts.{Part}
 use Rattle.spl_code.specs.Calls.{Scope}
-use Rattle.spl_code.specs.Code.{as_test, code}
+use Rattle.spl_code.specs.Code.{as_test, code, related}
 use Rattle.spl_statement_code.specs.Landings.{Context}
 use Rattle.spl_statement_code.specs.Statements.{statement, chosen, chosen_or}
 use Rattle.spl_follow.specs.Parts.{Runs}
 use Rattle.spl_follow.specs.Simulating.{Surroundings, Performs}
 use Rattle.spl_values.specs.Reached.{IsWhole}
+use Rattle.spl_values.proofs.WholeLemmas.{whole_pieces}
 use Rattle.spl_covered.specs.Covered.{is_covered}
 use Rattle.spl_covered.specs.Laws.{read_with}
 use Rattle.spl_covered.proofs.CoverLemmas.{tests_whole, covered_tests}
 use Rattle.spl_choices.specs.Laws.{Decides}
 use Rattle.spl_choices.proofs.PartLemmas.{begun_whole, chosen_whole, chosen_or_whole, while_whole, until_whole}
 use Rattle.spl_choices.proofs.ChoiceLemmas.{choices, eithers}
+use Rattle.spl_choices.proofs.CodeLemmas.{code_choices, code_eithers}
 use Rattle.spl_choices.proofs.LoopLemmas.{whiles, untils}
 
 -- the code of a covered condition decides
@@ -89,6 +91,40 @@ else_performs c results z call d number v s other at k need covered enough ws wo
     let second = λ (t : State). run h call d (number + 1 + stops s) other k t in
     eithers z d k need number at (λ fail. code c.scope v (as_test fail) k) (statement c s k) (statement c other k) (λ t. value h call v k t)
     (λ t. run h call d (number + 1) s k t) (λ t. then_go (second t) (λ _ u. done tt u)) (decides c.scope results z call d v k need covered enough) ws wo x
+    (alone_performs z d k need (statement c other k) second y)
+
+-- ---- IF on the condition code
+
+-- a test of the code is one branch
+code_tested_whole : (o fail : ℕ) → IsWhole (related o fail)
+code_tested_whole o fail = whole_pieces _ refl
+
+pub code_if_whole : (c : Context) (o : ℕ) (s : Statement) (at : At) (k : ℕ) → IsWhole (statement c s k)
+    → IsWhole (statement c (stat.Statement.if_test (stat.Test.code o) s stat.Statements.none at) k)
+code_if_whole c o s at k x =
+    begun_whole at (chosen (λ fail. related o fail) (statement c s k)) (chosen_whole (λ fail. related o fail) (statement c s k) (λ fail. code_tested_whole o fail) x)
+
+pub code_if_performs : (c : Context) (h : Here) (z : Surroundings) (call : Callee) (d number o : ℕ) (s : Statement) (at : At) (k need : ℕ)
+    → IsWhole (statement c s k) → Performs z d k need (statement c s k) (λ t. run h call d (number + 1) s k t)
+    → Performs z d k need (statement c (stat.Statement.if_test (stat.Test.code o) s stat.Statements.none at) k)
+    (λ t. run h call d number (stat.Statement.if_test (stat.Test.code o) s stat.Statements.none at) k t)
+code_if_performs c h z call d number o s at k need whole x =
+    code_choices z d k need number o at (statement c s k) (λ t. run h call d (number + 1) s k t) whole x
+
+pub code_else_whole : (c : Context) (o : ℕ) (s other : Statement) (at : At) (k : ℕ) → IsWhole (statement c s k) → IsWhole (statement c other k)
+    → IsWhole (statement c (stat.Statement.if_test (stat.Test.code o) s (stat.Statements.and other stat.Statements.none) at) k)
+code_else_whole c o s other at k x y =
+    begun_whole at (chosen_or (λ fail. related o fail) (statement c s k) (statement c other k))
+    (chosen_or_whole (λ fail. related o fail) (statement c s k) (statement c other k) (λ fail. code_tested_whole o fail) x y)
+
+pub code_else_performs : (c : Context) (h : Here) (z : Surroundings) (call : Callee) (d number o : ℕ) (s other : Statement) (at : At) (k need : ℕ)
+    → IsWhole (statement c s k) → IsWhole (statement c other k) → Performs z d k need (statement c s k) (λ t. run h call d (number + 1) s k t)
+    → Performs z d k need (statement c other k) (λ t. run h call d (number + 1 + stops s) other k t)
+    → Performs z d k need (statement c (stat.Statement.if_test (stat.Test.code o) s (stat.Statements.and other stat.Statements.none) at) k)
+    (λ t. run h call d number (stat.Statement.if_test (stat.Test.code o) s (stat.Statements.and other stat.Statements.none) at) k t)
+code_else_performs c h z call d number o s other at k need ws wo x y =
+    let second = λ (t : State). run h call d (number + 1 + stops s) other k t in
+    code_eithers z d k need number o at (statement c s k) (statement c other k) (λ t. run h call d (number + 1) s k t) (λ t. then_go (second t) (λ _ u. done tt u)) ws wo x
     (alone_performs z d k need (statement c other k) second y)
 
 -- ---- WHILE

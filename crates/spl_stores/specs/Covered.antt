@@ -45,7 +45,7 @@ is_covered_step c st (tree.Trees.and e es) k = is_covered c st e k
 
 abbrev mutual
   -- A statement, in a body with this setting and while k words wait: the empty one, assignments of what is covered and of what an intrinsic
-  -- answers, blocks of such, IF, WHILE and DO of such with a condition that is covered, CASE of such with a value that is, calls of intrinsics, and
+  -- answers, blocks of such, IF, WHILE and DO of such with a condition that is covered, IF on the condition code, CASE of such with a value that is, calls of intrinsics, and
   -- FOR of such with values that are, each while as many words more wait as stand before it.
   pub is_covered_statement : Scope → Setting → Statement → ℕ → Bool
   is_covered_statement c st stat.Statement.empty k = true
@@ -55,6 +55,9 @@ abbrev mutual
       is_covered c st e k && is_covered_statement c st s k
   is_covered_statement c st (stat.Statement.if_test (stat.Test.condition e) s (stat.Statements.and other stat.Statements.none) at) k =
       is_covered c st e k && is_covered_statement c st s k && is_covered_statement c st other k
+  is_covered_statement c st (stat.Statement.if_test (stat.Test.code o) s stat.Statements.none at) k = is_covered_statement c st s k
+  is_covered_statement c st (stat.Statement.if_test (stat.Test.code o) s (stat.Statements.and other stat.Statements.none) at) k =
+      is_covered_statement c st s k && is_covered_statement c st other k
   is_covered_statement c st (stat.Statement.while_true e s at) k = is_covered c st e k && is_covered_statement c st s k
   is_covered_statement c st (stat.Statement.until_true s e at) k = is_covered c st e k && is_covered_statement c st s k
   is_covered_statement c st (stat.Statement.for_values x first step last s at) k =
