@@ -14,121 +14,48 @@ use Rattle.spl_meaning.specs.Names.{Formal}
 use Rattle.spl_meaning.specs.Operations.{passed}
 use Rattle.spl_meaning.specs.Pending.{by_value, value_words, formal_words, formals_words, most, most_of}
 use Rattle.spl_meaning.specs.Places.{Place}
-use Rattle.spl_meaning.specs.References.{Here, Setting, Access, its_own, by_address, by_cell, its_result, nowhere, access_of, address_of, variable_located, element_address, element_located, word_at, read, led_located, locate_by}
+use Rattle.spl_meaning.specs.References.{Here, Setting, locate}
 use Rattle.spl_meaning.specs.States.{Data, State, Exit, Outcome, done, leaves, spent, ends, strays, then_go}
 use Rattle.spl_meaning.specs.Values as run
-use Rattle.spl_meaning.specs.Values.{Callee, value, located, address_done}
+use Rattle.spl_meaning.specs.Values.{Callee, value, located, index, address_done}
 use Rattle.spl_code.specs.Calls.{Scope}
 use Rattle.spl_code.specs.Code.{as_value, code, reference, arguments}
-use Rattle.spl_code.specs.Operands.{mode_of, loaded, address, at_place}
 use Rattle.spl_code.specs.Operators.{as_parameter}
 use Rattle.spl_code.specs.Parts.{Part, pieces, nothing, ◌⨟◌}
 use Rattle.spl_follow.specs.Spots.{Spot, pos, Ground}
 use Rattle.spl_follow.specs.Matching.{IsValue}
 use Rattle.spl_follow.specs.Following.{Rate, Tally, tally, tally_with, Follows, NoExit}
+use Rattle.spl_follow.specs.Standing.{Stands, due_after}
 use Rattle.spl_follow.specs.Simulating.{Surroundings, Simulates}
 use Rattle.spl_follow.proofs.FollowLemmas.{go_done}
-use Rattle.spl_values.specs.Reached.{is_reached, IsWhole}
-use Rattle.spl_values.proofs.VariableLemmas.{both, variables_give}
+use Rattle.spl_values.specs.Reached.{IsWhole}
+use Rattle.spl_values.proofs.VariableLemmas.{both}
 use Rattle.spl_values.proofs.WholeLemmas.{whole_pieces, whole_first, whole_last, whole_then, then_same, same_simulates, first_simulates, last_simulates}
-use Rattle.spl_covered.specs.Covered.{has_reached, is_covered}
+use Rattle.spl_covered.specs.Covered.{is_covered}
 use Rattle.spl_covered.specs.Laws.{read_with}
 use Rattle.spl_covered.proofs.CoverLemmas.{covered_width, covered_whole, covered_gives}
 use Rattle.spl_intrinsics.proofs.RoomLemmas.{joined, more_room}
-use Rattle.spl_arguments.specs.Covered.{is_passed_word, is_addressed, is_covered_reference, is_covered_argument, are_covered_arguments}
+use Rattle.spl_arguments.specs.Covered.{is_passed_word, is_covered_reference, is_covered_argument, are_covered_arguments}
 use Rattle.spl_arguments.specs.Laws.{ArgumentsAreWhole, ArgumentsSimulate}
 
 -- ---- references
 
--- what an address is that a name's word is
-record IsAddress (st : Setting) (k : ℕ) (a : Access) (pl : Option Place) : Type 0 where
-  type : Kind
-  place : Place
-  far : Bool
-  is : pl ≡ Some place
-  near : far ≡ false
-  reached : is_reached st k place ≡ true
-  made : (p : Place) → address a false (mode_of k p) ≡ loaded (its_own kind.Integer) false (mode_of k p)
-  means : (h : Here) (x : List ℕ) (s : State) → h.places x ≡ Some place → h.setting ≡ st → locate_by h x a None s ≡ led_located false type (Some place) 0 s
+-- the code of a reference is that of its address
+bare_whole : (a : Part) → IsWhole (a ⨟ nothing) → IsWhole a
+bare_whole a x = record {
+  closed = λ l ws. ap (λ (ps : List Piece). due_after true ps) (sym (append-nil (a l ws).pieces)) ∙ x.closed l ws;
+  keeps = λ l ws. x.keeps l ws;
+}
 
-not_true : (b : Bool) → not b ≡ true → b ≡ false
-not_true false e = refl
-not_true true e = absurd (false≢true e)
-
-never : (b : Bool) → b && false ≡ false
-never true = refl
-never false = refl
-
-address_case : (st : Setting) (k : ℕ) (a : Access) (pl : Option Place) → is_addressed st k a pl ≡ true → IsAddress st k a pl
-address_case st k (by_address t) (Some place) e =
-    let two = both (not st.split) (is_reached st k place) e in
-    record {
-      type = t;
-      place = place;
-      far = false;
-      is = refl;
-      near = refl;
-      reached = two.1;
-      made = λ p. refl;
-      means = λ h x s there same. ap (λ (o : Option Place). led_located false t o 0 s) there;
-    }
-address_case st k (by_cell is_pointer t) (Some place) e =
-    let two = both (not st.split) (is_reached st k place) e in
-    let whole = not_true st.split two.0 in
-    record {
-      type = t;
-      place = place;
-      far = false;
-      is = refl;
-      near = refl;
-      reached = two.1;
-      made = λ p. refl;
-      means = λ h x s there same.
-          ap (λ (o : Option Place). led_located (is_pointer && h.setting.split) t o 0 s) there
-          ∙ ap (λ (z : Setting). led_located (is_pointer && z.split) t (Some place) 0 s) same
-          ∙ ap (λ (b : Bool). led_located (is_pointer && b) t (Some place) 0 s) whole
-          ∙ ap (λ (b : Bool). led_located b t (Some place) 0 s) (never is_pointer);
-    }
-address_case st k (by_address t) None e = absurd (false≢true (both (not st.split) false e).1)
-address_case st k (by_cell is_pointer t) None e = absurd (false≢true (both (not st.split) false e).1)
-address_case st k (its_own t) pl e = absurd (false≢true e)
-address_case st k its_result pl e = absurd (false≢true e)
-address_case st k nowhere pl e = absurd (false≢true e)
-
--- an address without an index is the word itself
-first_address : (t : Kind) (w : ℕ) → w < 65536 → element_address t w 0 % 65536 ≡ w
-first_address kind.Integer w small = omega (arith, small)
-first_address kind.Logical w small = omega (arith, small)
-first_address kind.Byte w small = omega (arith, small)
-first_address kind.Double w small = omega (arith, small)
-
--- a word that is read, as the address of what it leads to
-word_as_address : (g : Ground) (w : Rate) (c lag e : ℕ) (u : Tally) (st : Setting) (q : Spot) (k : ℕ) (d : Data) (m m0 : Machine) (t : Kind) (o : Outcome ℕ)
-    → Follows g w c lag e u m (IsValue st q 1 k d m0) NoExit (then_go o (λ v s. done (v ∷ []) s))
-    → Follows g w c lag e u m (IsValue st q 1 k d m0) NoExit (then_go (then_go o (λ v s. done (element_located false t v 0) s)) address_done)
-word_as_address g w c lag e u st q k d m m0 t (done v s) f =
-    subst (λ (a : ℕ). Follows g w c lag e u m (IsValue st q 1 k d m0) NoExit (done (a ∷ []) s)) (sym (first_address t v f.2.small.0)) f
-word_as_address g w c lag e u st q k d m m0 t (leaves x s) f = f
-word_as_address g w c lag e u st q k d m m0 t (spent s) f = f
-word_as_address g w c lag e u st q k d m m0 t (ends x s) f = f
-word_as_address g w c lag e u st q k d m m0 t (strays s) f = f
-
--- the code of such a reference
-reference_code : (c : Scope) (st : Setting) (x : List ℕ) (at : At) (k : ℕ) (r : IsAddress st k (access_of (c.names x)) (c.places x))
-    → reference c (tree.Tree.named x tree.Trees.none at) k ≡ nothing ⨟ pieces (loaded (its_own kind.Integer) false (mode_of k r.place))
-reference_code c st x at k r =
-    ap (λ (o : Option Place). nothing ⨟ pieces (at_place o (λ place. address (access_of (c.names x)) false (mode_of k place)))) r.is
-    ∙ ap (λ (ps : List Piece). nothing ⨟ pieces ps) (r.made r.place)
-
-word_whole : (k : ℕ) (place : Place) → IsWhole (nothing ⨟ pieces (loaded (its_own kind.Integer) false (mode_of k place)))
-word_whole k place =
-    whole_first (pieces (loaded (its_own kind.Integer) false (mode_of k place))) (whole_pieces (loaded (its_own kind.Integer) false (mode_of k place)) refl)
+bare_simulates : (z : Surroundings) (d k need : ℕ) (a : Part) (f : State → Outcome (List ℕ)) → Simulates z d as_value 1 k need (a ⨟ nothing) f
+    → Simulates z d as_value 1 k need a f
+bare_simulates z d k need a f x = record {
+  does = λ h ws p q s l m stands front ready.
+      x.does h ws p q s l m (subst (λ (ps : List Piece). Stands z.ground z.sites p ps q) (sym (append-nil (a h ws).pieces)) stands) front ready;
+}
 
 reference_whole : (c : Scope) (st : Setting) (e : Tree) (k : ℕ) → is_covered_reference c st e k ≡ true → IsWhole (reference c e k)
-reference_whole c st (tree.Tree.named x tree.Trees.none at) k e =
-    let r = address_case st k (access_of (c.names x)) (c.places x) e in
-    subst (λ (a : Part). IsWhole a) (sym (reference_code c st x at k r)) (word_whole k r.place)
-reference_whole c st (tree.Tree.named x (tree.Trees.and i is) at) k e = absurd (false≢true e)
+reference_whole c st (tree.Tree.named x es at) k e = bare_whole (reference c (tree.Tree.named x es at) k) (covered_whole c st (tree.Tree.address x es at) k e)
 reference_whole c st (tree.Tree.number v) k e = absurd (false≢true e)
 reference_whole c st (tree.Tree.wide v) k e = absurd (false≢true e)
 reference_whole c st (tree.Tree.text bytes) k e = absurd (false≢true e)
@@ -141,23 +68,35 @@ reference_whole c st (tree.Tree.field a start size at) k e = absurd (false≢tru
 reference_whole c st (tree.Tree.transfer to a at) k e = absurd (false≢true e)
 reference_whole c st (tree.Tree.bytes o a b count at) k e = absurd (false≢true e)
 
+-- what comes behind a location that comes behind an index
+behind_both : {A B C : Type 0} (o : Outcome A) (f : A → State → Outcome B) (g : B → State → Outcome C)
+    → then_go (then_go o f) g ≡ then_go o (λ a s. then_go (f a s) g)
+behind_both (done a s) f g = refl
+behind_both (leaves x s) f g = refl
+behind_both (spent s) f g = refl
+behind_both (ends e s) f g = refl
+behind_both (strays s) f g = refl
+
+-- what waits in the index of a reference waits in the reference
+index_waits : (c : Scope) (st : Setting) (x : List ℕ) (es : Trees) (at : At) (k : ℕ) → is_covered c st (tree.Tree.address x es at) k ≡ true
+    → most c.names (tree.Tree.address x es at) ≤ most c.names (tree.Tree.named x es at)
+index_waits c st x tree.Trees.none at k e = omega arith
+index_waits c st x (tree.Trees.and i tree.Trees.none) at k e = omega arith
+index_waits c st x (tree.Trees.and i (tree.Trees.and j js)) at k e = absurd (false≢true e)
+
 reference_gives : (c : Scope) (results : List ℕ → Option (Kind × Place)) (z : Surroundings) (call : Callee) (d : ℕ) (e : Tree) (k need : ℕ)
-    → is_covered_reference c z.setting e k ≡ true → 1 ≤ need
+    → is_covered_reference c z.setting e k ≡ true → most c.names e + 8 ≤ need
     → Simulates z d as_value 1 k need (reference c e k) (λ s. then_go (located (read_with c results z.setting) call e k s) address_done)
-reference_gives c results z call d (tree.Tree.named x tree.Trees.none at) k need e enough =
-    let r = address_case z.setting k (access_of (c.names x)) (c.places x) e in
+reference_gives c results z call d (tree.Tree.named x es at) k need e enough =
     let h = read_with c results z.setting in
-    same_simulates z d as_value 1 k need (reference c (tree.Tree.named x tree.Trees.none at) k) (nothing ⨟ pieces (loaded (its_own kind.Integer) false (mode_of k r.place)))
-    (λ s. then_go (located h call (tree.Tree.named x tree.Trees.none at) k s) address_done)
-    (λ s. then_go (led_located false r.type (Some r.place) 0 s) address_done) (reference_code c z.setting x at k r)
-    (λ s. ap (λ (o : Outcome _). then_go o address_done) (r.means h x s r.is refl))
-    (first_simulates z d as_value 1 k need (pieces (loaded (its_own kind.Integer) false (mode_of k r.place))) (λ s. then_go (led_located false r.type (Some r.place) 0 s) address_done)
-    (record {
-      does = λ i ws p q s l m stands front ready.
-          word_as_address z.ground z.rate (pos q - pos p.at) 1 z.rate.reach (tally_with l s) z.setting q k s.now m m r.type (word_at false (address_of r.place s.now) s)
-          ((variables_give z d k need kind.Integer r.place refl r.reached enough).does i ws p q s l m stands front ready);
-    }))
-reference_gives c results z call d (tree.Tree.named x (tree.Trees.and i is) at) k need e enough = absurd (false≢true e)
+    let few = index_waits c z.setting x es at k e in
+    same_simulates z d as_value 1 k need (reference c (tree.Tree.named x es at) k) (reference c (tree.Tree.named x es at) k)
+    (λ s. then_go (located h call (tree.Tree.named x es at) k s) address_done) (λ s. value h call (tree.Tree.address x es at) k s) refl
+    (λ s. behind_both (index h call es k s) (λ i t. locate h x i t) address_done)
+    (bare_simulates z d k need (reference c (tree.Tree.named x es at) k) (λ s. value h call (tree.Tree.address x es at) k s)
+    (subst (λ (j : ℕ). Simulates z d as_value j k need (code c (tree.Tree.address x es at) as_value k) (λ s. value h call (tree.Tree.address x es at) k s))
+    (covered_width c z.setting (tree.Tree.address x es at) k e)
+    (covered_gives c results z call d (tree.Tree.address x es at) k need e (omega (arith, enough, few)))))
 reference_gives c results z call d (tree.Tree.number v) k need e enough = absurd (false≢true e)
 reference_gives c results z call d (tree.Tree.wide v) k need e enough = absurd (false≢true e)
 reference_gives c results z call d (tree.Tree.text bytes) k need e enough = absurd (false≢true e)
@@ -233,7 +172,7 @@ argument_gives c results z call d true t e k need h enough =
           word_passed z.ground z.rate (pos q - pos p.at) 1 z.rate.reach (tally_with l s) z.setting q k s.now m m t (value v call e k s) two.0
           (word.does i ws p q s l m stands front ready);
     }))
-argument_gives c results z call d false t e k need h enough = reference_gives c results z call d e k need h (omega (arith, enough))
+argument_gives c results z call d false t e k need h enough = reference_gives c results z call d e k need h enough
 
 -- ---- lists
 

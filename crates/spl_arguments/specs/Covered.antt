@@ -1,15 +1,14 @@
 -- Which arguments are covered: those whose every part has a law. A further construct makes it larger.
-use Rattle.std.specs.Prelude.{ℕ, ◌+◌, ◌&&◌, not, if◌then◌else◌, Bool, true, false, List, [], ◌∷◌, Option, Some, None}
+use Rattle.std.specs.Prelude.{ℕ, ◌+◌, ◌&&◌, if◌then◌else◌, Bool, true, false, List, [], ◌∷◌, Option, Some, None}
 use Rattle.spl_tree.specs.declared.expressions.Kind.{Kind}
 use Rattle.spl_tree.specs.declared.expressions.Kind.TheVariants as kind
 use Rattle.spl_tree.specs.Trees as tree
 use Rattle.spl_tree.specs.Trees.{Tree, Trees}
 use Rattle.spl_meaning.specs.Names.{Formal}
 use Rattle.spl_meaning.specs.Pending.{by_value, formal_words}
-use Rattle.spl_meaning.specs.Places.{Place}
-use Rattle.spl_meaning.specs.References.{Setting, Access, by_address, by_cell, access_of}
+use Rattle.spl_meaning.specs.References.{Setting}
 use Rattle.spl_code.specs.Calls.{Scope}
-use Rattle.spl_covered.specs.Covered.{has_reached, is_covered}
+use Rattle.spl_covered.specs.Covered.{is_covered}
 
 -- a value that is passed as it is: of an INTEGER or a LOGICAL
 abbrev pub is_passed_word : Option Kind → Bool
@@ -17,16 +16,9 @@ is_passed_word (Some kind.Integer) = true
 is_passed_word (Some kind.Logical) = true
 is_passed_word o = false
 
--- A name whose word is the address of what it leads to, where that word is reached, in no split procedure: a parameter by reference, or an array
--- or a pointer without an index.
-abbrev pub is_addressed : Setting → ℕ → Access → Option Place → Bool
-is_addressed st k (by_address t) place = not st.split && has_reached st k place
-is_addressed st k (by_cell is_pointer t) place = not st.split && has_reached st k place
-is_addressed st k a place = false
-
--- a reference to it
+-- a reference whose address is covered
 abbrev pub is_covered_reference : Scope → Setting → Tree → ℕ → Bool
-is_covered_reference c st (tree.Tree.named x tree.Trees.none at) k = is_addressed st k (access_of (c.names x)) (c.places x)
+is_covered_reference c st (tree.Tree.named x es at) k = is_covered c st (tree.Tree.address x es at) k
 is_covered_reference c st e k = false
 
 -- an argument for a parameter by value, or by reference
