@@ -69,7 +69,7 @@ words_there None l k e is = absurd (false≢true e)
 words_there (Some x) l k e is = let same : x ≡ l = cc is in ap (λ (v : Landing). v.pending) (sym same) ∙ eqb-true x.pending k e
 
 -- a name that stands among these and others
-either_named : (xs ys : List (List ℕ)) (y : List ℕ) → has_name (xs ++ ys) y ≡ (if has_name xs y then true else has_name ys y)
+pub either_named : (xs ys : List (List ℕ)) (y : List ℕ) → has_name (xs ++ ys) y ≡ (if has_name xs y then true else has_name ys y)
 either_named [] ys y = refl
 either_named (x ∷ xs) ys y = by (same_name y x) (either_named xs ys y) where
   by : (b : Bool) → has_name (xs ++ ys) y ≡ (if has_name xs y then true else has_name ys y)

@@ -13,7 +13,8 @@ abbrev pub AllSo : Bool → List String → Type 0
 AllSo covered [] = Unit {0}
 AllSo covered (t ∷ ts) = IsSo covered t × AllSo covered ts
 
--- sums, loops, choices, elements of arrays, and what is declared and not called
+-- sums, loops, choices, elements of arrays, what is declared and not called; and jumps: backwards, forwards, out of a FOR, inside one, and from one
+-- arm of a CASE to another
 abbrev pub covered_texts : List String
 covered_texts =
     "BEGIN INTEGER I; INTRINSIC QUIT; I:=2; I:=I+3; QUIT(I) END."
@@ -23,14 +24,19 @@ covered_texts =
     ∷ "BEGIN INTEGER ARRAY A(0:9); INTEGER I; A(3):=7; I:=A(I+3)*2 END."
     ∷ "BEGIN BYTE ARRAY B(0:3); B(1):=65 END."
     ∷ "BEGIN INTEGER I; PROCEDURE P; I:=1; I:=2 END."
-    ∷ "BEGIN INTRINSIC TERMINATE; TERMINATE END." ∷ []
+    ∷ "BEGIN INTRINSIC TERMINATE; TERMINATE END."
+    ∷ "BEGIN INTEGER I; L: I:=1; GO TO L END."
+    ∷ "BEGIN INTEGER I; IF I=0 THEN GO TO L; I:=1; L: M: I:=2 END."
+    ∷ "BEGIN INTEGER I,K; FOR I:=1 UNTIL 9 DO BEGIN K:=K+I; IF K>10 THEN GO TO L END; L: K:=0 END."
+    ∷ "BEGIN INTEGER I,K; FOR I:=1 UNTIL 3 DO BEGIN M: K:=K+1; IF K<I THEN GO TO M END END."
+    ∷ "BEGIN INTEGER I; CASE I OF BEGIN GO TO M; M: I:=2 END END." ∷ []
 
--- a BYTE variable, a DOUBLE, a label, a call of a procedure, an intrinsic that goes on, and a unit without a main body
+-- a BYTE variable, a DOUBLE, also behind a label, a call of a procedure, an intrinsic that goes on, and a unit without a main body
 abbrev pub other_texts : List String
 other_texts =
     "BEGIN BYTE C; C:=65 END."
     ∷ "BEGIN DOUBLE D; D:=1D END."
-    ∷ "BEGIN INTEGER I; L: I:=1; GO TO L END."
+    ∷ "BEGIN DOUBLE D; L: D:=1D; GO TO L END."
     ∷ "BEGIN INTEGER I; PROCEDURE P; I:=1; P END."
     ∷ "BEGIN LOGICAL ARRAY W(0:3); INTRINSIC PRINT; PRINT(W,2,0) END."
     ∷ "$CONTROL SUBPROGRAM\nBEGIN INTEGER I; PROCEDURE P; I:=1; END." ∷ []
