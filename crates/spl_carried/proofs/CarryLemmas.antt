@@ -1,40 +1,36 @@
 -- A program whose main body is covered follows the run of its units.
-use Rattle.std.proofs.Common.{◌≡◌, ℕ, zero, suc, ◌+◌, ◌-◌, ◌*◌, ◌≤◌, Bool, true, false, List, [], ◌∷◌, ◌++◌, length, Option, Some, None, refl, sym, ap, subst, ◌∙◌, arith, inl}
-use Rattle.std.specs.Prelude.{◌==◌, ◌&&◌, ◌||◌, not, nat_eq, nat_le, slice_get, unwrap_or, option_map, codes, if◌then◌else◌}
+use Rattle.std.proofs.Common.{◌≡◌, ℕ, zero, suc, ◌+◌, ◌<◌, ◌≤◌, Bool, true, false, List, [], ◌∷◌, ◌++◌, length, Option, Some, None, refl, sym, ap, subst, ◌∙◌, arith, ◌-◌, ◌*◌, inl}
+use Rattle.std.specs.Prelude.{◌==◌, ◌||◌, not, nat_eq, nat_lt, slice_get, unwrap_or, option_map, codes, if◌then◌else◌, ◌&&◌, nat_le}
 use Rattle.std.specs.List.{list_all}
-use Rattle.std.proofs.lemmas.Bool.{and_parts, eqb-true, leb-true, false≢true}
+use Rattle.std.proofs.lemmas.Bool.{and_parts, eqb-true, ltb-true, false≢true, leb-true}
 use Rattle.hp_word.specs.declared.endings.Ending.TheVariants.{Running, Terminated}
 use Rattle.hp_word.specs.declared.intrinsics.Intrinsic.TheVariants as gate
 use Rattle.hp_instr.specs.declared.instruction.Instr.TheVariants as i
 use Rattle.hp_program.specs.declared.program.Program.{Program}
 use Rattle.hp_program.specs.Programs.{segments_of, words_of}
 use Rattle.hp_program.specs.Valid.{label_of}
-use Rattle.hp_session.specs.State.{Machine}
 use Rattle.hp_flat.specs.Views.{start_of}
-use Rattle.hp_steady.specs.Laws.{WordsAreNear}
 use Rattle.hp_steady.proofs.ProgramLaws.{words_near}
 use Rattle.spl_tree.specs.declared.expressions.Kind.{Kind}
 use Rattle.spl_meaning.specs.Names.{Names, or_else}
 use Rattle.spl_meaning.specs.Places.{Place}
-use Rattle.spl_meaning.specs.References.{Here}
 use Rattle.spl_meaning.specs.Tables.{Source}
-use Rattle.spl_meaning.specs.Bodies.{Body, main_body, program_of}
+use Rattle.spl_meaning.specs.StatementRules.{list_labels}
+use Rattle.spl_meaning.specs.Bodies.{Body, Reached, reached_behind, main_body}
 use Rattle.spl_meaning.specs.Runs.{Seat}
 use Rattle.spl_branch.specs.declared.pieces.Piece.{Piece}
-use Rattle.spl_branch.specs.declared.pieces.Piece.TheVariants.{Mark, Call}
 use Rattle.spl_branch.specs.declared.modules.Module.{Module}
-use Rattle.spl_branch.specs.declared.buffer.Code.{Code}
 use Rattle.spl_branch.specs.Modules.{Finished}
 use Rattle.spl_code.specs.Parts.{Wanted, wants_of, wanted_place, with_wanted}
 use Rattle.spl_body_code.specs.Frames.{granted}
+use Rattle.spl_statement_code.specs.Landings.{Landing, Context}
 use Rattle.spl_statement_code.specs.Statements.{listed}
 use Rattle.spl_scopes.specs.Entries.{main, Entry, module_entries}
 use Rattle.spl_scopes.specs.Scopes.{Placed, first_reached, placed_units, global_places, outer_body}
-use Rattle.spl_module_code.specs.Bodies.{is_called, seen_results, assigned_place, statements_scope, context_of}
-use Rattle.spl_module_code.specs.Modules.{holds_main, main_mark, module_written, IsCodeOf, IsModuleOf}
+use Rattle.spl_module_code.specs.Bodies.{is_called, seen_results, statements_scope}
+use Rattle.spl_module_code.specs.Modules.{holds_main, main_mark, module_written, IsModuleOf}
 use Rattle.mpe_segmenter.specs.Names.{Part, parts}
-use Rattle.mpe_segmenter.specs.Entries.{owned}
-use Rattle.mpe_segmenter.specs.Counts.{sizes, is_fitting}
+use Rattle.mpe_segmenter.specs.Counts.{sizes}
 use Rattle.mpe_segmenter.specs.Programs.{program_words}
 use Rattle.mpe_segmenter.specs.Sites.{IsModule, module_entries as entries_of}
 use Rattle.mpe_segmenter.specs.Whole.{IsWhole}
@@ -49,7 +45,7 @@ use Rattle.spl_branch.specs.Stands.{at_left}
 use Rattle.spl_code.specs.Parts.{Written}
 use Rattle.spl_meaning.specs.Laws.{IsFront}
 use Rattle.spl_complete_codes.proofs.Complete.{complete}
-use Rattle.spl_follow.specs.Spots.{Spot, spot, pos, on, Ground}
+use Rattle.spl_follow.specs.Spots.{Spot, pos, on, Ground}
 use Rattle.spl_follow.specs.Standing.{Sites, Stands, due_after}
 use Rattle.spl_follow.specs.Following.{Rate}
 use Rattle.spl_follow.specs.Doing.{calling}
@@ -69,6 +65,9 @@ use Rattle.spl_endings.proofs.WantLemmas.{wanted_there, wanted_keeps}
 use Rattle.spl_endings.proofs.GateLemmas.{last_ends}
 use Rattle.spl_grants.proofs.GrantLemmas.{pieces_grant}
 use Rattle.spl_followed.specs.Mains.{MainFramed, MainStatementsFollow}
+use Rattle.spl_jumps.specs.Landed.{are_landed, MayJump}
+use Rattle.spl_sound_jumps.specs.Laws.{LandsInUnit, SoundMainsLand}
+use Rattle.spl_places.specs.Programs.{Each}
 use Rattle.spl_stores.proofs.CoverLemmas.{list_clear}
 use Rattle.spl_mains.proofs.MainLemmas.{bodies_follow}
 use Rattle.mpe_segmenter.specs.Faults.{first_fault}
@@ -80,7 +79,7 @@ use Rattle.spl_carried.specs.Laws.{CoveredProgramsCarry}
 use Rattle.spl_carried.proofs.WholeLemmas.{whole_parts}
 use Rattle.spl_carried.proofs.MainLemmas.{IsIn, at_front, behind, in_all, MainThere, main_there, main_is}
 use Rattle.spl_carried.proofs.GateLemmas.{module_gates_lead}
-use Rattle.spl_carried.proofs.PieceLemmas.{MainPieces, main_pieces, MainStands, main_stands}
+use Rattle.spl_carried.proofs.PieceLemmas.{landing_place, way_out, main_context, MainPieces, main_pieces, MainStands, main_stands}
 use Rattle.spl_covered.specs.Laws.{read_with}
 use Rattle.spl_followed.specs.Mains.{main_setting}
 use Rattle.spl_carries.specs.Segments.{initial_words}
@@ -181,6 +180,7 @@ pub record MadeOf (us : List Source) (p : Program) (ms : List Module) : Type 0 w
   pub main : main_from 0 (parts ms) ≡ Some (p.main, p.entry)
   pub kinds : (q : Placed) (g : ℕ) → list_all is_of_kind (module_written q g).pieces ≡ true
   pub well : (q : Placed) (g : ℕ) → IsIn q (placed_units (first_reached us) us) → begins_well false (module_written q g).pieces ≡ true
+  pub lands : (q : Placed) → IsIn q (placed_units (first_reached us) us) → LandsInUnit q.unit
 
 module _ (us : List Source) (p : Program) (ms : List Module) (f : MadeOf us p ms) (seg : ℕ) (front : List Module) (m : Module) (back : List Module)
     (is : IsModule (parts ms) seg front m back) (unit : Placed) (there : IsIn unit (placed_units (first_reached us) us)) (name : List ℕ)
@@ -207,8 +207,15 @@ module _ (us : List Source) (p : Program) (ms : List Module) (f : MadeOf us p ms
   parts_of : MainPieces unit unit.unit.tree.segment body
   parts_of = main_pieces unit unit.unit.tree.segment body holds (outer_is unit whole)
 
+  abbrev context : Context
+  context = main_context es body parts_of.mark
+
   abbrev statements : Written
-  statements = listed (context_of es main body parts_of.table (length es)) body.statements 0 parts_of.marks parts_of.wants
+  statements = listed context body.statements 0 parts_of.marks parts_of.wants
+
+  -- its labels and jumps lead somewhere
+  landed : are_landed context.landings (list_labels body.statements) body.statements 0 ≡ true
+  landed = f.lands unit there parts_of.mark
 
   abbrev index : ℕ
   index = wanted_place (codes "TERMINATE") true statements.wants
@@ -243,7 +250,7 @@ module _ (us : List Source) (p : Program) (ms : List Module) (f : MadeOf us p ms
       (complete unit name unit.unit.tree.segment of.code of.is).pieces calls
 
   clear : due_after false statements.pieces ≡ false
-  clear = list_clear (context_of es main body parts_of.table (length es)) main_setting body.statements 0 covered parts_of.marks parts_of.wants
+  clear = list_clear context main_setting body.statements 0 covered (list_labels body.statements) landed parts_of.marks parts_of.wants
 
   stands : MainStands ground sites (length es) (granted body.depth') statements.pieces index end
   stands =
@@ -310,14 +317,22 @@ module _ (us : List Source) (p : Program) (ms : List Module) (f : MadeOf us p ms
     sites = sites;
     wants = wants;
     setting = main_setting;
-    exits = record { target = λ e. stands.leave; held = λ e. 0 };
+    exits = record { target = way_out context.landings sites.marks stands.leave; held = λ e. 0 };
+  }
+
+  -- a label's mark is where the way out to it leads; there are no lists around the body's
+  jumps : MayJump context.landings around [] 0
+  jumps = record {
+    marks = λ y l is. sym (ap (λ (o : Option Landing). landing_place sites.marks stands.leave o) is);
+    held = λ y l named is. absurd (false≢true named);
+    few = λ y l named is. absurd (false≢true named);
   }
 
   followed : MainStatementsFollow ground rate us body stands.first stands.leave
   followed =
       let within = stands.within in
-      bodies_follow us body (context_of es main body parts_of.table (length es)) around stands.first stands.leave parts_of.marks parts_of.wants refl refl
-      (here_is es unit) (omega arith) covered stands.statements_stand wanted (omega (arith, within, far)) (record { gates = gates })
+      bodies_follow us body context around stands.first stands.leave parts_of.marks parts_of.wants refl refl
+      (here_is es unit) (omega arith) covered stands.statements_stand wanted (omega (arith, within, far)) (record { gates = gates }) jumps landed
 
 -- ---- the program
 
@@ -396,10 +411,16 @@ place_of x [] k = elim k [ ]
 place_of x (y ∷ xs) (at_front e) = (0, ap (λ z. Some z) (sym e))
 place_of x (y ∷ xs) (behind k) = let r = place_of x xs k in (suc r.0, r.1)
 
+-- what holds of each unit holds of each that is placed
+each_placed : (P : Source → Type 0) (at : Reached) (us : List Source) (q : Placed) → Each P us → IsIn q (placed_units at us) → P q.unit
+each_placed P at [] q each k = elim k [ ]
+each_placed P at (u ∷ us) q each (at_front e) = subst (λ (r : Placed). P r.unit) (sym e) each.0
+each_placed P at (u ∷ us) q each (behind k) = each_placed P (reached_behind u at) us q each.1 k
+
 -- what is known of what modules of units make
 made_of : (us : List Source) (ms : List Module) (globals : List ℕ) (p : Program) → IsOf us ms globals p → first_fault ms ≡ None → CodesHaveKinds
-    → SoundCodesBeginWell → MadeOf us p ms
-made_of us ms globals p is none kinds well = record {
+    → SoundCodesBeginWell → SoundMainsLand → MadeOf us p ms
+made_of us ms globals p is none kinds well lands = record {
   are = is.are_modules;
   whole = whole_parts us ms is.are_modules none;
   segments = is.makes.segments;
@@ -407,11 +428,12 @@ made_of us ms globals p is none kinds well = record {
   main = is.makes.main;
   kinds = kinds;
   well = λ q g there. let at = place_of q (placed_units (first_reached us) us) there in well us is.spelled is.sound at.0 q at.1 g;
+  lands = λ q there. each_placed LandsInUnit (first_reached us) us q (lands us is.sound) there;
 }
 
-pub carried : CodesHaveKinds → SoundCodesBeginWell → ProgramsKeepBounds → DataWordsAreInitial → FramedProgramsFollow → FollowedProgramsCarry
-    → CoveredProgramsCarry
-carried kinds well bounds initial framed carry us ms globals p is numbers none laid covered =
+pub carried : CodesHaveKinds → SoundCodesBeginWell → SoundMainsLand → ProgramsKeepBounds → DataWordsAreInitial → FramedProgramsFollow
+    → FollowedProgramsCarry → CoveredProgramsCarry
+carried kinds well lands bounds initial framed carry us ms globals p is numbers none laid covered =
     let words = is.makes.data_words ∙ (initial us globals laid).1 in
     carry p us (bounds us ms globals p is numbers) words
-    (program_follows us p ms (made_of us ms globals p is none kinds well) covered framed words)
+    (program_follows us p ms (made_of us ms globals p is none kinds well lands) covered framed words)

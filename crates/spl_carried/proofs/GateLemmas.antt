@@ -1,6 +1,6 @@
 -- The names of intrinsics lead to where these are served.
 use Prim.Native.String.{String}
-use Rattle.std.proofs.Common.{◌≡◌, ℕ, zero, suc, ◌+◌, Bool, true, false, List, [], ◌∷◌, map, codes, Option, Some, None, refl, sym, ap, subst, ◌∙◌}
+use Rattle.std.proofs.Common.{◌≡◌, ℕ, zero, suc, ◌+◌, Bool, true, false, List, [], ◌∷◌, map, codes, Option, Some, refl, ap, ◌∙◌}
 use Rattle.std.specs.Prelude.{slice_get, unwrap_or, if◌then◌else◌}
 use Rattle.hp_word.specs.declared.intrinsics.Intrinsic.{Intrinsic}
 use Rattle.hp_call_rows.specs.GateRows.{intrinsic}
@@ -9,14 +9,13 @@ use Rattle.spl_branch.specs.declared.modules.Module.{Module}
 use Rattle.spl_meaning.specs.Names.{same_name, intrinsics, intrinsic_among, intrinsic_named}
 use Rattle.spl_code.specs.Parts.{Wanted, wanted_of, wants_of}
 use Rattle.mpe_segmenter.specs.Names.{Part}
-use Rattle.mpe_segmenter.specs.Entries.{gates, gate_from, gate_of}
+use Rattle.mpe_segmenter.specs.Entries.{gate_from, gate_of}
 use Rattle.mpe_segmenter.specs.Counts.{sizes}
 use Rattle.mpe_segmenter.specs.Programs.{program_words}
 use Rattle.mpe_segmenter.specs.Sites.{IsModule, module_entries}
 use Rattle.mpe_segmenter.specs.Whole.{IsWhole}
-use Rattle.hp_leads.specs.Words.{entry_way}
 use Rattle.spl_follow.specs.Doing.{Way, gate}
-use Rattle.spl_endings.specs.Gates.{Served, GatesLead}
+use Rattle.spl_endings.specs.Gates.{GatesLead}
 use Rattle.spl_ways.specs.Ways.{module_sites}
 use Rattle.spl_ways.proofs.WayLemmas.{gate_leads}
 

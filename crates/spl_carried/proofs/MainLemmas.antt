@@ -1,12 +1,12 @@
 -- Where the main body of a program is: among its units, among its modules, and among its segments.
-use Rattle.std.proofs.Common.{◌≡◌, ℕ, zero, suc, ◌+◌, ◌≤◌, Bool, true, false, List, [], ◌∷◌, ◌++◌, map, length, Option, Some, None, refl, sym, ap, subst, ◌∙◌, arith}
-use Rattle.std.specs.Prelude.{slice_get, is_some, option_map, unwrap_or, if◌then◌else◌, ◌==◌, ◌&&◌, ◌||◌}
+use Rattle.std.proofs.Common.{◌≡◌, ℕ, zero, suc, ◌+◌, Bool, true, false, List, [], ◌∷◌, ◌++◌, map, length, Option, Some, None, refl, sym, ap, subst, ◌∙◌, arith}
+use Rattle.std.specs.Prelude.{slice_get, is_some, option_map, unwrap_or, if◌then◌else◌}
 use Rattle.std.specs.Cmp.Lexicographic.{pointwise}
 use Rattle.std.specs.Prelude.{nat_eq}
 use Rattle.std.specs.List.{list_all}
-use Rattle.std.proofs.lemmas.Bool.{and_parts, eqb-true, false≢true}
+use Rattle.std.proofs.lemmas.Bool.{and_parts, false≢true}
 use Rattle.spl_meaning.specs.Tables.{Source}
-use Rattle.spl_meaning.specs.Bodies.{Body, Reached, reached_behind, main_body, program_from, program_of, data_words}
+use Rattle.spl_meaning.specs.Bodies.{Reached, reached_behind, main_body, program_from, program_of, data_words}
 use Rattle.spl_branch.specs.declared.modules.Module.{Module}
 use Rattle.mpe_segmenter.specs.Names.{segment_of, segment_names, modules_of, Part, part_from, parts}
 use Rattle.mpe_segmenter.specs.Entries.{own_count, owned, either}

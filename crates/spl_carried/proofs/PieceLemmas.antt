@@ -1,36 +1,32 @@
 -- The pieces of a main body, among those of its module, and where each part of them stands.
-use Rattle.std.proofs.Common.{◌≡◌, ℕ, suc, ◌+◌, ◌-◌, ◌/◌, ◌%◌, ◌<◌, ◌≤◌, Bool, true, false, List, [], ◌∷◌, ◌++◌, length, Option, Some, None, refl, sym, ap, subst, ◌∙◌, arith}
-use Rattle.std.specs.Prelude.{◌&&◌, ◌||◌, not, nat_lt, nat_eq, min, codes, if◌then◌else◌}
-use Rattle.std.proofs.lemmas.Bool.{and_parts, false≢true, ltb-true}
+use Rattle.std.proofs.Common.{◌≡◌, ℕ, ◌+◌, ◌≤◌, Bool, true, false, List, [], ◌∷◌, ◌++◌, length, Option, Some, None, refl, sym, ap, subst, ◌∙◌, arith}
+use Rattle.std.specs.Prelude.{◌&&◌, not, nat_lt, min, codes, if◌then◌else◌}
+use Rattle.std.proofs.lemmas.Bool.{and_parts, false≢true}
 use Rattle.hp_instr.specs.declared.instruction.Instr.TheVariants as i
 use Rattle.spl_tree.specs.DeclarationTrees.{declarations}
 use Rattle.spl_meaning.specs.Names.{Table}
-use Rattle.spl_meaning.specs.Bodies.{Body, main_body}
+use Rattle.spl_meaning.specs.Bodies.{Body}
+use Rattle.spl_meaning.specs.States.{Exit, to_label, back}
 use Rattle.spl_branch.specs.declared.pieces.Piece.{Piece}
 use Rattle.spl_branch.specs.declared.pieces.Piece.TheVariants.{Do, Literal, Place, Branch, Mark, Call, Begin}
 use Rattle.spl_code.specs.Constants.{constant}
-use Rattle.spl_code.specs.Instructions.{LDI, LDNI, LSL, ORI}
-use Rattle.spl_code.specs.Parts.{Part, Wanted, nothing, ◌⨟◌, wanted_place, with_wanted}
+use Rattle.spl_code.specs.Parts.{Part, Wanted, Written, nothing, wanted_place, with_wanted}
 use Rattle.spl_body_code.specs.Frames.{ROOM, granted}
-use Rattle.spl_statement_code.specs.Landings.{Landing}
+use Rattle.spl_statement_code.specs.Landings.{Landing, Context}
 use Rattle.spl_statement_code.specs.Statements.{listed}
 use Rattle.spl_scopes.specs.Entries.{main, Entry, module_entries}
-use Rattle.spl_scopes.specs.Scopes.{Placed, global_places, outer_body}
-use Rattle.spl_module_code.specs.LabelsOfBodies.{Label, labels_among, with_landings}
+use Rattle.spl_scopes.specs.Scopes.{Placed, outer_body}
+use Rattle.spl_module_code.specs.LabelsOfBodies.{labels_among, landed_from}
+use Rattle.spl_label_marks.proofs.LabelParts.{landed_part}
 use Rattle.spl_module_code.specs.Bodies.{context_of, main_part}
 use Rattle.spl_module_code.specs.Modules.{declared_parts, holds_main, main_at, marks_before, module_written}
-use Rattle.spl_follow.specs.Spots.{Spot, spot, pos, Point, on, Ground, next_word, Real}
+use Rattle.spl_follow.specs.Spots.{Spot, pos, Point, on, Ground}
 use Rattle.spl_follow.specs.Leading.{Leads}
 use Rattle.spl_follow.specs.Doing.{calling}
-use Rattle.spl_follow.specs.Following.{Rate}
-use Rattle.spl_follow.specs.Rooms.{Grants}
 use Rattle.spl_follow.specs.Standing.{Sites, Stands, due_after, due_behind}
 use Rattle.spl_follow.proofs.PartLemmas.{stand_from_place}
 use Rattle.spl_follow.proofs.StandLemmas.{due_add}
-use Rattle.spl_sites.specs.Beginnings.{is_run, is_beginning, begins_well}
-use Rattle.spl_followed.specs.Mains.{main_setting}
-use Rattle.spl_stores.specs.Covered.{are_covered}
-use Rattle.spl_stores.proofs.CoverLemmas.{list_clear}
+use Rattle.spl_sites.specs.Beginnings.{is_beginning, begins_well}
 
 -- ---- what is due
 
@@ -65,31 +61,25 @@ granted_clear need = by (nat_lt 0 need && nat_lt need 256) where
 
 -- ---- the pieces of a main body
 
--- a part with marks for labels is that part with some table of them
-record Landed (part : Table Landing → Part) (made : Part) (l : ℕ) (ws : List Wanted) : Type 0 where
-  table : Table Landing
-  marks : ℕ
-  pieces : (made l ws).pieces ≡ (part table marks ws).pieces
-  wants : (made l ws).wants ≡ (part table marks ws).wants
+-- where the labels of a body lead that have the marks from one on
+abbrev pub labels_from : ℕ → Body → Table Landing
+labels_from mark b = landed_from mark (labels_among b.statements 0)
 
-landed : (xs : List Label) (part : Table Landing → Part) (l : ℕ) (ws : List Wanted) → Landed part (with_landings xs part) l ws
-landed [] part l ws = record { table = []; marks = l; pieces = refl; wants = refl }
-landed (x ∷ xs) part l ws =
-    let entry : List ℕ × Landing = (x.name, record { mark = l; pending = x.pending }) in
-    let r = landed xs (λ t. part (entry ∷ t)) (suc l) ws in
-    record { table = entry ∷ r.table; marks = r.marks; pieces = r.pieces; wants = r.wants }
+-- what its statements are made with
+abbrev pub main_context : List Entry → Body → ℕ → Context
+main_context es b mark = context_of es main b (labels_from mark b) (length es)
 
 -- The pieces of a module that holds a main body: others, the mark of the body's entry, its room, its statements, and the call that ends it.
--- No name is wanted behind that.
+-- No name is wanted behind that. The labels of the statements have marks of their own from one on.
 pub record MainPieces (p : Placed) (g : ℕ) (b : Body) : Type 0 where
   pub before : List Piece
-  pub table : Table Landing
+  pub mark : ℕ
   pub marks : ℕ
   pub wants : List Wanted
   pub pieces : (module_written p g).pieces
-      ≡ before ++ Mark (length (module_entries p.unit g)) ∷ ((granted b.depth' ++ (listed (context_of (module_entries p.unit g) main b table (length (module_entries p.unit g))) b.statements 0 marks wants).pieces)
-      ++ Call (i.Control 0 0) true (wanted_place (codes "TERMINATE") true (listed (context_of (module_entries p.unit g) main b table (length (module_entries p.unit g))) b.statements 0 marks wants).wants) ∷ [])
-  pub last : (module_written p g).wants ≡ with_wanted (codes "TERMINATE") true (listed (context_of (module_entries p.unit g) main b table (length (module_entries p.unit g))) b.statements 0 marks wants).wants
+      ≡ before ++ Mark (length (module_entries p.unit g)) ∷ ((granted b.depth' ++ (listed (main_context (module_entries p.unit g) b mark) b.statements 0 marks wants).pieces)
+      ++ Call (i.Control 0 0) true (wanted_place (codes "TERMINATE") true (listed (main_context (module_entries p.unit g) b mark) b.statements 0 marks wants).wants) ∷ [])
+  pub last : (module_written p g).wants ≡ with_wanted (codes "TERMINATE") true (listed (main_context (module_entries p.unit g) b mark) b.statements 0 marks wants).wants
 
 pub main_pieces : (p : Placed) (g : ℕ) (b : Body) → holds_main p g ≡ true → outer_body p main ≡ Some b → MainPieces p g b
 main_pieces p g b holds is =
@@ -97,19 +87,20 @@ main_pieces p g b holds is =
     let mark = length es in
     let front = declared_parts p g 0 0 0 (declarations p.unit.tree.items) (marks_before p g) [] in
     let l = marks_before p g + front.marks in
+    let ls = labels_among b.statements 0 in
+    let part : Table Landing → Part = λ labels. listed (context_of es main b labels mark) b.statements 0 in
     let call : List Wanted → List Piece = λ ws. Call (i.Control 0 0) true (wanted_place (codes "TERMINATE") true ws) ∷ [] in
-    let r = landed (labels_among b.statements 0) (λ labels. listed (context_of es main b labels mark) b.statements 0) (l + 0) front.wants in
+    let whole : Written → List Piece = λ w. front.pieces ++ Mark mark ∷ ((granted b.depth' ++ w.pieces) ++ call w.wants) in
+    let is_made = landed_part ls part (l + 0) front.wants in
     let body : (if holds_main p g then main_at es (outer_body p main) else nothing) ≡ main_part es mark b =
     ap (λ (c : Bool). if c then main_at es (outer_body p main) else nothing) holds ∙ ap (λ (o : Option Body). main_at es o) is in
     record {
       before = front.pieces;
-      table = r.table;
-      marks = r.marks;
+      mark = l + 0;
+      marks = l + 0 + length ls;
       wants = front.wants;
-      pieces = ap (λ (x : Part). front.pieces ++ (x l front.wants).pieces) body
-          ∙ ap (λ (ps : List Piece). front.pieces ++ Mark mark ∷ ((granted b.depth' ++ ps) ++ call (with_landings (labels_among b.statements 0) (λ labels. listed (context_of es main b labels mark) b.statements 0) (l + 0) front.wants).wants)) r.pieces
-          ∙ ap (λ (ws : List Wanted). front.pieces ++ Mark mark ∷ ((granted b.depth' ++ (listed (context_of es main b r.table mark) b.statements 0 r.marks front.wants).pieces) ++ call ws)) r.wants;
-      last = ap (λ (x : Part). (x l front.wants).wants) body ∙ ap (λ (ws : List Wanted). with_wanted (codes "TERMINATE") true ws) r.wants;
+      pieces = ap (λ (x : Part). front.pieces ++ (x l front.wants).pieces) body ∙ ap whole is_made;
+      last = ap (λ (x : Part). (x l front.wants).wants) body ∙ ap (λ (w : Written). with_wanted (codes "TERMINATE") true w.wants) is_made;
     }
 
 -- ---- where they stand
@@ -153,3 +144,14 @@ main_stands g w before entry need statements index start end well clear stands =
       left = to;
       within = inner.4;
     }
+
+-- ---- ways out
+
+-- where a label leads, and behind the statements where it leads nowhere
+abbrev pub landing_place : (ℕ → Spot) → Spot → Option Landing → Spot
+landing_place marks leave (Some l) = marks l.mark
+landing_place marks leave None = leave
+
+abbrev pub way_out : (List ℕ → Option Landing) → (ℕ → Spot) → Spot → Exit → Spot
+way_out at marks leave (to_label y) = landing_place marks leave (at y)
+way_out at marks leave back = leave

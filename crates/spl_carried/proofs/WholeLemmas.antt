@@ -1,11 +1,11 @@
 -- Modules without faults make whole segments.
-use Rattle.std.proofs.Common.{◌≡◌, ℕ, ◌≤◌, Bool, true, false, nat_lt, List, length, map, Option, Some, None, refl, sym, ap, ◌∙◌, arith}
-use Rattle.std.specs.Prelude.{◌==◌, option_map, if◌then◌else◌}
+use Rattle.std.proofs.Common.{◌≡◌, ℕ, ◌≤◌, Bool, true, false, nat_lt, List, length, Option, Some, None, refl, arith}
+use Rattle.std.specs.Prelude.{option_map, if◌then◌else◌}
 use Rattle.std.proofs.lemmas.Bool.{ltb-false}
 use Rattle.std.proofs.lemmas.List.{length-map}
 use Rattle.spl_meaning.specs.Tables.{Source}
 use Rattle.spl_branch.specs.declared.modules.Module.{Module}
-use Rattle.mpe_segmenter.specs.Names.{segment_names, Part, part_from, parts}
+use Rattle.mpe_segmenter.specs.Names.{segment_names, part_from, parts}
 use Rattle.mpe_segmenter.specs.Entries.{either}
 use Rattle.mpe_segmenter.specs.Counts.{entries_full, segment_full}
 use Rattle.mpe_segmenter.specs.Faults.{mains, doubled, unresolved, Doubled, Unresolved, SegmentsFull, EntriesFull, SegmentFull, main_faults, name_faults, segment_faults, size_faults, first_fault}

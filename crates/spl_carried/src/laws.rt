@@ -5,6 +5,7 @@ use spl_bounds::{data_words_are_initial, programs_keep_bounds};
 use spl_followed::{followed_programs_carry, main_bodies_follow};
 use spl_piece_kinds::modules_have_kinds;
 use spl_sound_beginnings::sound_units_begin_well;
+use spl_sound_jumps::sound_jumps_land;
 
 /// A program that is made of units whose main body is covered carries them.
 pub fn covered_programs_carry()
@@ -12,6 +13,7 @@ pub fn covered_programs_carry()
 {
     modules_have_kinds();
     sound_units_begin_well();
+    sound_jumps_land();
     programs_keep_bounds();
     data_words_are_initial();
     main_bodies_follow();

@@ -38,7 +38,7 @@ use Rattle.spl_follow.specs.Parts.{Ready, Completes, Leaving}
 use Rattle.spl_follow.specs.Simulating.{Surroundings, Simulates, Performs}
 use Rattle.spl_follow.proofs.FollowLemmas.{then_follows, bind_follows, no_exit}
 use Rattle.spl_follow.proofs.KeepLemmas.{kept_same, kept_top, kept_stack, value_word, values_join}
-use Rattle.spl_follow.proofs.PartLemmas.{stand_in_order, statements_begin_noted}
+use Rattle.spl_follow.proofs.PartLemmas.{stand_in_order}
 use Rattle.spl_follow.proofs.RowLemmas.{no_print, shown, row_value, row_drops}
 use Rattle.spl_follow.proofs.StandLemmas.{closed_last, stands_le}
 use Rattle.spl_follow.proofs.WayLemmas.{goes_wider, lead}
@@ -49,7 +49,7 @@ use Rattle.spl_values.proofs.SumLemmas.{front_on, yielding, logically_subtracted
 use Rattle.spl_values.proofs.WholeLemmas.{closed_mark}
 use Rattle.spl_choices.specs.Laws.{Chooses, NoArmChooses, chosen_before, ArmsChoose, CasesPerform}
 use Rattle.spl_choices.proofs.ChoiceLemmas.{first_side}
-use Rattle.spl_choices.proofs.PartLemmas.{mark_ends, settles_completes}
+use Rattle.spl_choices.proofs.PartLemmas.{mark_ends, settles_completes, begins_sooner}
 
 -- ---- codes
 
@@ -162,7 +162,7 @@ no_arm z d k need = record {
 }
 
 -- the pieces of an arm, of others and of what stands behind them
-arm_joined : (bs rs ts : List Piece) (a b c e : Piece)
+pub arm_joined : (bs rs ts : List Piece) (a b c e : Piece)
     → ((((((bs ++ (a ∷ [])) ++ (b ∷ [])) ++ (c ∷ [])) ++ (e ∷ [])) ++ rs) ++ ts) ≡ bs ++ (a ∷ b ∷ c ∷ e ∷ (rs ++ ts))
 arm_joined [] rs ts a b c e = refl
 arm_joined (x ∷ bs) rs ts a b c e = ap (λ (ps : List Piece). x ∷ ps) (arm_joined bs rs ts a b c e)
@@ -269,7 +269,7 @@ arm_before z d k need a one arms others enough whole performs more = record {
       let less' = push.2 in
       arm_taken z d k need a one others enough performs p stands.0 test.0 branch.0 cut.0 over.0 push.0 less'.0 q end h (suc h + (0 + 0 + 0)) ws stands.1 test.1
       branch.1 cut.1 (front_on inner.wants others'.wants z.wants (more.keeps end j inner.wants) front) cut.3 over.1 ends over.2.0 push.1 less'.1
-      (stands_le g z.sites (others'.pieces ++ DEL ∷ []) (on less'.0) q less'.2) pays t m room fuel
+      (stands_le g z.sites (others'.pieces ++ DEL ∷ []) (on less'.0) q less'.2) pays t m room (omega (arith, fuel))
       (λ v s n less x. more.chooses end j inner.wants less'.0 q v t s m n less'.2 ends front pays room fuel less x) v s n less x;
 }
 
@@ -278,7 +278,7 @@ arm_before z d k need a one arms others enough whole performs more = record {
 -- by the list of a value's words, of which there is one
 by_list : (z : Surroundings) (d k need : ℕ) (arms : ℕ → Part) (meaning : ℕ → State → Outcome (Unit {0})) (end h : ℕ) (ws : List Wanted) (p q : Spot)
     (t s : State) (m n : Machine) → Chooses z d k need arms meaning → Stands z.ground z.sites (on p) ((arms end h ws).pieces ++ DEL ∷ []) q
-    → z.sites.marks end ≡ q → IsFront (arms end h ws).wants z.wants → pos q ≤ z.rate.step → t.now.top + k + need ≤ t.now.stack → t.left ≤ d
+    → z.sites.marks end ≡ q → IsFront (arms end h ws).wants z.wants → pos q ≤ z.rate.step → t.now.top + k + need ≤ t.now.stack → t.left < d
     → s.left ≤ t.left → (vs : List ℕ) → IsValue z.setting p 1 k t.now m vs s n
     → Follows z.ground z.rate (pos q - pos p) 0 3 (tally s) n (Settles z.setting q k t.now m) (Leaving z.setting z.exits k t.now m)
     (with_one vs s (λ v u. code_dropped (meaning v u)))
@@ -291,10 +291,10 @@ by_list z d k need arms meaning end h ws p q t s m n c stands ends front pays ro
 case_inside : (z : Surroundings) (d k need h : ℕ) (ws : List Wanted) (at : At) (a : Part) (value : State → Outcome (List ℕ)) (arms : ℕ → Part)
     (meaning : ℕ → State → Outcome (Unit {0})) (p q : Spot) (t : State) (l : List Begun) (m : Machine) → IsWhole a → Simulates z d as_value 1 k need a value
     → Chooses z d k need arms meaning → Stands z.ground z.sites (record { at = p; due = Some at }) (chosen_among a arms h ws).pieces q
-    → IsFront (chosen_among a arms h ws).wants z.wants → pos q ≤ z.rate.step → Ready z.setting d (record { at = p; due = Some at }) k need t l m
+    → IsFront (chosen_among a arms h ws).wants z.wants → pos q ≤ z.rate.step → Ready z.setting d (record { at = p; due = Some at }) k need t l m → t.left < d
     → Follows z.ground z.rate z.rate.step 2 3 (tally_with l t) m (Completes z.setting q k t.now m) (Leaving z.setting z.exits k t.now m)
     (then_go (value t) (λ vs s. with_one vs s (λ v u. code_dropped (meaning v u))))
-case_inside z d k need h ws at a value arms meaning p q t l m whole sim c stands front pays ready =
+case_inside z d k need h ws at a value arms meaning p q t l m whole sim c stands front pays ready under =
     let g = z.ground in
     let w = z.rate in
     let st = z.setting in
@@ -312,15 +312,14 @@ case_inside z d k need h ws at a value arms meaning p q t l m whole sim c stands
     (Leaving st z.exits k t.now m) (value t) (λ vs s. with_one vs s (λ v u. code_dropped (meaning v u)))
     (no_exit g w (pos cut.0 - pos p) 1 w.reach (tally_with l t) m (IsValue st cut.0 1 k t.now m) (Leaving st z.exits k t.now m) (value t)
     (sim.does (suc h) ws first cut.0 t l m cut.1 (front_on x.wants y.wants z.wants (c.keeps h (suc h + x.marks) x.wants) front) ready))
-    (λ vs s n v less. by_list z d k need arms meaning h (suc h + x.marks) x.wants cut.0 q t s m n c cut.2 end.1 front pays ready.room ready.fuel less vs v)
+    (λ vs s n v less. by_list z d k need arms meaning h (suc h + x.marks) x.wants cut.0 q t s m n c cut.2 end.1 front pays ready.room under less vs v)
     (omega (arith, before, behind, pays)) (omega arith) (omega (arith, many)) (omega (arith, many)))
 
 pub cases : CasesPerform
 cases z d k need number at a value arms meaning whole sim chooses = record {
   does = λ h ws p q s m stands front pays b.
-      statements_begin_noted z.ground z.rate z.setting z.exits d number at p q k need s m
-      (λ u. then_go (value u) (λ vs t. with_one vs t (λ v w. code_dropped (meaning v w)))) b
-      (λ t same fewer ready. case_inside z d k need (h + 0) ws at a value arms meaning p q t s.begun m whole sim chooses stands.1 front pays ready);
+      begins_sooner z d number at p q k need s m (λ u. then_go (value u) (λ vs t. with_one vs t (λ v w. code_dropped (meaning v w)))) b
+      (λ t ready under. case_inside z d k need (h + 0) ws at a value arms meaning p q t s.begun m whole sim chooses stands.1 front pays ready under);
 }
 
 -- ---- whole code

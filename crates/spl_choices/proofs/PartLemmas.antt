@@ -1,13 +1,13 @@
 -- The parts of choices and loops, where they stand: a test as a condition, and a statement inside whose condition code is dropped.
-use Rattle.std.proofs.Common.{◌≡◌, ℕ, ◌+◌, ◌-◌, ◌≤◌, false, List, [], ◌∷◌, ◌++◌, refl, ap, subst, ◌∙◌, arith}
-use Rattle.std.specs.Prelude.{min}
+use Rattle.std.proofs.Common.{◌≡◌, ℕ, ◌+◌, ◌-◌, ◌≤◌, ◌<◌, false, List, [], ◌∷◌, ◌++◌, refl, ap, subst, ◌∙◌, arith, inl}
+use Rattle.std.specs.Prelude.{min, Some}
 use Rattle.hp_instr.specs.declared.instruction.Instr.TheVariants as i
 use Rattle.hp_session.specs.State.{Machine}
 use Rattle.spl_branch.specs.declared.pieces.Piece.{Piece}
 use Rattle.spl_branch.specs.declared.pieces.Piece.TheVariants.{Begin, Mark}
 use Rattle.spl_tree.specs.declared.names_and_places.At.{At}
 use Rattle.spl_meaning.specs.Laws.{IsFront}
-use Rattle.spl_meaning.specs.States.{Data, State, Begun, Outcome, code_dropped}
+use Rattle.spl_meaning.specs.States.{Data, State, Begun, Outcome, without_code, noted, stopping, code_dropped}
 use Rattle.spl_code.specs.Instructions.{BR}
 use Rattle.spl_code.specs.Parts.{Part, Wanted, piece, ◌⨟◌, with_fresh}
 use Rattle.spl_statement_code.specs.Instructions.{SUBS}
@@ -18,11 +18,12 @@ use Rattle.spl_follow.specs.Doing.{turning}
 use Rattle.spl_follow.specs.Matching.{Kept}
 use Rattle.spl_follow.specs.Following.{tally, tally_with, Follows, NoExit}
 use Rattle.spl_follow.specs.Standing.{Sites, Stands, IsClosed}
-use Rattle.spl_follow.specs.Parts.{Ready, Begins, Truth, Completes, Leaving}
+use Rattle.spl_follow.specs.Parts.{Ready, Begins, Truth, Completes, Leaving, Runs}
 use Rattle.spl_follow.specs.Simulating.{Surroundings, Performs}
-use Rattle.spl_follow.proofs.FollowLemmas.{weaken, dropped_follows}
+use Rattle.spl_follow.proofs.FollowLemmas.{weaken, dropped_follows, spend_follows}
 use Rattle.spl_follow.proofs.KeepLemmas.{arrives_after}
 use Rattle.spl_follow.proofs.PartLemmas.{stand_in_order, tests_decide}
+use Rattle.spl_follow.proofs.RowLemmas.{shown}
 use Rattle.spl_control.specs.Laws.{Settles}
 use Rattle.spl_values.specs.Reached.{IsWhole}
 use Rattle.spl_values.proofs.WholeLemmas.{whole_pieces, whole_then, whole_mark, whole_fresh, whole_behind}
@@ -86,6 +87,29 @@ pub settles_completes : (z : Surroundings) (c lag e k : ℕ) (q : Spot) (s : Sta
 settles_completes z c lag e k q s l m o f =
     weaken z.ground z.rate c lag e (tally_with l s) m (Settles z.setting q k s.now m) (Completes z.setting q k s.now m) (Leaving z.setting z.exits k s.now m)
     (Leaving z.setting z.exits k s.now m) o f (λ u t n a less. a.0) (λ y t n a. a)
+
+-- A statement that is noted begins with a step less left than the bound.
+pub begins_sooner : (z : Surroundings) (d number : ℕ) (at : At) (p q : Spot) (k need : ℕ) (s : State) (m : Machine) (go : State → Outcome (Unit {0}))
+    → Begins z.setting d p k need s m
+    → ((t : State) → Ready z.setting d (record { at = p; due = Some at }) k need t s.begun m → t.left < d
+    → Follows z.ground z.rate z.rate.step 2 3 (tally_with s.begun t) m (Completes z.setting q k t.now m) (Leaving z.setting z.exits k t.now m) (go t))
+    → Runs z.ground z.rate z.setting z.exits q k s m (stopping number at s go)
+begins_sooner z d number at p q k need s m go b rest =
+    spend_follows z.ground z.rate z.rate.step 2 0 3 3 s s.begun m (Completes z.setting q k s.now m) (Leaving z.setting z.exits k s.now m)
+    (λ s1. go (without_code (noted number at s1))) (shown z.setting s m k b.matches) (inl refl)
+    (λ n is. let fuel = b.fuel in rest (without_code (noted number at (record s { left = n }))) (record {
+      at = b.at;
+      owes = (
+        record { number = number; at = at; data' = s.now; code = s.code },
+        record { place = refl; setting = z.setting; waiting = k; matches = b.matches; coded = b.coded },
+        refl,
+      );
+      matches = b.matches;
+      silent = refl;
+      room = b.room;
+      fuel = omega (arith, fuel, is);
+    }) (omega (arith, fuel, is)))
+    (omega arith) (omega arith)
 
 -- ---- whole code
 

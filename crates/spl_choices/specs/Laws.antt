@@ -1,6 +1,6 @@
 -- The laws of this crate: IF, CASE, WHILE and DO over their parts as variables. A test is code that leads to any mark where it does not hold.
 -- Nothing is due behind a test or a body.
-use Rattle.std.specs.Prelude.{◌≡◌, ℕ, zero, suc, ◌+◌, ◌-◌, ◌≤◌, Bool, if◌then◌else◌, List, [], ◌∷◌, ◌++◌}
+use Rattle.std.specs.Prelude.{◌≡◌, ℕ, zero, suc, ◌+◌, ◌-◌, ◌≤◌, ◌<◌, Bool, if◌then◌else◌, List, [], ◌∷◌, ◌++◌}
 use Rattle.hp_session.specs.State.{Machine}
 use Rattle.spl_tree.specs.declared.names_and_places.At.{At}
 use Rattle.spl_branch.specs.declared.pieces.Piece.TheVariants.{Begin}
@@ -68,12 +68,12 @@ CodeEitherPerforms = (z : Surroundings) (d k need number op : ℕ) (at : At) (a 
 -- ---- CASE
 
 -- Arms of a CASE, by the mark of its end, behind a value that waits on top, and what is meant by them with that value. They are followed from
--- the value on to the end, before which it is deleted where no arm was taken; t is where the CASE began.
+-- the value on to the end, before which it is deleted where no arm was taken; t is where the CASE began, behind its step.
 pub record Chooses (z : Surroundings) (d k need : ℕ) (arms : ℕ → Part) (meaning : ℕ → State → Outcome (Unit {0})) : Type 0 where
   pub keeps : (end l : ℕ) (ws : List Wanted) → IsFront ws (arms end l ws).wants
   pub chooses : (end h : ℕ) (ws : List Wanted) (p q : Spot) (v : ℕ) (t s : State) (m n : Machine)
       → Stands z.ground z.sites (on p) ((arms end h ws).pieces ++ DEL ∷ []) q → z.sites.marks end ≡ q → IsFront (arms end h ws).wants z.wants
-      → pos q ≤ z.rate.step → t.now.top + k + need ≤ t.now.stack → t.left ≤ d → s.left ≤ t.left → IsValue z.setting p 1 k t.now m (v ∷ []) s n
+      → pos q ≤ z.rate.step → t.now.top + k + need ≤ t.now.stack → t.left < d → s.left ≤ t.left → IsValue z.setting p 1 k t.now m (v ∷ []) s n
       → Follows z.ground z.rate (pos q - pos p) 0 3 (tally s) n (Settles z.setting q k t.now m) (Leaving z.setting z.exits k t.now m)
       (code_dropped (meaning v s))
 

@@ -1,6 +1,7 @@
 -- Choices, loops and jumps, by the outcomes of their parts.
-use Rattle.std.proofs.Common.{◌≡◌, ℕ, zero, suc, ◌+◌, ◌-◌, ◌≤◌, ◌<◌, Bool, true, false, refl, subst, arith, inl}
-use Rattle.std.specs.Prelude.{min, if◌then◌else◌}
+use Rattle.std.proofs.Common.{◌≡◌, ℕ, zero, suc, ◌+◌, ◌-◌, ◌*◌, ◌≤◌, ◌<◌, Bool, true, false, List, refl, ap, subst, arith, inl}
+use Rattle.std.specs.Prelude.{min, nat_lt, if◌then◌else◌}
+use Rattle.std.proofs.lemmas.Bool.{ltb-true, ltb-false}
 use Rattle.hp_instr.specs.declared.instruction.Instr.TheVariants as i
 use Rattle.hp_session.specs.State.{Machine}
 use Rattle.spl_meaning.specs.References.{Setting}
@@ -9,14 +10,14 @@ use Rattle.spl_meaning.specs.States.{Data, State, Exit, to_label, back, Outcome,
 use Rattle.spl_follow.specs.Spots.{Spot, pos, on, Ground}
 use Rattle.spl_follow.specs.Leading.{Leads}
 use Rattle.spl_follow.specs.Matching.{Kept, Arrives}
-use Rattle.spl_follow.specs.Following.{Rate, tally, Follows, NoExit}
+use Rattle.spl_follow.specs.Following.{Rate, Tally, tally, Follows, NoExit}
 use Rattle.spl_follow.specs.Doing.{turning}
 use Rattle.spl_follow.specs.Parts.{Ready, Begins, Truth, Exits, Completes, Leaving}
 use Rattle.spl_follow.proofs.WayLemmas.{goes_none}
 use Rattle.spl_follow.proofs.FollowLemmas.{then_follows, bind_follows, widen, weaken, no_exit, spend_follows}
 use Rattle.spl_follow.proofs.KeepLemmas.{arrives_after, arrives_ready, arrives_begins}
 use Rattle.spl_follow.proofs.RowLemmas.{shown, row_branches}
-use Rattle.spl_control.specs.Laws.{Settles, ChoicesFollow, LoopsFollow, RepeatsFollow, LeavesBelow, LandingsFollow}
+use Rattle.spl_control.specs.Laws.{Settles, ChoicesFollow, LoopsFollow, RepeatsFollow, LeavesBelow, bearing, LandingsFollow}
 
 -- ---- choices
 
@@ -199,32 +200,87 @@ leaves_below a b (spent s) l h = tt
 leaves_below a b (ends e s) l h = tt
 leaves_below a b (strays s) l h = tt
 
--- Where a list is left by a jump to a label of its own, it goes on there; what the jump has to spare pays for that.
-pub landings : LandingsFollow
-landings g w st x q k t m d0 m0 has from held on_label zero (done u s) under f = f
-landings g w st x q k t m d0 m0 has from held on_label (suc fuel) (done u s) under f = f
-landings g w st x q k t m d0 m0 has from held on_label zero (spent s) under f = f
-landings g w st x q k t m d0 m0 has from held on_label (suc fuel) (spent s) under f = f
-landings g w st x q k t m d0 m0 has from held on_label zero (ends e s) under f = f
-landings g w st x q k t m d0 m0 has from held on_label (suc fuel) (ends e s) under f = f
-landings g w st x q k t m d0 m0 has from held on_label zero (strays s) under f = f
-landings g w st x q k t m d0 m0 has from held on_label (suc fuel) (strays s) under f = f
-landings g w st x q k t m d0 m0 has from held on_label zero (leaves back s) under f = f
-landings g w st x q k t m d0 m0 has from held on_label (suc fuel) (leaves back s) under f = f
-landings g w st x q k t m d0 m0 has from held on_label zero (leaves (to_label y) s) under f = absurd (omega (arith, under))
-landings g w st x q k t m d0 m0 has from held on_label (suc fuel) (leaves (to_label y) s) under f =
-    landed_at (has y) refl (λ o below h. landings g w st x q k t m d0 m0 has from held on_label fuel o below h) where
-      landed_at : (c : Bool) → has y ≡ c
-          → ((o : Outcome (Unit {0})) → LeavesBelow fuel o → Follows g w 0 3 0 t m (Completes st q k d0 m0) (Leaving st x k d0 m0) o
-          → Follows g w 0 3 0 t m (Completes st q k d0 m0) (Leaving st x k d0 m0) (landing fuel has from o))
-          → Follows g w 0 3 0 t m (Completes st q k d0 m0) (Leaving st x k d0 m0) (if c then landing fuel has from (from y s) else leaves (to_label y) s)
-      landed_at false is again = f
+-- what no charge pays takes a step of the run, where the machine takes one
+step_taken : (n step reach lag a b : ℕ) → n + step * b ≤ step * a + 0 → a + reach ≤ b + reach * n + lag → b ≤ a → lag < reach → b < a
+step_taken zero step reach lag a b cost gain less few = omega (arith, gain, few)
+step_taken (suc n) step reach lag a b cost gain less few = by (nat_lt b a) refl where
+  by : (c : Bool) → nat_lt b a ≡ c → b < a
+  by true e = ltb-true b a e
+  by false e =
+      let high = ltb-false b a e in
+      let same : a ≡ b = omega (arith, high, less) in
+      let worth : step * a ≡ step * b = ap (λ (i : ℕ). step * i) same in
+      absurd (omega (arith, cost, worth))
+
+-- so who leaves what is not charged to others has spent a step
+pub leaves_sooner : (g : Ground) (w : Rate) (lag e : ℕ) (t : Tally) (m : Machine) (P : Unit {0} → State → Machine → Type 0) (J : Exit → State → Machine → Type 0)
+    (o : Outcome (Unit {0})) → lag < w.reach → Follows g w 0 lag e t m P J o → LeavesBelow t.left o
+leaves_sooner g w lag e t m P J (done u s) few f = tt
+leaves_sooner g w lag e t m P J (leaves x s) few f = step_taken f.1.n w.step w.reach lag t.left s.left f.1.cost f.1.gain f.1.less few
+leaves_sooner g w lag e t m P J (spent s) few f = tt
+leaves_sooner g w lag e t m P J (ends x s) few f = tt
+leaves_sooner g w lag e t m P J (strays s) few f = tt
+
+-- and who leaves has no more left than before
+pub leaves_within : (g : Ground) (w : Rate) (c lag e : ℕ) (t : Tally) (m : Machine) (P : Unit {0} → State → Machine → Type 0) (J : Exit → State → Machine → Type 0)
+    (bound : ℕ) (o : Outcome (Unit {0})) → t.left < bound → Follows g w c lag e t m P J o → LeavesBelow bound o
+leaves_within g w c lag e t m P J bound (done u s) under f = tt
+leaves_within g w c lag e t m P J bound (leaves x s) under f = let less = f.1.less in omega (arith, less, under)
+leaves_within g w c lag e t m P J bound (spent s) under f = tt
+leaves_within g w c lag e t m P J bound (ends x s) under f = tt
+leaves_within g w c lag e t m P J bound (strays s) under f = tt
+
+-- Where a list is left by a jump to a label of its own, it goes on there; what the jump has to spare pays for that. J holds where the list is left,
+-- and K where what is around it is.
+pub landings_by : (g : Ground) (w : Rate) (e : ℕ) (P : Unit {0} → State → Machine → Type 0) (J K : Exit → State → Machine → Type 0) (has : List ℕ → Bool)
+    (from : List ℕ → State → Outcome (Unit {0})) → ((y : List ℕ) (s : State) (n : Machine) → has y ≡ false → J (to_label y) s n → K (to_label y) s n)
+    → ((s : State) (n : Machine) → J back s n → K back s n) → (fuel c lag : ℕ) (t : Tally) (m : Machine) (o : Outcome (Unit {0}))
+    → ((y : List ℕ) (s : State) (n : Machine) → has y ≡ true → J (to_label y) s n → s.left ≤ t.left → Follows g w 0 3 e (tally s) n P J (from y s))
+    → LeavesBelow fuel o → Follows g w c lag e t m P J o → Follows g w c lag e t m P K (landing fuel has from o)
+landings_by g w e P J K has from others returns zero c lag t m (done u s) land under f = f
+landings_by g w e P J K has from others returns (suc fuel) c lag t m (done u s) land under f = f
+landings_by g w e P J K has from others returns zero c lag t m (spent s) land under f = f
+landings_by g w e P J K has from others returns (suc fuel) c lag t m (spent s) land under f = f
+landings_by g w e P J K has from others returns zero c lag t m (ends x s) land under f = f
+landings_by g w e P J K has from others returns (suc fuel) c lag t m (ends x s) land under f = f
+landings_by g w e P J K has from others returns zero c lag t m (strays s) land under f = f
+landings_by g w e P J K has from others returns (suc fuel) c lag t m (strays s) land under f = f
+landings_by g w e P J K has from others returns zero c lag t m (leaves back s) land under f = (f.0, f.1, returns s f.0 f.2)
+landings_by g w e P J K has from others returns (suc fuel) c lag t m (leaves back s) land under f = (f.0, f.1, returns s f.0 f.2)
+landings_by g w e P J K has from others returns zero c lag t m (leaves (to_label y) s) land under f = absurd (omega (arith, under))
+landings_by g w e P J K has from others returns (suc fuel) c lag t m (leaves (to_label y) s) land under f =
+    landed_at (has y) refl
+    (λ o below h. landings_by g w e P J K has from others returns fuel 0 3 (tally s) f.0 o
+    (λ y' s' n' is at less. let before = f.1.less in land y' s' n' is at (omega (arith, less, before))) below h) where
+      landed_at : (b : Bool) → has y ≡ b
+          → ((o : Outcome (Unit {0})) → LeavesBelow fuel o → Follows g w 0 3 e (tally s) f.0 P J o
+          → Follows g w 0 3 e (tally s) f.0 P K (landing fuel has from o))
+          → Follows g w c lag e t m P K (if b then landing fuel has from (from y s) else leaves (to_label y) s)
+      landed_at false is again = (f.0, f.1, others y s f.0 is f.2)
       landed_at true is again =
           let many = w.enough in
-          let same = held y is in
-          let waits : min (x.held (to_label y)) k ≡ k = omega (arith, same) in
-          let there = subst (λ (j : ℕ). Arrives st (x.target (to_label y)) j d0 m0 s f.0) waits f.2 in
-          let on = on_label y s f.0 is there f.1.less in
-          again (from y s) (leaves_below s.left fuel (from y s) (omega (arith, under)) on.1)
-          (then_follows g w 0 3 w.reach 0 3 0 0 3 0 t m (tally s) f.0 (Completes st q k d0 m0) (Leaving st x k d0 m0) (from y s) f.1 on.0
-          (omega arith) (omega (arith, many)) (omega (arith, many)))
+          let on = land y s f.0 is f.2 f.1.less in
+          then_follows g w c lag w.reach 0 3 e c lag e t m (tally s) f.0 P K (landing fuel has from (from y s)) f.1
+          (again (from y s)
+          (leaves_below s.left fuel (from y s) (omega (arith, under)) (leaves_sooner g w 3 e (tally s) f.0 P J (from y s) (omega (arith, many)) on)) on)
+          (omega arith) (omega (arith, many)) (omega (arith, many))
+
+-- at a label of the list as many words wait as before it
+pub own_label : (st : Setting) (x : Exits) (has : List ℕ → Bool) (k : ℕ) (d0 : Data) (m0 : Machine) (y : List ℕ) (s : State) (n : Machine) → has y ≡ true
+    → Leaving st (bearing has k x) k d0 m0 (to_label y) s n → Arrives st (x.target (to_label y)) k d0 m0 s n
+own_label st x has k d0 m0 y s n is a =
+    let same : (bearing has k x).held (to_label y) ≡ k = ap (λ (b : Bool). if b then k else x.held (to_label y)) is in
+    let waits : min ((bearing has k x).held (to_label y)) k ≡ k = omega (arith, same) in
+    subst (λ (j : ℕ). Arrives st (x.target (to_label y)) j d0 m0 s n) waits a
+
+-- and at another as many as around it
+pub other_label : (st : Setting) (x : Exits) (has : List ℕ → Bool) (k : ℕ) (d0 : Data) (m0 : Machine) (y : List ℕ) (s : State) (n : Machine) → has y ≡ false
+    → Leaving st (bearing has k x) k d0 m0 (to_label y) s n → Leaving st x k d0 m0 (to_label y) s n
+other_label st x has k d0 m0 y s n is a =
+    subst (λ (j : ℕ). Arrives st (x.target (to_label y)) (min j k) d0 m0 s n) (ap (λ (b : Bool). if b then k else x.held (to_label y)) is) a
+
+pub landings : LandingsFollow
+landings g w st x q k t m d0 m0 has from on_label fuel o under f =
+    landings_by g w 0 (Completes st q k d0 m0) (Leaving st (bearing has k x) k d0 m0) (Leaving st x k d0 m0) has from
+    (λ y s n is a. other_label st x has k d0 m0 y s n is a) (λ s n a. a) fuel 0 3 t m o
+    (λ y s n is a less. on_label y s n is (own_label st x has k d0 m0 y s n is a) less) under f

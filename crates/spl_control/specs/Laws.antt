@@ -4,7 +4,7 @@ use Rattle.hp_instr.specs.declared.instruction.Instr.TheVariants as i
 use Rattle.hp_session.specs.State.{Machine}
 use Rattle.spl_meaning.specs.References.{Setting}
 use Rattle.spl_meaning.specs.Statements.{looping, repeating, landing}
-use Rattle.spl_meaning.specs.States.{Data, State, to_label, Outcome, done, leaves, spent, ends, strays, then_go}
+use Rattle.spl_meaning.specs.States.{Data, State, Exit, to_label, back, Outcome, done, leaves, spent, ends, strays, then_go}
 use Rattle.spl_follow.specs.Spots.{Spot, pos, on, Ground}
 use Rattle.spl_follow.specs.Leading.{Leads}
 use Rattle.spl_follow.specs.Matching.{Arrives}
@@ -66,12 +66,20 @@ LeavesBelow n (spent s) = Unit {0}
 LeavesBelow n (ends e s) = Unit {0}
 LeavesBelow n (strays s) = Unit {0}
 
+-- What the ways out are inside a list that bears labels: k words wait at these, and the others are as around it.
+abbrev pub held_inside : (List ℕ → Bool) → ℕ → (Exit → ℕ) → Exit → ℕ
+held_inside has k held (to_label y) = if has y then k else held (to_label y)
+held_inside has k held back = held back
+
+abbrev pub bearing : (List ℕ → Bool) → ℕ → Exits → Exits
+bearing has k x = record x { held = held_inside has k x.held }
+
 -- A list takes the jumps to its labels: where it is left by one, it goes on at that label, with as many words waiting, and so again. Each jump
--- has taken a step, so the bound lasts.
+-- has taken a step, so the bound lasts; and what leaves the list leaves by a way out of what is around it.
 abbrev pub LandingsFollow : Type 0
 LandingsFollow = (g : Ground) (w : Rate) (st : Setting) (x : Exits) (q : Spot) (k : ℕ) (t : Tally) (m : Machine) (d0 : Data) (m0 : Machine)
-    (has : List ℕ → Bool) (from : List ℕ → State → Outcome (Unit {0})) → ((y : List ℕ) → has y ≡ true → x.held (to_label y) ≡ k)
+    (has : List ℕ → Bool) (from : List ℕ → State → Outcome (Unit {0}))
     → ((y : List ℕ) (s : State) (n : Machine) → has y ≡ true → Arrives st (x.target (to_label y)) k d0 m0 s n → s.left ≤ t.left
-    → Follows g w 0 3 0 (tally s) n (Completes st q k d0 m0) (Leaving st x k d0 m0) (from y s) × LeavesBelow s.left (from y s))
-    → (fuel : ℕ) (o : Outcome (Unit {0})) → LeavesBelow fuel o → Follows g w 0 3 0 t m (Completes st q k d0 m0) (Leaving st x k d0 m0) o
+    → Follows g w 0 3 0 (tally s) n (Completes st q k d0 m0) (Leaving st (bearing has k x) k d0 m0) (from y s))
+    → (fuel : ℕ) (o : Outcome (Unit {0})) → LeavesBelow fuel o → Follows g w 0 3 0 t m (Completes st q k d0 m0) (Leaving st (bearing has k x) k d0 m0) o
     → Follows g w 0 3 0 t m (Completes st q k d0 m0) (Leaving st x k d0 m0) (landing fuel has from o)

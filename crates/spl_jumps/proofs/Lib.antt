@@ -2,3 +2,5 @@
 pub mod JumpLemmas
 pub mod LabelLemmas
 pub mod LandLemmas
+pub mod ArmLemmas
+pub mod LandedLemmas

@@ -13,7 +13,8 @@ abbrev pub AllSo : Bool → List String → Type 0
 AllSo covered [] = Unit {0}
 AllSo covered (t ∷ ts) = IsSo covered t × AllSo covered ts
 
--- sums, loops, choices, elements of arrays, BYTEs, bit fields, pointers, what is declared and not called, and calls of intrinsics
+-- sums, loops, choices, elements of arrays, BYTEs, bit fields, pointers, what is declared and not called, calls of intrinsics, IF on the
+-- condition code; and jumps: backwards, forwards, out of a FOR, inside one, and from one arm of a CASE to another
 abbrev pub covered_texts : List String
 covered_texts =
     "BEGIN INTEGER I; INTRINSIC QUIT; I:=2; I:=I+3; QUIT(I) END."
@@ -28,13 +29,19 @@ covered_texts =
     ∷ "BEGIN INTEGER I; PROCEDURE P; I:=1; I:=2 END."
     ∷ "BEGIN INTRINSIC TERMINATE; TERMINATE END."
     ∷ "BEGIN LOGICAL ARRAY W(0:3); INTEGER N; INTRINSIC READ,PRINT; N:=READ(W,-8); PRINT(W,-N,0) END."
-    ∷ "BEGIN BYTE ARRAY B(0:7); LOGICAL L; INTEGER N; INTRINSIC ASCII,BINARY; N:=ASCII(6*7,10,B); L:=BINARY(B,N); ASCII(L,8,B) END." ∷ []
+    ∷ "BEGIN BYTE ARRAY B(0:7); LOGICAL L; INTEGER N; INTRINSIC ASCII,BINARY; N:=ASCII(6*7,10,B); L:=BINARY(B,N); ASCII(L,8,B) END."
+    ∷ "BEGIN LOGICAL ARRAY W(0:3); INTRINSIC READ,QUIT; READ(W,4); IF = THEN QUIT(1) ELSE IF < THEN QUIT(2) END."
+    ∷ "BEGIN INTEGER I; L: I:=1; GO TO L END."
+    ∷ "BEGIN INTEGER I; IF I=0 THEN GO TO L; I:=1; L: M: I:=2 END."
+    ∷ "BEGIN INTEGER I,K; FOR I:=1 UNTIL 9 DO BEGIN K:=K+I; IF K>10 THEN GO TO L END; L: K:=0 END."
+    ∷ "BEGIN INTEGER I,K; FOR I:=1 UNTIL 3 DO BEGIN M: K:=K+1; IF K<I THEN GO TO M END END."
+    ∷ "BEGIN INTEGER I; CASE I OF BEGIN GO TO M; M: I:=2 END END." ∷ []
 
--- a DOUBLE, a label, a call of a procedure, an intrinsic within an expression, and a unit without a main body
+-- a DOUBLE, also behind a label, a call of a procedure, an intrinsic within an expression, and a unit without a main body
 abbrev pub other_texts : List String
 other_texts =
     "BEGIN DOUBLE D; D:=1D END."
-    ∷ "BEGIN INTEGER I; L: I:=1; GO TO L END."
+    ∷ "BEGIN DOUBLE D; L: D:=1D; GO TO L END."
     ∷ "BEGIN INTEGER I; PROCEDURE P; I:=1; P END."
     ∷ "BEGIN LOGICAL ARRAY W(0:3); INTEGER N; INTRINSIC READ; N:=READ(W,4)+1 END."
     ∷ "$CONTROL SUBPROGRAM\nBEGIN INTEGER I; PROCEDURE P; I:=1; END." ∷ []

@@ -22,34 +22,9 @@ use Rattle.spl_statement_code.specs.Labels.{AppendsSetting, CanBeSet, all_set, m
 use Rattle.spl_statement_code.specs.FewWords.{nested_among}
 use Rattle.spl_module_code.specs.LabelsOfBodies.{Label, labels_among, with_landings, landed_from}
 use Rattle.spl_landings.specs.Bodies.{context_with, statements_part}
-use Rattle.spl_landings.proofs.LabelNames.{from_on, marks_are}
-
--- ---- a part with marks for labels, behind so many marks
-
--- what it is, where the part behind the new marks is that
-abbrev pub with_more : ℕ → Written → Written
-with_more n a = record { pieces = a.pieces; marks = n + a.marks; wants = a.wants }
-
-more_none : (a : Written) → a ≡ with_more 0 a
-more_none a =
-    let e : a.marks ≡ 0 + a.marks = omega arith in
-    ap (λ m. record { pieces = a.pieces; marks = m; wants = a.wants }) e
-
-more_one : (n : ℕ) (a : Written) → record { pieces = a.pieces; marks = suc (n + a.marks); wants = a.wants } ≡ with_more (suc n) a
-more_one n a =
-    let e : suc (n + a.marks) ≡ suc n + a.marks = omega arith in
-    ap (λ m. record { pieces = a.pieces; marks = m; wants = a.wants }) e
-
-pub landed_part : (ls : List Label) (part : Table Landing → Part) (l : ℕ) (ws : List Wanted)
-    → with_landings ls part l ws ≡ with_more (length ls) (part (landed_from l ls) (l + length ls) ws)
-landed_part [] part l ws = let e : l ≡ l + 0 = omega arith in ap (λ n. part [] n ws) e ∙ more_none (part [] (l + 0) ws)
-landed_part (x ∷ xs) part l ws =
-    let here : Landing = record { mark = l; pending = x.pending } in
-    let e : suc l + length xs ≡ l + suc (length xs) = omega arith in
-    ap (λ (a : Written). record { pieces = a.pieces; marks = suc a.marks; wants = a.wants })
-    (landed_part xs (λ t. part ((x.name, here) ∷ t)) (suc l) ws)
-    ∙ more_one (length xs) (part ((x.name, here) ∷ landed_from (suc l) xs) (suc l + length xs) ws)
-    ∙ ap (λ n. with_more (suc (length xs)) (part ((x.name, here) ∷ landed_from (suc l) xs) n ws)) e
+use Rattle.spl_label_marks.specs.Laws.{with_more}
+use Rattle.spl_label_marks.proofs.LabelNames.{from_on, marks_are}
+use Rattle.spl_label_marks.proofs.LabelParts.{landed_part}
 
 -- ---- new marks can be set, and then all are
 

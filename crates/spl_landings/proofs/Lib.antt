@@ -1,5 +1,4 @@
 mod KnownBodies
 pub mod BodyMarks
-pub mod LabelNames
 pub mod LabelWalks
 pub mod LandingWalks

@@ -1,12 +1,12 @@
--- A main body's list: no jump is taken in it, and RETURN leads behind it.
-use Rattle.std.proofs.Common.{◌≡◌, ℕ, sym, subst, arith}
+-- A main body's list: it takes the jumps to its labels, and RETURN leads behind it.
+use Rattle.std.proofs.Common.{◌≡◌, ℕ, [], sym, subst, arith}
 use Rattle.std.specs.Prelude.{min}
 use Rattle.hp_session.specs.State.{Machine}
 use Rattle.spl_meaning.specs.Bodies.{program_of}
 use Rattle.spl_meaning.specs.References.{Here}
 use Rattle.spl_meaning.specs.Runs.{calls}
-use Rattle.spl_meaning.specs.States.{State, Exit, to_label, back, Outcome}
-use Rattle.spl_meaning.specs.Statements.{bears_among, run_all, run_from, run_body}
+use Rattle.spl_meaning.specs.States.{State, Exit, to_label, back}
+use Rattle.spl_meaning.specs.Statements.{run_body}
 use Rattle.spl_meaning.specs.Values.{Callee}
 use Rattle.spl_follow.specs.Spots.{Spot}
 use Rattle.spl_follow.specs.Matching.{Arrives}
@@ -17,8 +17,7 @@ use Rattle.spl_follow.proofs.FollowLemmas.{weaken}
 use Rattle.spl_follow.proofs.RowLemmas.{shown}
 use Rattle.spl_followed.specs.Mains.{main_setting}
 use Rattle.spl_covered.specs.Laws.{read_with}
-use Rattle.spl_stores.proofs.BlockLemmas.{landing_none}
-use Rattle.spl_stores.proofs.CoverLemmas.{none_borne, list_performs}
+use Rattle.spl_stores.proofs.CoverLemmas.{covered_list_performs}
 use Rattle.spl_mains.specs.Laws.{CoveredMainBodiesFollow}
 
 -- where a list is left with no word waiting, RETURN is behind it, and a jump shows what the run has
@@ -29,18 +28,16 @@ left_returns x leave s m to back t n a =
     subst (λ (q : Spot). Arrives main_setting q 0 s.now m t n) to (subst (λ (j : ℕ). Arrives main_setting (x.target back) j s.now m t n) none a)
 left_returns x leave s m to (to_label y) t n a = shown main_setting t n (min (x.held (to_label y)) 0) a.matches
 
--- its list is performed, and bears no label
+-- its list is performed, and takes the jumps to its labels
 pub bodies_follow : CoveredMainBodiesFollow
-bodies_follow us b c z first leave l ws setting to here room covered stands front pays may d s m begins =
+bodies_follow us b c z first leave l ws setting to here room covered stands front pays calls' jumps landed d s m begins =
     let y : Surroundings = record z { setting = main_setting } in
     let h = read_with c.scope b.here.results main_setting in
     let call : Callee = calls (program_of us).procedures d b in
-    let all = run_all h call d b.number b.statements 0 s in
-    let run = (list_performs c b.here.results y call d b.number b.statements 0 b.depth' covered room (record { gates = may.gates })).does l ws first leave s m stands front pays begins in
-    let body = weaken z.ground z.rate 0 3 0 (tally s) m (Completes main_setting leave 0 s.now m) (Completes main_setting leave 0 s.now m)
-    (Leaving main_setting z.exits 0 s.now m) (Returning main_setting leave 0 s.now m) all run (λ u t n a less. a) (left_returns z.exits leave s m to) in
+    let run = (covered_list_performs c b.here.results y call d b.number [] b.statements 0 b.depth' covered room (record { gates = calls'.gates })
+    (record { marks = jumps.marks; held = jumps.held; few = jumps.few }) landed).does l ws first leave s m stands front pays begins in
     subst (λ (i : Here). Follows z.ground z.rate 0 3 0 (tally s) m (Completes main_setting leave 0 s.now m) (Returning main_setting leave 0 s.now m) (run_body i call d b.number b.statements s))
     (sym here)
-    (subst (λ (o : Outcome (Unit {0})). Follows z.ground z.rate 0 3 0 (tally s) m (Completes main_setting leave 0 s.now m) (Returning main_setting leave 0 s.now m) o)
-    (sym (landing_none d (bears_among b.statements) (λ x t. run_from h call d b.number b.statements x 0 t) all (none_borne c.scope main_setting b.statements 0 covered)))
-    body)
+    (weaken z.ground z.rate 0 3 0 (tally s) m (Completes main_setting leave 0 s.now m) (Completes main_setting leave 0 s.now m)
+    (Leaving main_setting z.exits 0 s.now m) (Returning main_setting leave 0 s.now m) (run_body h call d b.number b.statements s) run (λ u t n a less. a)
+    (left_returns z.exits leave s m to))

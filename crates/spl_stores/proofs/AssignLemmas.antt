@@ -52,7 +52,6 @@ use Rattle.spl_stores.specs.Covered.{is_stored_name, is_covered_store, is_covere
 use Rattle.spl_calls.specs.Laws.{MayCall}
 use Rattle.spl_stores.specs.Laws.{CoveredStatementsAreWhole, CoveredStatementsPerform, CoveredListsPerform}
 use Rattle.spl_stores.proofs.StoreLemmas.{assignments}
-use Rattle.spl_stores.proofs.BlockLemmas.{blocks}
 use Rattle.spl_targets.specs.Targets.{is_led_target}
 use Rattle.spl_targets.proofs.SameLemmas.{stopping_same, same_performs}
 use Rattle.spl_targets.proofs.ElementLemmas.{no_intrinsic}

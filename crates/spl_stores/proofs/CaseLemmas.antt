@@ -1,22 +1,20 @@
 -- CASE in a tree, over the code of its arms.
-use Rattle.std.proofs.Common.{◌≡◌, ℕ, zero, suc, ◌+◌, ◌-◌, ◌≤◌, true, false, List, refl, sym, ap, subst}
+use Rattle.std.proofs.Common.{◌≡◌, ℕ, zero, suc, ◌+◌, ◌-◌, ◌≤◌, true, List, refl, sym, subst}
 use Rattle.std.specs.Prelude.{Option}
 use Rattle.spl_tree.specs.declared.expressions.Kind.{Kind}
 use Rattle.spl_tree.specs.declared.names_and_places.At.{At}
 use Rattle.spl_tree.specs.Trees.{Tree}
 use Rattle.spl_tree.specs.StatementTrees as stat
 use Rattle.spl_tree.specs.StatementTrees.{Statement, Statements}
-use Rattle.spl_branch.specs.declared.pieces.Piece.TheVariants.{Begin}
-use Rattle.spl_meaning.specs.Elements.{with_one}
 use Rattle.spl_meaning.specs.Laws.{IsFront}
 use Rattle.spl_meaning.specs.Pending.{most}
 use Rattle.spl_meaning.specs.Places.{Place}
-use Rattle.spl_meaning.specs.References.{Here, Setting}
-use Rattle.spl_meaning.specs.States.{State, Outcome, then_go, stopping, code_dropped}
+use Rattle.spl_meaning.specs.References.{Setting}
+use Rattle.spl_meaning.specs.States.{State, Outcome, code_dropped}
 use Rattle.spl_meaning.specs.Statements.{bears_among, landing, run, run_arm, run_bearer}
 use Rattle.spl_meaning.specs.Stops.{stops}
 use Rattle.spl_meaning.specs.Values.{Callee, value}
-use Rattle.spl_code.specs.Parts.{Part, Wanted, piece, ◌⨟◌}
+use Rattle.spl_code.specs.Parts.{Part, Wanted, ◌⨟◌}
 use Rattle.spl_code.specs.Code.{as_value, code}
 use Rattle.spl_statement_code.specs.Landings.{Context}
 use Rattle.spl_statement_code.specs.Statements.{statement, arm, arms, chosen_among}
@@ -33,7 +31,6 @@ use Rattle.spl_covered.proofs.CoverLemmas.{covered_width, covered_whole, covered
 use Rattle.spl_choices.specs.Laws.{Chooses, chosen_before}
 use Rattle.spl_choices.proofs.PartLemmas.{begun_whole}
 use Rattle.spl_choices.proofs.CaseLemmas.{arm_before, cases, case_whole}
-use Rattle.spl_stores.proofs.BlockLemmas.{landing_none}
 use Rattle.spl_targets.proofs.SameLemmas.{one_same, stopping_same, same_performs}
 
 pub cased_whole : (c : Context) (st : Setting) (v : Tree) (ss : Statements) (at : At) (k : ℕ) → is_covered c.scope st v k ≡ true
@@ -71,28 +68,17 @@ first_arm c results z call d number s ss k need enough whole x others =
       by zero t = refl
       by (suc v) t = refl
 
--- a CASE whose arms bear no label takes no jump
+-- a CASE over arms that take the jumps to their labels
 pub case_performs : (c : Context) (results : List ℕ → Option (Kind × Place)) (z : Surroundings) (call : Callee) (d number : ℕ) (v : Tree) (ss : Statements)
-    (at : At) (k need : ℕ) → is_covered c.scope z.setting v k ≡ true → most c.scope.names v + 8 ≤ need → ((x : List ℕ) → bears_among ss x ≡ false)
-    → Chooses z d k need (λ end. arms c ss k end) (λ j t. run_arm (read_with c.scope results z.setting) call d (number + 1) ss j k t)
+    (at : At) (k need : ℕ) → is_covered c.scope z.setting v k ≡ true → most c.scope.names v + 8 ≤ need
+    → Chooses z d k need (λ end. arms c ss k end) (λ j t. landing d (bears_among ss)
+    (λ y u. run_bearer (read_with c.scope results z.setting) call d (number + 1) ss y k u) (run_arm (read_with c.scope results z.setting) call d (number + 1) ss j k t))
     → Performs z d k need (statement c (stat.Statement.case_of v ss at) k)
     (λ t. run (read_with c.scope results z.setting) call d number (stat.Statement.case_of v ss at) k t)
-case_performs c results z call d number v ss at k need covered enough none x =
-    same_performs z d k need (statement c (stat.Statement.case_of v ss at) k) (piece (Begin at) ⨟ chosen_among (code c.scope v as_value k) (λ end. arms c ss k end))
-    (λ s. run h call d number (stat.Statement.case_of v ss at) k s)
-    (λ s. stopping number at s (λ u. then_go (value h call v k u) (λ vs t. with_one vs t (λ j w. code_dropped (run_arm h call d (number + 1) ss j k w))))) refl
-    (λ s. stopping_same number at s
-    (λ u. then_go (value h call v k u) (λ vs t. with_one vs t (λ j w. code_dropped (landing d (bears_among ss) (λ y s4. run_bearer h call d (number + 1) ss y k s4) (run_arm h call d (number + 1) ss j k w)))))
-    (λ u. then_go (value h call v k u) (λ vs t. with_one vs t (λ j w. code_dropped (run_arm h call d (number + 1) ss j k w))))
-    (λ u. then_same (value h call v k u)
-    (λ vs t. with_one vs t (λ j w. code_dropped (landing d (bears_among ss) (λ y s4. run_bearer h call d (number + 1) ss y k s4) (run_arm h call d (number + 1) ss j k w))))
-    (λ vs t. with_one vs t (λ j w. code_dropped (run_arm h call d (number + 1) ss j k w)))
-    (λ vs t. one_same vs t (λ j w. code_dropped (landing d (bears_among ss) (λ y s4. run_bearer h call d (number + 1) ss y k s4) (run_arm h call d (number + 1) ss j k w)))
-    (λ j w. code_dropped (run_arm h call d (number + 1) ss j k w))
-    (λ j w. ap code_dropped (landing_none d (bears_among ss) (λ y s4. run_bearer h call d (number + 1) ss y k s4) (run_arm h call d (number + 1) ss j k w) none)))))
-    (cases z d k need number at (code c.scope v as_value k) (λ s. value h call v k s) (λ end. arms c ss k end) (λ j s. run_arm h call d (number + 1) ss j k s)
+case_performs c results z call d number v ss at k need covered enough x =
+    let h = read_with c.scope results z.setting in
+    cases z d k need number at (code c.scope v as_value k) (λ s. value h call v k s) (λ end. arms c ss k end)
+    (λ j s. landing d (bears_among ss) (λ y u. run_bearer h call d (number + 1) ss y k u) (run_arm h call d (number + 1) ss j k s))
     (covered_whole c.scope z.setting v k covered)
     (subst (λ (j : ℕ). Simulates z d as_value j k need (code c.scope v as_value k) (λ s. value h call v k s)) (covered_width c.scope z.setting v k covered)
-    (covered_gives c.scope results z call d v k need covered enough)) x) where
-      h : Here
-      h = read_with c.scope results z.setting
+    (covered_gives c.scope results z call d v k need covered enough)) x

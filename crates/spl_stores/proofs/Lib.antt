@@ -1,8 +1,8 @@
 -- In reading order.
 pub mod StoreLemmas
-pub mod BlockLemmas
 pub mod ChoiceLemmas
 pub mod CaseLemmas
 pub mod ForLemmas
 pub mod AssignLemmas
+pub mod WithinLemmas
 pub mod CoverLemmas

@@ -45,7 +45,8 @@ is_covered_step c st (tree.Trees.and e es) k = is_covered c st e k
 
 abbrev mutual
   -- A statement, in a body with this setting and while k words wait: the empty one, assignments of what is covered and of what an intrinsic
-  -- answers, blocks of such, IF, WHILE and DO of such with a condition that is covered, IF on the condition code, CASE of such with a value that is, calls of intrinsics, and
+  -- answers, blocks of such, IF, WHILE and DO of such with a condition that is covered, IF on the condition code, CASE of such with a value
+  -- that is, calls of intrinsics, GO TO, such behind labels, and
   -- FOR of such with values that are, each while as many words more wait as stand before it.
   pub is_covered_statement : Scope → Setting → Statement → ℕ → Bool
   is_covered_statement c st stat.Statement.empty k = true
@@ -65,6 +66,8 @@ abbrev mutual
       && is_covered_statement c st s (k + 3)
   is_covered_statement c st (stat.Statement.case_of e ss at) k = is_covered c st e k && are_covered c st ss k
   is_covered_statement c st (stat.Statement.call x es at) k = is_covered_call c st x (c.names x) es k
+  is_covered_statement c st (stat.Statement.labelled y at s) k = is_covered_statement c st s k
+  is_covered_statement c st (stat.Statement.go_to y at) k = true
   is_covered_statement c st _ k = false
 
   -- a list of such

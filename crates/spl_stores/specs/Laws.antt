@@ -1,5 +1,5 @@
--- The laws of this crate: assignments and blocks over their parts as variables; and then all that is covered.
-use Rattle.std.specs.Prelude.{◌≡◌, ℕ, ◌+◌, ◌≤◌, Bool, true, false, List, Option}
+-- The laws of this crate: assignments over their parts as variables; and then all that is covered.
+use Rattle.std.specs.Prelude.{◌≡◌, ℕ, ◌+◌, ◌≤◌, true, false, List, ◌++◌, Option}
 use Rattle.spl_tree.specs.declared.names_and_places.At.{At}
 use Rattle.spl_tree.specs.declared.expressions.Kind.{Kind}
 use Rattle.spl_tree.specs.StatementTrees.{Statement, Statements}
@@ -8,19 +8,21 @@ use Rattle.spl_meaning.specs.Operations.{kept}
 use Rattle.spl_meaning.specs.Pending.{statement_most, statements_most}
 use Rattle.spl_meaning.specs.Places.{Place}
 use Rattle.spl_meaning.specs.References.{Setting, its_own, address_of, variable_located, store}
-use Rattle.spl_meaning.specs.States.{State, Outcome, then_go, stopping, beginning, code_dropped}
-use Rattle.spl_meaning.specs.Statements.{landing, run, run_all}
+use Rattle.spl_meaning.specs.StatementRules.{list_labels}
+use Rattle.spl_meaning.specs.States.{State, Outcome, then_go, stopping}
+use Rattle.spl_meaning.specs.Statements.{bears_among, landing, run, run_all, run_from}
 use Rattle.spl_meaning.specs.Values.{Callee}
 use Rattle.spl_code.specs.Parts.{Part, pieces, piece, nothing, ◌⨟◌}
 use Rattle.spl_code.specs.Code.{as_value}
 use Rattle.spl_code.specs.Stores.{stored}
 use Rattle.spl_statement_code.specs.Landings.{Context}
-use Rattle.spl_statement_code.specs.Statements.{idle, statement, listed}
+use Rattle.spl_statement_code.specs.Statements.{statement, listed}
 use Rattle.spl_follow.specs.Simulating.{Surroundings, Simulates, Performs, PerformsAll}
 use Rattle.spl_values.specs.Reached.{is_reached, IsWhole}
 use Rattle.spl_operators.specs.Laws.{is_single}
 use Rattle.spl_covered.specs.Laws.{read_with}
 use Rattle.spl_calls.specs.Laws.{MayCall}
+use Rattle.spl_jumps.specs.Landed.{is_landed, are_landed, MayJump}
 use Rattle.spl_stores.specs.Covered.{is_covered_statement, are_covered}
 
 -- ---- constructs
@@ -33,26 +35,26 @@ AssignmentsPerform = (z : Surroundings) (d k need number : ℕ) (at : At) (t : K
     → Performs z d k need (piece (Begin at) ⨟ (nothing ⨟ a ⨟ pieces (stored (its_own t) false k place)))
     (λ s. stopping number at s (λ u. then_go (value u) (λ vs v. store (variable_located t (address_of place v.now)) (kept t vs) v)))
 
--- A list that bears no label, behind the word of its block.
-abbrev pub BlocksPerform : Type 0
-BlocksPerform = (z : Surroundings) (d k need fuel : ℕ) (a : Part) (has : List ℕ → Bool) (from : List ℕ → State → Outcome (Unit {0}))
-    (all : State → Outcome (Unit {0})) → ((x : List ℕ) → has x ≡ false) → PerformsAll z d k need a all
-    → Performs z d k need (idle ⨟ a) (λ s. beginning s (λ u. code_dropped (landing fuel has from (all u))))
-
 -- ---- trees
 
--- what is covered has whole code
+-- what is covered has whole code, where its jumps lead somewhere
 abbrev pub CoveredStatementsAreWhole : Type 0
-CoveredStatementsAreWhole = (c : Context) (st : Setting) (s : Statement) (k : ℕ) → is_covered_statement c.scope st s k ≡ true → IsWhole (statement c s k)
+CoveredStatementsAreWhole = (c : Context) (st : Setting) (s : Statement) (k : ℕ) → is_covered_statement c.scope st s k ≡ true
+    → (labels : List (List ℕ)) → is_landed c.landings labels s k ≡ true → IsWhole (statement c s k)
 
--- The code of a statement that is covered performs it, wherever it stands.
+-- The code of a statement that is covered performs it, wherever it stands, where its calls find what they name, and its labels and jumps do, with
+-- those of the lists around it.
 abbrev pub CoveredStatementsPerform : Type 0
-CoveredStatementsPerform = (c : Context) (results : List ℕ → Option (Kind × Place)) (z : Surroundings) (call : Callee) (d number : ℕ) (st : Statement)
-    (k need : ℕ) → is_covered_statement c.scope z.setting st k ≡ true → statement_most c.scope.names st + 8 ≤ need → MayCall z
+CoveredStatementsPerform = (c : Context) (results : List ℕ → Option (Kind × Place)) (z : Surroundings) (call : Callee) (d number : ℕ)
+    (labels : List (List ℕ)) (st : Statement) (k need : ℕ) → is_covered_statement c.scope z.setting st k ≡ true
+    → statement_most c.scope.names st + 8 ≤ need → MayCall z → MayJump c.landings z labels k → is_landed c.landings labels st k ≡ true
     → Performs z d k need (statement c st k) (λ s. run (read_with c.scope results z.setting) call d number st k s)
 
--- and so does that of a list of such
+-- and so does that of a list of such, that takes the jumps to its labels
 abbrev pub CoveredListsPerform : Type 0
-CoveredListsPerform = (c : Context) (results : List ℕ → Option (Kind × Place)) (z : Surroundings) (call : Callee) (d number : ℕ) (ss : Statements)
-    (k need : ℕ) → are_covered c.scope z.setting ss k ≡ true → statements_most c.scope.names ss + 8 ≤ need → MayCall z
-    → PerformsAll z d k need (listed c ss k) (λ s. run_all (read_with c.scope results z.setting) call d number ss k s)
+CoveredListsPerform = (c : Context) (results : List ℕ → Option (Kind × Place)) (z : Surroundings) (call : Callee) (d number : ℕ)
+    (labels : List (List ℕ)) (ss : Statements) (k need : ℕ) → are_covered c.scope z.setting ss k ≡ true
+    → statements_most c.scope.names ss + 8 ≤ need → MayCall z → MayJump c.landings z labels k
+    → are_landed c.landings (labels ++ list_labels ss) ss k ≡ true
+    → PerformsAll z d k need (listed c ss k) (λ s. landing d (bears_among ss)
+    (λ x t. run_from (read_with c.scope results z.setting) call d number ss x k t) (run_all (read_with c.scope results z.setting) call d number ss k s))

@@ -1,4 +1,4 @@
-//! Stores: assignments to simple variables, blocks and lists, performed by their code wherever it stands.
+//! Stores: assignments to simple variables, and all statements that are covered, performed by their code wherever it stands.
 #![tactic(auto)]
 
 mod laws;

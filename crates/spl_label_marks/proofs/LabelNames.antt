@@ -12,6 +12,7 @@ use Rattle.spl_meaning.specs.StatementRules.{all_labels, all_labels_of, is_liste
 use Rattle.spl_statement_code.specs.Landings.{Landing, Context}
 use Rattle.spl_statement_code.specs.Labels.{mark_of, marks_of}
 use Rattle.spl_module_code.specs.LabelsOfBodies.{Label, labels_in, labels_among, landed_from}
+use Rattle.spl_label_marks.specs.Laws.{Lead, LabelsLead}
 
 -- ---- names
 
@@ -91,11 +92,6 @@ labels_apart ss k e = subst (λ (xs : List (List ℕ)). AreApart xs) (sym (names
 
 -- ---- so each has its own mark
 
--- labels lead to the marks from one on
-abbrev pub Lead : (List ℕ → Option Landing) → ℕ → List Label → Type 0
-Lead has mark [] = Unit {0}
-Lead has mark (x ∷ xs) = (has x.name ≡ Some (record { mark = mark; pending = x.pending })) × Lead has (suc mark) xs
-
 is_itself : (x : List ℕ) → same_name x x ≡ true
 is_itself x = search rules
 
@@ -119,6 +115,9 @@ lead mark (x ∷ xs) apart = (
   lead_rest x.name (record { mark = mark; pending = x.pending }) (landed_from (suc mark) xs) (suc mark) xs apart.0 (lead (suc mark) xs apart.1),
 )
 
+pub labels_lead : LabelsLead
+labels_lead mark ss k once = lead mark (labels_among ss k) (labels_apart ss k once)
+
 -- so many marks from one on
 abbrev pub from_on : ℕ → ℕ → List ℕ
 from_on mark zero = []
@@ -139,5 +138,5 @@ pub marks_are : (c : Context) (mark : ℕ) (ss : Statements) (k : ℕ) → c.lan
     → marks_of c (all_labels_of ss) ≡ from_on mark (length (labels_among ss k))
 marks_are c mark ss k is once =
     marks_led c mark (labels_among ss k) (all_labels_of ss)
-    (subst (λ (h : List ℕ → Option Landing). Lead h mark (labels_among ss k)) (sym is) (lead mark (labels_among ss k) (labels_apart ss k once)))
+    (subst (λ (h : List ℕ → Option Landing). Lead h mark (labels_among ss k)) (sym is) (labels_lead mark ss k once))
     (names_among ss k)

@@ -1,0 +1,182 @@
+-- Labels and jumps of what breaks no rule lead somewhere.
+-- 1. each label leads to its own mark                  (all_lead)
+-- 2. GO TO names a label of a list around it            (statement_lands, list_lands, arms_land)
+-- 3. so it is in main bodies of units                   (mains_land)
+use Rattle.std.proofs.Common.{ℕ, suc, ◌≡◌, ◌+◌, Bool, true, false, if◌then◌else◌, List, [], ◌∷◌, ◌++◌, Option, Some, None, is_some, refl, sym, ap, ◌∙◌}
+use Rattle.std.proofs.lemmas.Bool.{and_from, eq-eqb, false≢true}
+use Rattle.spl_tree.specs.declared.names_and_places.At.{At}
+use Rattle.spl_tree.specs.DeclarationTrees.{declarations}
+use Rattle.spl_tree.specs.StatementTrees as stat
+use Rattle.spl_tree.specs.StatementTrees.{Statement, Statements, statements}
+use Rattle.spl_meaning.specs.Names.{find, same_name, nothing_declared}
+use Rattle.spl_meaning.specs.Tables.{Source, Routine}
+use Rattle.spl_meaning.specs.Bodies.{all_routines}
+use Rattle.spl_meaning.specs.ExpressionRules.{Scope}
+use Rattle.spl_meaning.specs.Faults.{unless}
+use Rattle.spl_meaning.specs.DeclarationRules.{Around, globals_faults, silent_faults, unit_faults, main_scope}
+use Rattle.spl_meaning.specs.StatementRules.{has_name, condition_faults, single_value_faults, step_faults, counter_by, test_faults, sets_code, own_labels, list_labels, label_faults, statement_faults, statements_faults, arms_faults, body_faults}
+use Rattle.spl_meaning.specs.Sound.{all_faults, faults_behind}
+use Rattle.spl_places.specs.Programs.{Each}
+use Rattle.spl_statement_code.specs.Landings.{Landing}
+use Rattle.spl_module_code.specs.LabelsOfBodies.{Label, labels_in, labels_among, landed_from}
+use Rattle.spl_label_marks.specs.Laws.{Lead}
+use Rattle.spl_label_marks.proofs.LabelNames.{labels_lead}
+use Rattle.spl_sound_labels.proofs.LabelLaws.{left_none, right_none, no_faults}
+use Rattle.spl_jumps.specs.Landed.{is_landing, is_landed, are_landed}
+use Rattle.spl_jumps.proofs.LabelLemmas.{same_letters}
+use Rattle.spl_jumps.proofs.LandedLemmas.{either_named}
+use Rattle.spl_sound_jumps.specs.Laws.{LandsInUnit, SoundBodiesLand, SoundMainsLand}
+
+-- ---- 1. labels
+
+-- each of some labels leads to where as many words wait as in its list
+abbrev AllLead : (List ℕ → Option Landing) → List Label → Type 0
+AllLead at [] = Unit {0}
+AllLead at (x ∷ xs) = (is_landing (at x.name) x.pending ≡ true) × AllLead at xs
+
+-- so do those of marks of their own
+all_lead : (at : List ℕ → Option Landing) (mark : ℕ) (xs : List Label) → Lead at mark xs → AllLead at xs
+all_lead at mark [] h = tt
+all_lead at mark (x ∷ xs) h = (ap (λ (o : Option Landing). is_landing o x.pending) h.0 ∙ eq-eqb x.pending x.pending refl, all_lead at (suc mark) xs h.1)
+
+lead_left : (at : List ℕ → Option Landing) (xs ys : List Label) → AllLead at (xs ++ ys) → AllLead at xs
+lead_left at [] ys h = tt
+lead_left at (x ∷ xs) ys h = (h.0, lead_left at xs ys h.1)
+
+lead_right : (at : List ℕ → Option Landing) (xs ys : List Label) → AllLead at (xs ++ ys) → AllLead at ys
+lead_right at [] ys h = h
+lead_right at (x ∷ xs) ys h = lead_right at xs ys h.1
+
+-- what leads to where some words wait leads somewhere
+landing_there : (o : Option Landing) (k : ℕ) → is_landing o k ≡ true → is_some o ≡ true
+landing_there None k e = e
+landing_there (Some l) k e = refl
+
+-- those before a statement lead somewhere
+own_there : (at : List ℕ → Option Landing) (s : Statement) (k : ℕ) → AllLead at (labels_in s k) → (y : List ℕ) → has_name (own_labels s) y ≡ true
+    → is_some (at y) ≡ true
+own_there at (stat.Statement.labelled x p s) k h y is = by (same_name y x) refl is (λ other. own_there at s k h.1 y other) where
+  by : (b : Bool) → same_name y x ≡ b → (if b then true else has_name (own_labels s) y) ≡ true → (has_name (own_labels s) y ≡ true → is_some (at y) ≡ true)
+      → is_some (at y) ≡ true
+  by true same is rest = ap (λ (n : List ℕ). is_some (at n)) (same_letters y x same) ∙ landing_there (at x) k h.0
+  by false same is rest = rest is
+own_there at stat.Statement.empty k h y is = absurd (false≢true is)
+own_there at (stat.Statement.block ss) k h y is = absurd (false≢true is)
+own_there at (stat.Statement.if_test q s ss p) k h y is = absurd (false≢true is)
+own_there at (stat.Statement.while_true v s p) k h y is = absurd (false≢true is)
+own_there at (stat.Statement.until_true s v p) k h y is = absurd (false≢true is)
+own_there at (stat.Statement.for_values x a b v s p) k h y is = absurd (false≢true is)
+own_there at (stat.Statement.case_of v ss p) k h y is = absurd (false≢true is)
+own_there at (stat.Statement.go_to x p) k h y is = absurd (false≢true is)
+own_there at (stat.Statement.return p) k h y is = absurd (false≢true is)
+own_there at (stat.Statement.assign to v p) k h y is = absurd (false≢true is)
+own_there at (stat.Statement.assign_effect to v p) k h y is = absurd (false≢true is)
+own_there at (stat.Statement.do_effect v p) k h y is = absurd (false≢true is)
+own_there at (stat.Statement.call x es p) k h y is = absurd (false≢true is)
+
+-- each of some names leads somewhere
+abbrev AreThere : (List ℕ → Option Landing) → List (List ℕ) → Type 0
+AreThere at xs = (y : List ℕ) → has_name xs y ≡ true → is_some (at y) ≡ true
+
+-- among these and others
+both_there : (at : List ℕ → Option Landing) (xs ys : List (List ℕ)) → AreThere at xs → AreThere at ys → AreThere at (xs ++ ys)
+both_there at xs ys first second y is = by (has_name xs y) refl (sym (either_named xs ys y) ∙ is) where
+  by : (b : Bool) → has_name xs y ≡ b → (if b then true else has_name ys y) ≡ true → is_some (at y) ≡ true
+  by true here is = first y here
+  by false here is = second y is
+
+-- the labels of a list
+list_there : (at : List ℕ → Option Landing) (ss : Statements) (k : ℕ) → AllLead at (labels_among ss k) → AreThere at (list_labels ss)
+list_there at stat.Statements.none k h y is = absurd (false≢true is)
+list_there at (stat.Statements.and s ss) k h y is =
+    both_there at (own_labels s) (list_labels ss) (λ v here. own_there at s k (lead_left at (labels_in s k) (labels_among ss k) h) v here)
+    (λ v here. list_there at ss k (lead_right at (labels_in s k) (labels_among ss k) h) v here) y is
+
+-- ---- 2. statements
+
+unless_none : (b : Bool) (rule : ℕ) (at : At) → unless b rule at ≡ [] → b ≡ true
+unless_none true rule at e = refl
+unless_none false rule at e = absurd (cc e)
+
+mutual
+  statement_lands : (sc : Scope) (at : List ℕ → Option Landing) (outer : List (List ℕ)) → AreThere at outer → (s : Statement) (k : ℕ) → AllLead at (labels_in s k)
+      → (after : Bool) → statement_faults sc outer after s ≡ [] → is_landed at outer s k ≡ true
+  statement_lands sc at outer around stat.Statement.empty k own after none = refl
+  statement_lands sc at outer around (stat.Statement.labelled y p s) k own after none =
+      and_from (is_landing (at y) k) (is_landed at outer s k) own.0 (statement_lands sc at outer around s k own.1 false none)
+  statement_lands sc at outer around (stat.Statement.block ss) k own after none =
+      list_lands sc at (outer ++ list_labels ss) (both_there at outer (list_labels ss) around (list_there at ss k own)) ss k own false none
+  statement_lands sc at outer around (stat.Statement.if_test q s ss p) k own after none =
+      let test = test_faults sc after q p in
+      let first = statement_faults sc outer false s in
+      let other = arms_faults sc outer ss in
+      and_from (is_landed at outer s k) (are_landed at outer ss k)
+      (statement_lands sc at outer around s k (lead_left at (labels_in s k) (labels_among ss k) own) false (right_none test first (left_none (test ++ first) other none)))
+      (arms_land sc at outer around ss k (lead_right at (labels_in s k) (labels_among ss k) own) (right_none (test ++ first) other none))
+  statement_lands sc at outer around (stat.Statement.while_true v s p) k own after none =
+      statement_lands sc at outer around s k own false (right_none (condition_faults sc p v) (statement_faults sc outer false s) none)
+  statement_lands sc at outer around (stat.Statement.until_true s v p) k own after none =
+      statement_lands sc at outer around s k own false (left_none (statement_faults sc outer false s) (condition_faults sc p v) none)
+  statement_lands sc at outer around (stat.Statement.for_values x first step last s p) k own after none =
+      let front = counter_by sc x (sc.names x) p ++ single_value_faults sc p first ++ step_faults sc p step ++ single_value_faults sc p last in
+      statement_lands sc at outer around s (k + 3) own false (right_none front (statement_faults sc outer false s) none)
+  statement_lands sc at outer around (stat.Statement.case_of v ss p) k own after none =
+      arms_land sc at (outer ++ list_labels ss) (both_there at outer (list_labels ss) around (list_there at ss k own)) ss k own
+      (right_none (single_value_faults sc p v) (arms_faults sc (outer ++ list_labels ss) ss) none)
+  statement_lands sc at outer around (stat.Statement.go_to x p) k own after none =
+      let named = unless_none (has_name outer x) 21 p none in and_from (has_name outer x) (is_some (at x)) named (around x named)
+  statement_lands sc at outer around (stat.Statement.return p) k own after none = refl
+  statement_lands sc at outer around (stat.Statement.assign to v p) k own after none = refl
+  statement_lands sc at outer around (stat.Statement.assign_effect to v p) k own after none = refl
+  statement_lands sc at outer around (stat.Statement.do_effect v p) k own after none = refl
+  statement_lands sc at outer around (stat.Statement.call x es p) k own after none = refl
+
+  -- a list
+  list_lands : (sc : Scope) (at : List ℕ → Option Landing) (outer : List (List ℕ)) → AreThere at outer → (ss : Statements) (k : ℕ) → AllLead at (labels_among ss k)
+      → (after : Bool) → statements_faults sc outer after ss ≡ [] → are_landed at outer ss k ≡ true
+  list_lands sc at outer around stat.Statements.none k own after none = refl
+  list_lands sc at outer around (stat.Statements.and s ss) k own after none =
+      let first = statement_faults sc outer after s in
+      let others = statements_faults sc outer (sets_code sc.names s) ss in
+      and_from (is_landed at outer s k) (are_landed at outer ss k)
+      (statement_lands sc at outer around s k (lead_left at (labels_in s k) (labels_among ss k) own) after (left_none first others none))
+      (list_lands sc at outer around ss k (lead_right at (labels_in s k) (labels_among ss k) own) (sets_code sc.names s) (right_none first others none))
+
+  -- arms
+  arms_land : (sc : Scope) (at : List ℕ → Option Landing) (outer : List (List ℕ)) → AreThere at outer → (ss : Statements) (k : ℕ) → AllLead at (labels_among ss k)
+      → arms_faults sc outer ss ≡ [] → are_landed at outer ss k ≡ true
+  arms_land sc at outer around stat.Statements.none k own none = refl
+  arms_land sc at outer around (stat.Statements.and s ss) k own none =
+      let first = statement_faults sc outer false s in
+      let others = arms_faults sc outer ss in
+      and_from (is_landed at outer s k) (are_landed at outer ss k)
+      (statement_lands sc at outer around s k (lead_left at (labels_in s k) (labels_among ss k) own) false (left_none first others none))
+      (arms_land sc at outer around ss k (lead_right at (labels_in s k) (labels_among ss k) own) (right_none first others none))
+
+-- ---- 3. bodies
+
+pub bodies_land : SoundBodiesLand
+bodies_land sc ss none mark =
+    let of_statements = left_none (statements_faults sc (list_labels ss) false ss) (label_faults ss) none in
+    let once = right_none (statements_faults sc (list_labels ss) false ss) (label_faults ss) none in
+    let at = find (landed_from mark (labels_among ss 0)) in
+    let own = all_lead at mark (labels_among ss 0) (labels_lead mark ss 0 once) in
+    list_lands sc at (list_labels ss) (list_there at ss 0 own) ss 0 own false of_statements
+
+unit_lands : (others : List Routine) (u : Source) → unit_faults others u ≡ [] → LandsInUnit u
+unit_lands others u none =
+    let around : Around = record { names = nothing_declared; in_procedure = false; split = false; subprogram = u.subprogram } in
+    let lists = globals_faults around (main_scope u) others [] [] (declarations u.tree.items) in
+    let body = body_faults (main_scope u) (statements u.tree.statements) in
+    let silent = if u.subprogram then silent_faults u.tree.at u.tree.statements else [] in
+    bodies_land (main_scope u) (statements u.tree.statements) (right_none lists body (left_none (lists ++ body) silent none))
+
+units_land : (before us : List Source) → faults_behind before us ≡ [] → Each LandsInUnit us
+units_land before [] none = tt
+units_land before (u ∷ us) none =
+    let of_u = unit_faults (all_routines before ++ all_routines us) u in
+    let of_rest = faults_behind (before ++ u ∷ []) us in
+    (unit_lands (all_routines before ++ all_routines us) u (left_none of_u of_rest none), units_land (before ++ u ∷ []) us (right_none of_u of_rest none))
+
+pub mains_land : SoundMainsLand
+mains_land us sound = units_land [] us (no_faults us (all_faults us) refl sound)

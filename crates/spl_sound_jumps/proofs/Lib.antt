@@ -1,0 +1,3 @@
+-- In reading order.
+mod KnownLanded
+pub mod JumpLaws

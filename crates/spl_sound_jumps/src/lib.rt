@@ -1,0 +1,6 @@
+//! Labels and jumps of units that break no rule lead somewhere.
+#![tactic(auto)]
+
+mod laws;
+
+pub use laws::sound_jumps_land;
