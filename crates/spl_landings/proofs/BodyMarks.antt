@@ -20,7 +20,7 @@ use Rattle.spl_statement_code.specs.Landings.{Landing, Context, IsMade}
 use Rattle.spl_statement_code.specs.Statements.{listed}
 use Rattle.spl_statement_code.specs.Labels.{AppendsSetting, CanBeSet, all_set, marks_within}
 use Rattle.spl_statement_code.specs.FewWords.{nested_among}
-use Rattle.spl_module_code.specs.LabelsOfBodies.{Label, labels_among, with_landings, landed_from}
+use Rattle.spl_module_code.specs.LabelsOfBodies.{Label, labels_among, landed_from}
 use Rattle.spl_landings.specs.Bodies.{context_with, statements_part}
 use Rattle.spl_label_marks.specs.Laws.{with_more}
 use Rattle.spl_label_marks.proofs.LabelNames.{from_on, marks_are}
