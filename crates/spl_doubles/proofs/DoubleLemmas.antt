@@ -341,7 +341,7 @@ sums_give z d k need more o a b first other sum wa wb sa sb enough =
 -- ---- constants
 
 -- a constant closes
-constant_closed : (c : ℕ) → IsClosed (constant c)
+pub constant_closed : (c : ℕ) → IsClosed (constant c)
 constant_closed c = by (nat_lt c 256) (nat_lt 65280 c) where
   by : (x y : Bool)
       → due_after true (if x then LDI c ∷ [] else if y then LDNI (65536 - c) ∷ [] else LDI (c / 256) ∷ LSL 8 ∷ ORI (c % 256) ∷ []) ≡ false

@@ -1,4 +1,5 @@
--- The laws of this crate: DOUBLE constants, sums, transfers and stores in variables, each over its parts as variables. The high word of a DOUBLE is the lower one.
+-- The laws of this crate: DOUBLE constants, sums, transfers and stores in variables, each over its parts as variables. The high word of a DOUBLE
+-- is the lower one.
 use Rattle.std.specs.Prelude.{◌≡◌, ℕ, ◌+◌, ◌≤◌, ◌<◌, ◌*◌, ◌/◌, true, false, List}
 use Rattle.spl_tree.specs.declared.expressions.Kind.{Kind}
 use Rattle.spl_tree.specs.declared.expressions.Kind.TheVariants as kind

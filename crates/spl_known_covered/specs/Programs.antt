@@ -13,7 +13,7 @@ abbrev pub AllSo : Bool → List String → Type 0
 AllSo covered [] = Unit {0}
 AllSo covered (t ∷ ts) = IsSo covered t × AllSo covered ts
 
--- sums, loops, choices, elements of arrays, BYTEs, bit fields, pointers, and what is declared and not called
+-- sums, loops, choices, elements of arrays, BYTEs, bit fields, pointers, DOUBLEs, and what is declared and not called
 abbrev pub covered_texts : List String
 covered_texts =
     "BEGIN INTEGER I; INTRINSIC QUIT; I:=2; I:=I+3; QUIT(I) END."
@@ -25,13 +25,14 @@ covered_texts =
     ∷ "BEGIN BYTE C,D; C:=65; IF C=65 THEN D:=C+1 END."
     ∷ "BEGIN INTEGER I; LOGICAL ARRAY L(0:3); I.(4:3):=5; L(1).(0:2):=I.(4:3) END."
     ∷ "BEGIN INTEGER ARRAY A(0:3); INTEGER POINTER P; @P:=@A(1); P:=7; P(1):=P END."
+    ∷ "BEGIN DOUBLE D; INTEGER I; D:=1D; D:=D+DOUBLE(I)-2D END."
     ∷ "BEGIN INTEGER I; PROCEDURE P; I:=1; I:=2 END."
     ∷ "BEGIN INTRINSIC TERMINATE; TERMINATE END." ∷ []
 
--- a DOUBLE, a label, a call of a procedure, an intrinsic that goes on, and a unit without a main body
+-- an element of DOUBLEs, a label, a call of a procedure, an intrinsic that goes on, and a unit without a main body
 abbrev pub other_texts : List String
 other_texts =
-    "BEGIN DOUBLE D; D:=1D END."
+    "BEGIN DOUBLE ARRAY D(0:3); D(1):=1D END."
     ∷ "BEGIN INTEGER I; L: I:=1; GO TO L END."
     ∷ "BEGIN INTEGER I; PROCEDURE P; I:=1; P END."
     ∷ "BEGIN LOGICAL ARRAY W(0:3); INTRINSIC PRINT; PRINT(W,2,0) END."

@@ -18,7 +18,7 @@ use Rattle.spl_meaning.specs.Names as n
 use Rattle.spl_meaning.specs.Names.{Sort}
 use Rattle.spl_meaning.specs.Operations.{kept}
 use Rattle.spl_meaning.specs.Laws.{IsFront}
-use Rattle.spl_meaning.specs.Pending.{most, waiting, statements_most}
+use Rattle.spl_meaning.specs.Pending.{most, waiting, statement_most, statements_most}
 use Rattle.spl_meaning.specs.Places.{Place, data_word, above_base, below_base, below_return}
 use Rattle.spl_meaning.specs.References.{Here, Setting, Access, its_own, address_of, variable_located, target_access, own_located, locate_by, locate_target, store}
 use Rattle.spl_meaning.specs.States.{State, then_go, stopping}
@@ -47,13 +47,15 @@ use Rattle.spl_values.proofs.WholeLemmas.{whole_pieces}
 use Rattle.spl_covered.proofs.CoverLemmas.{covered_width, covered_whole, covered_gives}
 use Rattle.spl_choices.specs.Laws.{Chooses}
 use Rattle.spl_choices.proofs.CaseLemmas.{no_arm, arm_keeps}
-use Rattle.spl_stores.specs.Covered.{is_stored_name, is_covered_statement, are_covered}
+use Rattle.spl_stores.specs.Covered.{is_stored_name, is_covered_target, is_covered_statement, are_covered}
 use Rattle.spl_stores.specs.Laws.{MayCall, CoveredStatementsAreWhole, CoveredStatementsPerform, CoveredListsPerform}
 use Rattle.spl_stores.proofs.StoreLemmas.{assignments}
 use Rattle.spl_stores.proofs.BlockLemmas.{blocks}
 use Rattle.spl_targets.specs.Targets.{is_led_target}
 use Rattle.spl_targets.proofs.ElementLemmas.{no_intrinsic, either}
 use Rattle.spl_targets.proofs.TargetLemmas.{led_targets_whole, led_targets}
+use Rattle.spl_wide.specs.Wide.{is_wide_assignment}
+use Rattle.spl_wide.proofs.AssignLemmas.{assigned_whole as wide_assigned_whole, assigned_performs}
 use Rattle.spl_stores.proofs.SameLemmas.{then_same, stopping_same, same_performs}
 use Rattle.spl_stores.proofs.CallLemmas.{call_whole, call_performs}
 use Rattle.spl_stores.proofs.CaseLemmas.{cased_whole, first_arm, case_performs}
@@ -174,6 +176,81 @@ assign_performs c results z call d number x there e at k need target covered eno
     (assignments z d k need number at r.type r.place (code c.scope e as_value k) (λ u. value h call e k u) r.word r.reached (omega (arith, enough))
     (covered_whole c.scope z.setting e k covered) word)
 
+-- ---- assignments in a tree
+
+-- by the target: one of a word has whole code
+assignment_whole : (c : Context) (st : Setting) (to : Target) (v : Tree) (at : At) (k : ℕ)
+    → (is_covered_target c.scope st to k && is_covered c.scope st v (waiting to k)) ≡ true → IsWhole (statement c (stat.Statement.assign to v at) k)
+assignment_whole c st (stat.Target.plain (tree.Tree.named x tree.Trees.none there)) v at k e =
+    let to = stat.Target.plain (tree.Tree.named x tree.Trees.none there) in
+    let names = is_stored_name st k (c.scope.names x) (c.scope.places x) in
+    let two = both (names || is_led_target c.scope st to k) (is_covered c.scope st v k) e in
+    ⊎_elim
+    (λ own. let r = target_case st k (c.scope.names x) (c.scope.places x) own in
+    subst (λ (a : Part). IsWhole a) (sym (assign_code c st x there v at k r))
+    (assigned_whole at (code c.scope v as_value k) (stored (its_own r.type) false k r.place) (covered_whole c.scope st v k two.1)
+    (stored_closed st r.type k r.place r.word r.reached)))
+    (λ led. led_targets_whole c st to v at k led two.1) (either names (is_led_target c.scope st to k) two.0)
+assignment_whole c st (stat.Target.plain (tree.Tree.named x (tree.Trees.and i tree.Trees.none) there)) v at k e =
+    let to = stat.Target.plain (tree.Tree.named x (tree.Trees.and i tree.Trees.none) there) in
+    let two = both (is_led_target c.scope st to k) (is_covered c.scope st v (k + 1)) e in
+    led_targets_whole c st to v at k two.0 two.1
+assignment_whole c st (stat.Target.plain (tree.Tree.named x (tree.Trees.and i (tree.Trees.and j js)) there)) v at k e = absurd (false≢true e)
+assignment_whole c st (stat.Target.plain (tree.Tree.number w)) v at k e = absurd (false≢true e)
+assignment_whole c st (stat.Target.plain (tree.Tree.wide w)) v at k e = absurd (false≢true e)
+assignment_whole c st (stat.Target.plain (tree.Tree.text bytes)) v at k e = absurd (false≢true e)
+assignment_whole c st (stat.Target.plain (tree.Tree.truth b)) v at k e = absurd (false≢true e)
+assignment_whole c st (stat.Target.plain (tree.Tree.address x es there)) v at k e = absurd (false≢true e)
+assignment_whole c st (stat.Target.plain (tree.Tree.unary o a there)) v at k e = absurd (false≢true e)
+assignment_whole c st (stat.Target.plain (tree.Tree.binary o a b there)) v at k e = absurd (false≢true e)
+assignment_whole c st (stat.Target.plain (tree.Tree.shift o a by there)) v at k e = absurd (false≢true e)
+assignment_whole c st (stat.Target.plain (tree.Tree.field a start size there)) v at k e = absurd (false≢true e)
+assignment_whole c st (stat.Target.plain (tree.Tree.transfer t a there)) v at k e = absurd (false≢true e)
+assignment_whole c st (stat.Target.plain (tree.Tree.bytes o a b count there)) v at k e = absurd (false≢true e)
+assignment_whole c st (stat.Target.field r start size) v at k e =
+    let to = stat.Target.field r start size in
+    let two = both (is_led_target c.scope st to k) (is_covered c.scope st v (waiting to k)) e in
+    led_targets_whole c st to v at k two.0 two.1
+assignment_whole c st (stat.Target.address x there) v at k e =
+    let two = both (is_led_target c.scope st (stat.Target.address x there) k) (is_covered c.scope st v k) e in
+    led_targets_whole c st (stat.Target.address x there) v at k two.0 two.1
+
+-- and it is performed
+assignment_performs : (c : Context) (results : List ℕ → Option (Kind × Place)) (z : Surroundings) (call : Callee) (d number : ℕ) (to : Target) (v : Tree) (at : At)
+    (k need : ℕ) → (is_covered_target c.scope z.setting to k && is_covered c.scope z.setting v (waiting to k)) ≡ true
+    → statement_most c.scope.names (stat.Statement.assign to v at) + 8 ≤ need
+    → Performs z d k need (statement c (stat.Statement.assign to v at) k)
+    (λ s. run (read_with c.scope results z.setting) call d number (stat.Statement.assign to v at) k s)
+assignment_performs c results z call d number (stat.Target.plain (tree.Tree.named x tree.Trees.none there)) v at k need e enough =
+    let to = stat.Target.plain (tree.Tree.named x tree.Trees.none there) in
+    let names = is_stored_name z.setting k (c.scope.names x) (c.scope.places x) in
+    let two = both (names || is_led_target c.scope z.setting to k) (is_covered c.scope z.setting v k) e in
+    ⊎_elim (λ own. assign_performs c results z call d number x there v at k need own two.1 (omega (arith, enough)))
+    (λ led. led_targets c results z call d number to v at k need led two.1 enough) (either names (is_led_target c.scope z.setting to k) two.0)
+assignment_performs c results z call d number (stat.Target.plain (tree.Tree.named x (tree.Trees.and i tree.Trees.none) there)) v at k need e enough =
+    let to = stat.Target.plain (tree.Tree.named x (tree.Trees.and i tree.Trees.none) there) in
+    let two = both (is_led_target c.scope z.setting to k) (is_covered c.scope z.setting v (k + 1)) e in
+    led_targets c results z call d number to v at k need two.0 two.1 enough
+assignment_performs c results z call d number (stat.Target.plain (tree.Tree.named x (tree.Trees.and i (tree.Trees.and j js)) there)) v at k need e enough = absurd (false≢true e)
+assignment_performs c results z call d number (stat.Target.plain (tree.Tree.number w)) v at k need e enough = absurd (false≢true e)
+assignment_performs c results z call d number (stat.Target.plain (tree.Tree.wide w)) v at k need e enough = absurd (false≢true e)
+assignment_performs c results z call d number (stat.Target.plain (tree.Tree.text bytes)) v at k need e enough = absurd (false≢true e)
+assignment_performs c results z call d number (stat.Target.plain (tree.Tree.truth b)) v at k need e enough = absurd (false≢true e)
+assignment_performs c results z call d number (stat.Target.plain (tree.Tree.address x es there)) v at k need e enough = absurd (false≢true e)
+assignment_performs c results z call d number (stat.Target.plain (tree.Tree.unary o a there)) v at k need e enough = absurd (false≢true e)
+assignment_performs c results z call d number (stat.Target.plain (tree.Tree.binary o a b there)) v at k need e enough = absurd (false≢true e)
+assignment_performs c results z call d number (stat.Target.plain (tree.Tree.shift o a by there)) v at k need e enough = absurd (false≢true e)
+assignment_performs c results z call d number (stat.Target.plain (tree.Tree.field a start size there)) v at k need e enough = absurd (false≢true e)
+assignment_performs c results z call d number (stat.Target.plain (tree.Tree.transfer t a there)) v at k need e enough = absurd (false≢true e)
+assignment_performs c results z call d number (stat.Target.plain (tree.Tree.bytes o a b count there)) v at k need e enough = absurd (false≢true e)
+assignment_performs c results z call d number (stat.Target.field r start size) v at k need e enough =
+    let to = stat.Target.field r start size in
+    let two = both (is_led_target c.scope z.setting to k) (is_covered c.scope z.setting v (waiting to k)) e in
+    led_targets c results z call d number to v at k need two.0 two.1 enough
+assignment_performs c results z call d number (stat.Target.address x there) v at k need e enough =
+    let two = both (is_led_target c.scope z.setting (stat.Target.address x there) k) (is_covered c.scope z.setting v k) e in
+    led_targets c results z call d number (stat.Target.address x there) v at k need two.0 two.1 enough
+
 -- ---- trees
 
 -- a covered statement bears no label
@@ -208,39 +285,9 @@ mutual
     closed = λ l ws. list_clear c st ss k e (l + 0) ws;
     keeps = λ l ws. list_keeps c st ss k e (l + 0) ws;
   }
-  statement_whole c st (stat.Statement.assign (stat.Target.plain (tree.Tree.named x tree.Trees.none there)) v at) k e =
-      let to = stat.Target.plain (tree.Tree.named x tree.Trees.none there) in
-      let names = is_stored_name st k (c.scope.names x) (c.scope.places x) in
-      let two = both (names || is_led_target c.scope st to k) (is_covered c.scope st v k) e in
-      ⊎_elim
-      (λ own. let r = target_case st k (c.scope.names x) (c.scope.places x) own in
-      subst (λ (a : Part). IsWhole a) (sym (assign_code c st x there v at k r))
-      (assigned_whole at (code c.scope v as_value k) (stored (its_own r.type) false k r.place) (covered_whole c.scope st v k two.1)
-      (stored_closed st r.type k r.place r.word r.reached)))
-      (λ led. led_targets_whole c st to v at k led two.1) (either names (is_led_target c.scope st to k) two.0)
-  statement_whole c st (stat.Statement.assign (stat.Target.plain (tree.Tree.named x (tree.Trees.and i tree.Trees.none) there)) v at) k e =
-      let to = stat.Target.plain (tree.Tree.named x (tree.Trees.and i tree.Trees.none) there) in
-      let two = both (is_led_target c.scope st to k) (is_covered c.scope st v (k + 1)) e in
-      led_targets_whole c st to v at k two.0 two.1
-  statement_whole c st (stat.Statement.assign (stat.Target.plain (tree.Tree.named x (tree.Trees.and i (tree.Trees.and j js)) there)) v at) k e = absurd (false≢true e)
-  statement_whole c st (stat.Statement.assign (stat.Target.plain (tree.Tree.number w)) v at) k e = absurd (false≢true e)
-  statement_whole c st (stat.Statement.assign (stat.Target.plain (tree.Tree.wide w)) v at) k e = absurd (false≢true e)
-  statement_whole c st (stat.Statement.assign (stat.Target.plain (tree.Tree.text bytes)) v at) k e = absurd (false≢true e)
-  statement_whole c st (stat.Statement.assign (stat.Target.plain (tree.Tree.truth b)) v at) k e = absurd (false≢true e)
-  statement_whole c st (stat.Statement.assign (stat.Target.plain (tree.Tree.address x es there)) v at) k e = absurd (false≢true e)
-  statement_whole c st (stat.Statement.assign (stat.Target.plain (tree.Tree.unary o a there)) v at) k e = absurd (false≢true e)
-  statement_whole c st (stat.Statement.assign (stat.Target.plain (tree.Tree.binary o a b there)) v at) k e = absurd (false≢true e)
-  statement_whole c st (stat.Statement.assign (stat.Target.plain (tree.Tree.shift o a by there)) v at) k e = absurd (false≢true e)
-  statement_whole c st (stat.Statement.assign (stat.Target.plain (tree.Tree.field a start size there)) v at) k e = absurd (false≢true e)
-  statement_whole c st (stat.Statement.assign (stat.Target.plain (tree.Tree.transfer t a there)) v at) k e = absurd (false≢true e)
-  statement_whole c st (stat.Statement.assign (stat.Target.plain (tree.Tree.bytes o a b count there)) v at) k e = absurd (false≢true e)
-  statement_whole c st (stat.Statement.assign (stat.Target.field r start size) v at) k e =
-      let to = stat.Target.field r start size in
-      let two = both (is_led_target c.scope st to k) (is_covered c.scope st v (waiting to k)) e in
-      led_targets_whole c st to v at k two.0 two.1
-  statement_whole c st (stat.Statement.assign (stat.Target.address x there) v at) k e =
-      let two = both (is_led_target c.scope st (stat.Target.address x there) k) (is_covered c.scope st v k) e in
-      led_targets_whole c st (stat.Target.address x there) v at k two.0 two.1
+  statement_whole c st (stat.Statement.assign to v at) k e =
+      ⊎_elim (λ one. assignment_whole c st to v at k one) (λ two. wide_assigned_whole c st to v at k two)
+      (either (is_covered_target c.scope st to k && is_covered c.scope st v (waiting to k)) (is_wide_assignment c.scope st to v k) e)
   statement_whole c st (stat.Statement.labelled y at s) k e = absurd (false≢true e)
   statement_whole c st (stat.Statement.if_test (stat.Test.condition v) s stat.Statements.none at) k e =
       let two = both (is_covered c.scope st v k) (is_covered_statement c.scope st s k) e in
@@ -305,35 +352,9 @@ mutual
       let h = read_with c.scope results z.setting in
       blocks z d k need d (listed c ss k) (bears_among ss) (λ x s. run_from h call d number ss x k s) (λ s. run_all h call d number ss k s)
       (none_borne c.scope z.setting ss k e) (list_performs c results z call d number ss k need e enough may)
-  statement_performs c results z call d number (stat.Statement.assign (stat.Target.plain (tree.Tree.named x tree.Trees.none there)) v at) k need e enough may =
-      let to = stat.Target.plain (tree.Tree.named x tree.Trees.none there) in
-      let names = is_stored_name z.setting k (c.scope.names x) (c.scope.places x) in
-      let two = both (names || is_led_target c.scope z.setting to k) (is_covered c.scope z.setting v k) e in
-      ⊎_elim (λ own. assign_performs c results z call d number x there v at k need own two.1 (omega (arith, enough)))
-      (λ led. led_targets c results z call d number to v at k need led two.1 enough) (either names (is_led_target c.scope z.setting to k) two.0)
-  statement_performs c results z call d number (stat.Statement.assign (stat.Target.plain (tree.Tree.named x (tree.Trees.and i tree.Trees.none) there)) v at) k need e enough may =
-      let to = stat.Target.plain (tree.Tree.named x (tree.Trees.and i tree.Trees.none) there) in
-      let two = both (is_led_target c.scope z.setting to k) (is_covered c.scope z.setting v (k + 1)) e in
-      led_targets c results z call d number to v at k need two.0 two.1 enough
-  statement_performs c results z call d number (stat.Statement.assign (stat.Target.plain (tree.Tree.named x (tree.Trees.and i (tree.Trees.and j js)) there)) v at) k need e enough may = absurd (false≢true e)
-  statement_performs c results z call d number (stat.Statement.assign (stat.Target.plain (tree.Tree.number w)) v at) k need e enough may = absurd (false≢true e)
-  statement_performs c results z call d number (stat.Statement.assign (stat.Target.plain (tree.Tree.wide w)) v at) k need e enough may = absurd (false≢true e)
-  statement_performs c results z call d number (stat.Statement.assign (stat.Target.plain (tree.Tree.text bytes)) v at) k need e enough may = absurd (false≢true e)
-  statement_performs c results z call d number (stat.Statement.assign (stat.Target.plain (tree.Tree.truth b)) v at) k need e enough may = absurd (false≢true e)
-  statement_performs c results z call d number (stat.Statement.assign (stat.Target.plain (tree.Tree.address x es there)) v at) k need e enough may = absurd (false≢true e)
-  statement_performs c results z call d number (stat.Statement.assign (stat.Target.plain (tree.Tree.unary o a there)) v at) k need e enough may = absurd (false≢true e)
-  statement_performs c results z call d number (stat.Statement.assign (stat.Target.plain (tree.Tree.binary o a b there)) v at) k need e enough may = absurd (false≢true e)
-  statement_performs c results z call d number (stat.Statement.assign (stat.Target.plain (tree.Tree.shift o a by there)) v at) k need e enough may = absurd (false≢true e)
-  statement_performs c results z call d number (stat.Statement.assign (stat.Target.plain (tree.Tree.field a start size there)) v at) k need e enough may = absurd (false≢true e)
-  statement_performs c results z call d number (stat.Statement.assign (stat.Target.plain (tree.Tree.transfer t a there)) v at) k need e enough may = absurd (false≢true e)
-  statement_performs c results z call d number (stat.Statement.assign (stat.Target.plain (tree.Tree.bytes o a b count there)) v at) k need e enough may = absurd (false≢true e)
-  statement_performs c results z call d number (stat.Statement.assign (stat.Target.field r start size) v at) k need e enough may =
-      let to = stat.Target.field r start size in
-      let two = both (is_led_target c.scope z.setting to k) (is_covered c.scope z.setting v (waiting to k)) e in
-      led_targets c results z call d number to v at k need two.0 two.1 enough
-  statement_performs c results z call d number (stat.Statement.assign (stat.Target.address x there) v at) k need e enough may =
-      let two = both (is_led_target c.scope z.setting (stat.Target.address x there) k) (is_covered c.scope z.setting v k) e in
-      led_targets c results z call d number (stat.Target.address x there) v at k need two.0 two.1 enough
+  statement_performs c results z call d number (stat.Statement.assign to v at) k need e enough may =
+      ⊎_elim (λ one. assignment_performs c results z call d number to v at k need one enough) (λ two. assigned_performs c results z call d number to v at k need two enough)
+      (either (is_covered_target c.scope z.setting to k && is_covered c.scope z.setting v (waiting to k)) (is_wide_assignment c.scope z.setting to v k) e)
   statement_performs c results z call d number (stat.Statement.labelled y at s) k need e enough may = absurd (false≢true e)
   statement_performs c results z call d number (stat.Statement.if_test (stat.Test.condition v) s stat.Statements.none at) k need e enough may =
       let two = both (is_covered c.scope z.setting v k) (is_covered_statement c.scope z.setting s k) e in

@@ -21,6 +21,7 @@ use Rattle.spl_code.specs.Calls.{Scope}
 use Rattle.spl_values.proofs.VariableLemmas.{both}
 use Rattle.spl_covered.specs.Covered.{is_covered}
 use Rattle.spl_targets.specs.Targets.{is_led_target}
+use Rattle.spl_wide.specs.Wide.{is_wide_assignment}
 use Rattle.spl_stores.specs.Covered.{is_stored_name, is_covered_call, is_covered_statement, are_covered}
 use Rattle.thin_jobs.specs.ThinUnits as u
 use Rattle.thin_jobs.specs.ThinTrees.{tree_sum, tree_call, tree_assignment, tree_statement}
@@ -63,8 +64,10 @@ stored_fits {names} c st shows x a at e is short =
     let led = is_led_target c st (stat.Target.plain (tree.Tree.named x tree.Trees.none a)) 0 in
     let few = sum.waits in
     record {
-      covered = all_true (is_stored_name st 0 (c.names x) (c.places x) || led) (is_covered c st e 0)
-          (true_or (is_stored_name st 0 (c.names x) (c.places x)) led target) (sum.covered 0);
+      covered = true_or ((is_stored_name st 0 (c.names x) (c.places x) || led) && is_covered c st e 0)
+          (is_wide_assignment c st (stat.Target.plain (tree.Tree.named x tree.Trees.none a)) e 0)
+          (all_true (is_stored_name st 0 (c.names x) (c.places x) || led) (is_covered c st e 0)
+          (true_or (is_stored_name st 0 (c.names x) (c.places x)) led target) (sum.covered 0));
       waits = max-le (omega arith) few;
     }
 
