@@ -1,6 +1,6 @@
 -- Statements that are covered, along the tree: their code is whole, and performs them.
 use Rattle.std.proofs.Common.{◌≡◌, ℕ, ◌+◌, ◌-◌, ◌≤◌, Bool, true, false, List, [], ◌∷◌, ◌++◌, refl, sym, ap, ◌∙◌, arith}
-use Rattle.std.specs.Prelude.{Option, is_some, ◌&&◌}
+use Rattle.std.specs.Prelude.{Option, is_some, ◌&&◌, ◌||◌}
 use Rattle.std.proofs.lemmas.Bool.{false≢true}
 use Rattle.std.proofs.Math.Logic.{⊎_elim}
 use Rattle.std.proofs.lemmas.List.{append-nil}
@@ -48,6 +48,8 @@ use Rattle.spl_covered.proofs.OperatorLemmas.{either}
 use Rattle.spl_calls.proofs.CallLemmas.{call_whole, call_performs}
 use Rattle.spl_calls.proofs.AnswerLemmas.{answers_whole, answers_perform}
 use Rattle.spl_calls.specs.Covered.{is_covered_answer}
+use Rattle.spl_wide.specs.Wide.{is_wide_assignment}
+use Rattle.spl_wide.proofs.AssignLemmas.{assigned_whole, assigned_performs}
 use Rattle.spl_stores.proofs.AssignLemmas.{store_whole, store_performs}
 
 -- ---- trees
@@ -61,8 +63,11 @@ mutual
     keeps = λ l ws. list_keeps c st ss k e (labels ++ list_labels ss) f (l + 0) ws;
   }
   statement_whole c st (stat.Statement.assign to v at) k e labels f =
-      ⊎_elim (λ own. store_whole c st to v at k own) (λ asked. answers_whole c st to v at k asked)
-      (either (is_covered_store c.scope st to v k) (is_covered_answer c.scope st to v k) e)
+      let wide = is_wide_assignment c.scope st to v k in
+      let asked = is_covered_answer c.scope st to v k in
+      ⊎_elim (λ own. store_whole c st to v at k own)
+      (λ other. ⊎_elim (λ two. assigned_whole c st to v at k two) (λ one. answers_whole c st to v at k one) (either wide asked other))
+      (either (is_covered_store c.scope st to v k) (wide || asked) e)
   statement_whole c st (stat.Statement.labelled y at s) k e labels f =
       labelled_whole (c.landings y) (statement c s k)
       (statement_whole c st s k e labels (both (is_landing (c.landings y) k) (is_landed c.landings labels s k) f).1)
@@ -150,9 +155,12 @@ mutual
       (list_performs c results (listing (bears_among ss) k z) call d number ss k need e enough inside)
       (list_from c results (listing (bears_among ss) k z) call d number ss k need e enough inside)
   statement_performs c results z call d number (stat.Statement.assign to v at) k need e enough may =
+      let wide = is_wide_assignment c.scope z.setting to v k in
+      let asked = is_covered_answer c.scope z.setting to v k in
       ⊎_elim (λ own. store_performs c results z call d number to v at k need own enough)
-      (λ asked. answers_perform c results z call d number to v at k need asked enough may.calls)
-      (either (is_covered_store c.scope z.setting to v k) (is_covered_answer c.scope z.setting to v k) e)
+      (λ other. ⊎_elim (λ two. assigned_performs c results z call d number to v at k need two enough)
+      (λ one. answers_perform c results z call d number to v at k need one enough may.calls) (either wide asked other))
+      (either (is_covered_store c.scope z.setting to v k) (wide || asked) e)
   statement_performs c results z call d number (stat.Statement.labelled y at s) k need e enough may =
       labelled_performs c.landings z d k need y (statement c s k) (λ t. run (read_with c.scope results z.setting) call d number s k t)
       (both (is_landing (c.landings y) k) (is_landed c.landings may.labels s k) may.landed).0

@@ -37,7 +37,8 @@ use Rattle.spl_values.proofs.WholeLemmas.{whole_pieces, then_same}
 use Rattle.spl_covered.specs.Covered.{is_covered}
 use Rattle.spl_covered.specs.Laws.{read_with}
 use Rattle.spl_covered.proofs.CoverLemmas.{covered_whole}
-use Rattle.spl_targets.proofs.ElementLemmas.{not_from_top, word_given}
+use Rattle.spl_targets.proofs.ElementLemmas.{not_from_top}
+use Rattle.spl_targets.proofs.TargetLemmas.{word_given}
 use Rattle.spl_targets.proofs.SameLemmas.{stopping_same, same_performs}
 use Rattle.spl_counts.specs.Laws.{leaving_at_most}
 use Rattle.spl_counts.proofs.CountLemmas.{code_of, counts, count_whole}

@@ -15,6 +15,7 @@ use Rattle.spl_operators.specs.Laws.{is_single}
 use Rattle.spl_covered.specs.Covered.{has_reached, is_covered}
 use Rattle.spl_targets.specs.Targets.{is_led_target}
 use Rattle.spl_calls.specs.Covered.{is_covered_call, is_covered_answer}
+use Rattle.spl_wide.specs.Wide.{is_wide_assignment}
 
 -- a name on the left of :=, a simple variable or a parameter by value of one word or BYTE, where it is reached
 abbrev pub is_stored_name : Setting → ℕ → Option Sort → Option Place → Bool
@@ -51,7 +52,8 @@ abbrev mutual
   pub is_covered_statement : Scope → Setting → Statement → ℕ → Bool
   is_covered_statement c st stat.Statement.empty k = true
   is_covered_statement c st (stat.Statement.block ss) k = are_covered c st ss k
-  is_covered_statement c st (stat.Statement.assign to e at) k = is_covered_store c st to e k || is_covered_answer c st to e k
+  is_covered_statement c st (stat.Statement.assign to e at) k =
+      is_covered_store c st to e k || (is_wide_assignment c st to e k || is_covered_answer c st to e k)
   is_covered_statement c st (stat.Statement.if_test (stat.Test.condition e) s stat.Statements.none at) k =
       is_covered c st e k && is_covered_statement c st s k
   is_covered_statement c st (stat.Statement.if_test (stat.Test.condition e) s (stat.Statements.and other stat.Statements.none) at) k =

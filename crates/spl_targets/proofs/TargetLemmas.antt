@@ -25,7 +25,7 @@ use Rattle.spl_targets.proofs.ElementLemmas.{no_intrinsic, led_whole, led_perfor
 use Rattle.spl_targets.proofs.FieldLemmas as fields
 
 -- what is covered gives one word
-word_given : (c : Scope) (results : List ℕ → Option (Kind × Place)) (z : Surroundings) (call : Callee) (d : ℕ) (e : Tree) (k need : ℕ)
+pub word_given : (c : Scope) (results : List ℕ → Option (Kind × Place)) (z : Surroundings) (call : Callee) (d : ℕ) (e : Tree) (k need : ℕ)
     → is_covered c z.setting e k ≡ true → most c.names e + 8 ≤ need
     → Simulates z d as_value 1 k need (code c e as_value k) (λ s. value (read_with c results z.setting) call e k s)
 word_given c results z call d e k need covered enough =

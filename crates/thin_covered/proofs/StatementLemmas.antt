@@ -22,6 +22,7 @@ use Rattle.spl_values.proofs.VariableLemmas.{both}
 use Rattle.spl_covered.specs.Covered.{is_covered}
 use Rattle.spl_targets.specs.Targets.{is_led_target}
 use Rattle.spl_calls.specs.Covered.{is_covered_call, is_covered_answer}
+use Rattle.spl_wide.specs.Wide.{is_wide_assignment}
 use Rattle.spl_stores.specs.Covered.{is_stored_name, is_covered_store, is_covered_statement, are_covered}
 use Rattle.thin_jobs.specs.ThinUnits as u
 use Rattle.thin_jobs.specs.ThinTrees.{tree_sum, tree_call, tree_assignment, tree_statement}
@@ -65,7 +66,7 @@ stored_fits {names} c st shows x a at e is short =
     let led = is_led_target c st to 0 in
     let few = sum.waits in
     record {
-      covered = true_or (is_covered_store c st to e 0) (is_covered_answer c st to e 0)
+      covered = true_or (is_covered_store c st to e 0) (is_wide_assignment c st to e 0 || is_covered_answer c st to e 0)
           (all_true (is_stored_name st 0 (c.names x) (c.places x) || led) (is_covered c st e 0) (true_or (is_stored_name st 0 (c.names x) (c.places x)) led target) (sum.covered 0));
       waits = max-le (omega arith) few;
     }

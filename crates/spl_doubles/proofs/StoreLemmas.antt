@@ -1,0 +1,205 @@
+-- A DOUBLE that is stored in a variable: STD puts both of its words.
+use Rattle.std.proofs.Common.{◌≡◌, ◌≢◌, ◌⊎◌, inl, inr, ℕ, ◌+◌, ◌-◌, ◌%◌, ◌<◌, ◌≤◌, Bool, true, false, List, [], ◌∷◌, ◌++◌, length, take, refl, sym, ap, subst, ◌∙◌, arith}
+use Rattle.std.specs.Prelude.{Option, Some, None, nat_eq, Ok, Err, Result, if◌then◌else◌, slice_index, slice_set, unwrap_or}
+use Rattle.std.proofs.lemmas.Bool.{eqb-true, eq-eqb, false≢true}
+use Rattle.std.proofs.lemmas.List.{append-nil, length-set, get_or-set_same, get_or-set_other}
+use Rattle.std.proofs.lemmas.Option.{none-some}
+use Rattle.std.proofs.Math.Logic.{⊎_elim}
+use Rattle.hp_word.specs.declared.arithmetic.Code.{Code}
+use Rattle.hp_word.specs.declared.endings.Trap.{Trap}
+use Rattle.hp_word.specs.declared.endings.Trap.TheVariants.{Bounds}
+use Rattle.hp_instr.specs.declared.instruction.Instr.TheVariants as instr
+use Rattle.hp_instr.specs.declared.instruction.Mode.{Mode}
+use Rattle.hp_session.specs.State.{Machine, Outcome as Row, word, without}
+use Rattle.hp_session.specs.Places.{address, moved, operand, read_at}
+use Rattle.hp_memory_rows.specs.MemoryRows.{memory_row}
+use Rattle.hp_flat.specs.Step.{at_left}
+use Rattle.hp_yields.specs.Rows.{held, with_held}
+use Rattle.hp_yields.proofs.MemoryYields as rows
+use Rattle.spl_tree.specs.declared.expressions.Kind.TheVariants as kind
+use Rattle.spl_frames.specs.Words.{AreWords, IsOfWords}
+use Rattle.spl_meaning.specs.Places.{Place, put}
+use Rattle.spl_meaning.specs.References.{Setting, its_own, address_of, word_at, placed_word, variable_located, store_by, store}
+use Rattle.spl_meaning.specs.States.{Data, State, Outcome, done, ends, trapped, then_go, stopping}
+use Rattle.spl_code.specs.Code.{as_value}
+use Rattle.spl_code.specs.Operands.{mode_of}
+use Rattle.spl_code.specs.Parts.{Part, pieces, piece, nothing, ◌⨟◌}
+use Rattle.spl_code.specs.Stores.{own_stored}
+use Rattle.spl_branch.specs.declared.pieces.Piece.TheVariants.{Do, Begin}
+use Rattle.spl_follow.specs.Spots.{Spot, pos, on, landed, Ground}
+use Rattle.spl_follow.specs.Leading.{Leads}
+use Rattle.spl_follow.specs.Matching.{Outer, outer, Matches, Matched, Kept, Coded, IsValue}
+use Rattle.spl_follow.specs.Following.{Rate, tally, Follows, NoExit}
+use Rattle.spl_follow.specs.Doing.{doing}
+use Rattle.spl_follow.specs.Yielding.{Becomes}
+use Rattle.spl_follow.specs.Parts.{Completes}
+use Rattle.spl_follow.specs.Simulating.{Surroundings, Simulates, Performs}
+use Rattle.spl_follow.proofs.KeepLemmas.{kept_top, value_word}
+use Rattle.spl_follow.proofs.RowLemmas.{stray_here, row_trap, becomes_goes, becomes_matches, yields_matched, yields_kept}
+use Rattle.spl_values.specs.Reached.{is_reached, IsWhole}
+use Rattle.spl_values.proofs.GiveLemmas.{last_leads}
+use Rattle.spl_operands.specs.Operands.{Finds, Seen}
+use Rattle.spl_operands.proofs.SeeLemmas.{see}
+use Rattle.spl_operands.proofs.OperandLemmas.{place_based, moved_address, moved_side}
+use Rattle.spl_operands.proofs.LoadLemmas.{seen_read, past_read}
+use Rattle.spl_operands.proofs.AssignLemmas.{value_stored}
+use Rattle.spl_variables.proofs.OwnLemmas.{place_low, own_finds, not_from_top}
+use Rattle.spl_doubles.specs.Laws.{DoubleVariablesAssigned}
+
+-- ---- a word that is put
+
+-- at its address it is that one, and at each other the one before
+put_cases : (mem : ℕ → Option ℕ) (a v b x : ℕ) → put a v mem b ≡ Some x → ((b ≡ a) × (x ≡ v)) ⊎ ((b ≢ a) × (mem b ≡ Some x))
+put_cases mem a v b x e = by (nat_eq a b) refl e where
+  by : (t : Bool) → nat_eq a b ≡ t → (if t then Some v else mem b) ≡ Some x → ((b ≡ a) × (x ≡ v)) ⊎ ((b ≢ a) × (mem b ≡ Some x))
+  by true t e = inl (sym (eqb-true a b t), sym (ap (λ (o : Option ℕ). unwrap_or o 0) e))
+  by false t e = inr (λ same. false≢true (sym t ∙ eq-eqb a b (sym same)), e)
+
+-- a data word is one still, and what is none is none
+put_there : (mem : ℕ → Option ℕ) (a v b old : ℕ) → mem b ≡ Some old → (x : ℕ) × (put a v mem b ≡ Some x)
+put_there mem a v b old e = by (nat_eq a b) where
+  by : (t : Bool) → (x : ℕ) × ((if t then Some v else mem b) ≡ Some x)
+  by true = (v, refl)
+  by false = (old, e)
+
+put_none : (mem : ℕ → Option ℕ) (a v old b : ℕ) → mem a ≡ Some old → mem b ≡ None → put a v mem b ≡ None
+put_none mem a v old b there none = by (nat_eq a b) refl where
+  by : (t : Bool) → nat_eq a b ≡ t → (if t then Some v else mem b) ≡ None
+  by true t = absurd (none-some old (sym none ∙ ap mem (sym (eqb-true a b t)) ∙ there))
+  by false t = none
+
+-- so what matches does with it
+put_matched : (st : Setting) (d : Data) (xs : List ℕ) (u : Outer) (k a v old : ℕ) → Matches st d xs u k → d.mem a ≡ Some old → v < 65536
+    → Matches st (record d { mem = put a v d.mem }) (slice_set xs a v) u k
+put_matched st d xs u k a v old x there small =
+    let below = x.low a old there in
+    let words = x.words in
+    record {
+      words = length-set xs a v ∙ x.words;
+      lies = x.lies;
+      low = λ b z e. ⊎_elim (λ i. subst (λ (i : ℕ). i < d.top) (sym i.0) below) (λ i. x.low b z i.1) (put_cases d.mem a v b z e);
+      holds = λ b z e. ⊎_elim
+          (λ i. ap (λ (c : ℕ). slice_index (slice_set xs a v) c) i.0 ∙ get_or-set_same xs a v 0 (omega (arith, words, below)) ∙ sym i.1)
+          (λ i. get_or-set_other xs a b v 0 i.0 ∙ x.holds b z i.1) (put_cases d.mem a v b z e);
+      of_words = record {
+        stack = λ b z e. ⊎_elim (λ i. subst (λ (i : ℕ). i < 65536) (sym i.1) small) (λ i. x.of_words.stack b z i.1) (put_cases d.mem a v b z e);
+        extra = x.of_words.extra;
+        lines = x.of_words.lines;
+      };
+      outer = x.outer;
+    }
+
+-- and what is kept is
+put_kept : (b : ℕ) (d : Data) (xs : List ℕ) (e : Data) (ys : List ℕ) (a v old : ℕ) → Kept b d xs e ys → e.mem a ≡ Some old
+    → Kept b d xs (record e { mem = put a v e.mem }) (slice_set ys a v)
+put_kept b d xs e ys a v old k there = record {
+  footing = k.footing;
+  none = λ c h. put_none e.mem a v old c there (k.none c h);
+  word = λ c low h. get_or-set_other ys a c v 0 (λ same. none-some old (sym (k.none c h) ∙ ap e.mem same ∙ there)) ∙ k.word c low h;
+}
+
+-- ---- STD
+
+-- both words are put, and deleted
+words_put : (g : Ground) (w : Rate) (p q : Spot) (st : Setting) (mode : Mode) (i x : Bool) (a k h l v u : ℕ) (d0 : Data) (m0 : Machine) (s : State) (m : Machine)
+    → Leads g (on p) q (doing g.segments (instr.Memory 14 true x i mode) q) → IsValue st p 2 k d0 m0 (h ∷ l ∷ []) s m
+    → Finds kind.Double mode i x false a (at_left m) → Seen false a v s (at_left m) → Seen false ((a + 1) % 65536) u s (at_left m)
+    → Follows g w (pos q - pos p) 0 w.reach (tally s) m (Completes st q k d0 m0) NoExit
+    (done tt (placed_word false ((a + 1) % 65536) l (placed_word false a h s)))
+words_put g w p q st mode i x a k h l v u d0 m0 s m leads y f seen next =
+    let c = (a + 1) % 65536 in
+    let words = y.matches.words in
+    let enough : 2 ≤ length m.stack = omega (arith, words) in
+    let at : address (moved 1 f.place) ≡ c = moved_address 1 f.place ∙ ap (λ (b : ℕ). (b + 1) % 65536) f.at in
+    let ys : List ℕ = slice_set (slice_set m.stack a h) c l in
+    let same : slice_set (slice_set m.stack (address f.place) (word 1 m)) (address (moved 1 f.place)) (word 0 m) ≡ ys =
+    ap (λ (b : ℕ). slice_set (slice_set m.stack b (word 1 m)) (address (moved 1 f.place)) (word 0 m)) f.at
+    ∙ ap (λ (b : ℕ). slice_set (slice_set m.stack a (word 1 m)) b (word 0 m)) at
+    ∙ ap (λ (b : ℕ). slice_set (slice_set m.stack a b) c (word 0 m)) (value_word st p 2 k 1 0 d0 m0 (h ∷ l ∷ []) s m y refl)
+    ∙ ap (λ (b : ℕ). slice_set (slice_set m.stack a h) c b) (value_word st p 2 k 0 1 d0 m0 (h ∷ l ∷ []) s m y refl) in
+    let row : Becomes (take (length ys - 2) ys) (outer m) (memory_row 14 true mode i x (at_left m)) = record {
+      left = without 2 (with_held false ys (at_left m));
+      is = rows.double_puts mode i x false f.place (at_left m) enough f.is f.side (moved_side 1 f.place false (at_left m) f.side)
+          (subst (λ (b : ℕ). b < length m.stack) (sym f.at) seen.there) (subst (λ (b : ℕ). b < length m.stack) (sym at) next.there)
+          ∙ ap (λ (zs : List ℕ). let left : Row = Ok (without 2 (with_held false zs (at_left m))) in left) same;
+      words = refl;
+      same = refl;
+    } in
+    let d1 : Data = record s.now { mem = put a h s.now.mem } in
+    let t : State = placed_word false c l (placed_word false a h s) in
+    let there = put_there s.now.mem a h c u (next.known refl) in
+    let first = put_matched st s.now m.stack (outer m) (k + 2) a h v y.matches (seen.known refl) y.small.0 in
+    let second : Matches st t.now ys (outer m) (k + 2) =
+    put_matched st d1 (slice_set m.stack a h) (outer m) (k + 2) c l there.0 first there.1 y.small.1.0 in
+    let none : k + 0 ≡ k = omega arith in
+    let whole = append-nil (take (length ys - 2) ys) in
+    let dropped : Matches st t.now (take (length ys - 2) ys) (outer m) k =
+    subst (λ (zs : List ℕ). Matches st t.now zs (outer m) k) whole
+    (subst (λ (j : ℕ). Matches st t.now (take (length ys - 2) ys ++ []) (outer m) j) none (yields_matched st t.now (record m { stack = ys }) k 2 [] second)) in
+    let top = kept_top (d0.top + k) d0 m0.stack s.now m.stack y.kept in
+    let count = second.words in
+    let kept = put_kept (d0.top + k) d0 m0.stack d1 (slice_set m.stack a h) c l there.0
+    (put_kept (d0.top + k) d0 m0.stack s.now m.stack a h v y.kept (seen.known refl)) there.1 in (
+      landed q row.left,
+      becomes_goes g w (on p) q (doing g.segments (instr.Memory 14 true x i mode) q) st s.begun s m (k + 2) (memory_row 14 true mode i x (at_left m))
+          (take (length ys - 2) ys) (outer m) row leads refl y.at refl y.matches refl,
+      record {
+        at = refl;
+        matches = becomes_matches st t.now k (memory_row 14 true mode i x (at_left m)) (take (length ys - 2) ys) (outer m) row dropped;
+        kept = subst (λ (zs : List ℕ). Kept (d0.top + k) d0 m0.stack t.now zs) whole
+            (yields_kept (d0.top + k) d0 m0.stack t.now ys [] 2 kept (omega (arith, count, top)));
+        coded = subst (λ (b : Option Code). Coded b m.regs.code) (sym y.silent) tt;
+      },
+    )
+
+-- STD where its operand is at an address of the stack: both words are seen, the run strays, or both trap.
+double_put : (g : Ground) (w : Rate) (p q : Spot) (st : Setting) (mode : Mode) (i x : Bool) (a k h l : ℕ) (d0 : Data) (m0 : Machine) (s : State) (m : Machine)
+    → Leads g (on p) q (doing g.segments (instr.Memory 14 true x i mode) q) → IsValue st p 2 k d0 m0 (h ∷ l ∷ []) s m → s.now.top + (k + 2) ≤ s.now.stack
+    → Finds kind.Double mode i x false a (at_left m)
+    → Follows g w (pos q - pos p) 0 w.reach (tally s) m (Completes st q k d0 m0) NoExit (store_by kind.Double false a (h ∷ l ∷ []) s)
+double_put g w p q st mode i x a k h l d0 m0 s m leads y room f =
+    let c = (a + 1) % 65536 in
+    let words = y.matches.words in
+    let enough : 2 ≤ length m.stack = omega (arith, words) in
+    let at : address (moved 1 f.place) ≡ c = moved_address 1 f.place ∙ ap (λ (b : ℕ). (b + 1) % 65536) f.at in
+    let side = moved_side 1 f.place false (at_left m) f.side in
+    see (λ (o : Outcome (Unit {0})). Follows g w (pos q - pos p) 0 w.reach (tally s) m (Completes st q k d0 m0) NoExit o) false a (k + 2) st s (at_left m)
+    (λ v s1. then_go (word_at false c s1) (λ u s2. done tt (placed_word false c l (placed_word false a h s2)))) y.matches room
+    (λ v seen. see (λ (o : Outcome (Unit {0})). Follows g w (pos q - pos p) 0 w.reach (tally s) m (Completes st q k d0 m0) NoExit o) false c (k + 2) st s (at_left m)
+    (λ u s2. done tt (placed_word false c l (placed_word false a h s2))) y.matches room
+    (λ u next. words_put g w p q st mode i x a k h l v u d0 m0 s m leads y f seen next)
+    (stray_here g w (pos q - pos p) 0 w.reach st (on p) (k + 2) s s.begun m (Completes st q k d0 m0) NoExit leads.start y.at refl y.matches)
+    (λ past. row_trap g w w.reach (on p) q (doing g.segments (instr.Memory 14 true x i mode) q) st s.begun s m (k + 2) (memory_row 14 true mode i x (at_left m))
+    Bounds (Completes st q k d0 m0) NoExit leads refl y.at refl y.matches
+    (rows.low_not_stored mode i x f.place v Bounds (at_left m) enough f.is (seen_read f.place false a v s (at_left m) f.side f.at seen)
+    (past_read (moved 1 f.place) false c (at_left m) side at past))))
+    (stray_here g w (pos q - pos p) 0 w.reach st (on p) (k + 2) s s.begun m (Completes st q k d0 m0) NoExit leads.start y.at refl y.matches)
+    (λ past. row_trap g w w.reach (on p) q (doing g.segments (instr.Memory 14 true x i mode) q) st s.begun s m (k + 2) (memory_row 14 true mode i x (at_left m))
+    Bounds (Completes st q k d0 m0) NoExit leads refl y.at refl y.matches
+    (rows.high_not_stored mode i x f.place Bounds (at_left m) enough f.is (past_read f.place false a (at_left m) f.side f.at past)))
+
+-- ---- variables
+
+-- by the words of the value, of which there are two
+variable_put : (g : Ground) (w : Rate) (p q : Spot) (st : Setting) (place : Place) (k : ℕ) (vs : List ℕ) (d0 : Data) (m0 : Machine) (s : State) (m : Machine)
+    → is_reached st k place ≡ true → Leads g (on p) q (doing g.segments (instr.Memory 14 true false false (mode_of k place)) q)
+    → IsValue st p 2 k d0 m0 vs s m → s.now.top + (k + 2) ≤ s.now.stack
+    → Follows g w (pos q - pos p) 0 w.reach (tally s) m (Completes st q k d0 m0) NoExit (store (variable_located kind.Double (address_of place s.now)) vs s)
+variable_put g w p q st place k (h ∷ l ∷ []) d0 m0 s m reached leads y room =
+    double_put g w p q st (mode_of k place) false false (address_of place s.now) k h l d0 m0 s m leads y room
+    (own_finds kind.Double (mode_of k place) (address_of place s.now) (at_left m) (place_based st s.now k (k + 2) place (at_left m) reached y.matches)
+    (place_low st s.now k (k + 2) place (at_left m) reached y.matches))
+variable_put g w p q st place k [] d0 m0 s m reached leads y room = let wide = y.wide in absurd (omega (arith, wide))
+variable_put g w p q st place k (h ∷ []) d0 m0 s m reached leads y room = let wide = y.wide in absurd (omega (arith, wide))
+variable_put g w p q st place k (h ∷ l ∷ v ∷ vs) d0 m0 s m reached leads y room = let wide = y.wide in absurd (omega (arith, wide))
+
+pub variables_assigned : DoubleVariablesAssigned
+variables_assigned z d k need number at place a value reached enough whole sim =
+    subst (λ (b : Bool). Performs z d k need (piece (Begin at) ⨟ (nothing ⨟ a ⨟ pieces (own_stored kind.Double b (mode_of k place)))) meant) (sym (not_from_top z.setting k place reached))
+    (value_stored z d k need 2 number at a (Do (instr.Memory 14 true false false (mode_of k place)) ∷ []) value
+    (λ vs v. store (variable_located kind.Double (address_of place v.now)) vs v) whole sim
+    (λ p q vs s m d0 m0 stands is room.
+    variable_put z.ground z.rate p q z.setting place k vs d0 m0 s m reached
+    (last_leads z.ground z.sites (on p) (instr.Memory 14 true false false (mode_of k place)) q stands) is (omega (arith, room, enough)))) where
+      meant : State → Outcome (Unit {0})
+      meant s = stopping number at s (λ u. then_go (value u) (λ vs v. store (variable_located kind.Double (address_of place v.now)) vs v))

@@ -1,0 +1,54 @@
+-- The laws of this crate: DOUBLE constants, sums, transfers and stores in variables, each over its parts as variables. The high word of a DOUBLE
+-- is the lower one.
+use Rattle.std.specs.Prelude.{◌≡◌, ℕ, ◌+◌, ◌≤◌, ◌<◌, ◌*◌, ◌/◌, true, false, List}
+use Rattle.spl_tree.specs.declared.expressions.Kind.{Kind}
+use Rattle.spl_tree.specs.declared.expressions.Kind.TheVariants as kind
+use Rattle.spl_tree.specs.declared.names_and_places.At.{At}
+use Rattle.spl_branch.specs.declared.pieces.Piece.TheVariants.{Begin}
+use Rattle.spl_meaning.specs.Kinds.{Operand, of, doubles}
+use Rattle.spl_meaning.specs.Operations.{double_words, by_class, transferred}
+use Rattle.spl_meaning.specs.Places.{Place}
+use Rattle.spl_meaning.specs.References.{its_own, address_of, variable_located, store}
+use Rattle.spl_meaning.specs.States.{State, Outcome, done, then_go, stopping}
+use Rattle.spl_code.specs.Code.{as_value}
+use Rattle.spl_code.specs.Constants.{double_constant}
+use Rattle.spl_code.specs.Operators.{class_operator, transfer}
+use Rattle.spl_code.specs.Parts.{Part, pieces, piece, nothing, ◌⨟◌}
+use Rattle.spl_code.specs.Stores.{stored}
+use Rattle.spl_follow.specs.Simulating.{Surroundings, Simulates, Performs}
+use Rattle.spl_values.specs.Reached.{is_sum, is_reached, IsWhole}
+use Rattle.spl_operators.specs.Laws.{is_word_operand, is_single}
+
+-- a double that is pushed, its high word and then its low one
+abbrev pub DoubleConstantsSimulate : Type 0
+DoubleConstantsSimulate = (z : Surroundings) (d k need c : ℕ) → c < 4294967296 → 2 ≤ need
+    → Simulates z d as_value 2 k need (pieces (double_constant c)) (λ s. done (double_words c) s)
+
+-- + and - of two DOUBLEs: the left operand waits for the right one, and both trap where the sum is out of range.
+abbrev pub DoubleSumsSimulate : Type 0
+DoubleSumsSimulate = (z : Surroundings) (d k need more op : ℕ) (a b : Part) (first other : State → Outcome (List ℕ)) → is_sum op ≡ true → IsWhole a
+    → IsWhole b → Simulates z d as_value 2 k need a first → Simulates z d as_value 2 (k + 2) more b other → more + 2 ≤ need
+    → Simulates z d as_value 2 k need (a ⨟ b ⨟ pieces (class_operator doubles op))
+    (λ s. then_go (first s) (λ vs t. then_go (other t) (λ us u. by_class doubles op vs us u)))
+
+-- a DOUBLE as a value of one word: its low word, of which a BYTE keeps the right eight bits
+abbrev pub LowWordsSimulate : Type 0
+LowWordsSimulate = (z : Surroundings) (d k need : ℕ) (to : Kind) (a : Part) (meaning : State → Outcome (List ℕ)) → is_single to ≡ true → IsWhole a
+    → Simulates z d as_value 2 k need a meaning
+    → Simulates z d as_value 1 k need (a ⨟ pieces (transfer to (of kind.Double))) (λ s. then_go (meaning s) (λ vs t. transferred to (of kind.Double) vs t))
+
+-- A value of one word as a DOUBLE: INTEGERs and constants by their sign, LOGICALs and BYTEs by zero. There is a word more for the sign.
+abbrev pub ExtensionsSimulate : Type 0
+ExtensionsSimulate = (z : Surroundings) (d k need : ℕ) (from : Operand) (a : Part) (meaning : State → Outcome (List ℕ)) → is_word_operand from ≡ true
+    → 2 ≤ need → IsWhole a → Simulates z d as_value 1 k need a meaning
+    → Simulates z d as_value 2 k need (a ⨟ pieces (transfer kind.Double from)) (λ s. then_go (meaning s) (λ vs t. transferred kind.Double from vs t))
+
+-- ---- stores
+
+-- A DOUBLE is stored in a variable at a place that is reached, where both of its words are data words; else the run strays, and past STACK both
+-- trap.
+abbrev pub DoubleVariablesAssigned : Type 0
+DoubleVariablesAssigned = (z : Surroundings) (d k need number : ℕ) (at : At) (place : Place) (a : Part) (value : State → Outcome (List ℕ))
+    → is_reached z.setting k place ≡ true → 2 ≤ need → IsWhole a → Simulates z d as_value 2 k need a value
+    → Performs z d k need (piece (Begin at) ⨟ (nothing ⨟ a ⨟ pieces (stored (its_own kind.Double) false k place)))
+    (λ s. stopping number at s (λ u. then_go (value u) (λ vs v. store (variable_located kind.Double (address_of place v.now)) vs v)))

@@ -1,0 +1,27 @@
+//! The laws of this crate, as the contracts of functions that do nothing.
+ghost use Rattle.spl_doubles.specs.Laws.{DoubleConstantsSimulate, DoubleSumsSimulate, LowWordsSimulate, ExtensionsSimulate, DoubleVariablesAssigned};
+
+/// A DOUBLE constant.
+pub fn constants_simulate()
+    ensures { DoubleConstantsSimulate }
+{}
+
+/// + and - of DOUBLEs.
+pub fn sums_simulate()
+    ensures { DoubleSumsSimulate }
+{}
+
+/// A DOUBLE as a value of one word.
+pub fn low_words_simulate()
+    ensures { LowWordsSimulate }
+{}
+
+/// A value of one word as a DOUBLE.
+pub fn extensions_simulate()
+    ensures { ExtensionsSimulate }
+{}
+
+/// A DOUBLE that is stored in a variable.
+pub fn variables_are_assigned()
+    ensures { DoubleVariablesAssigned }
+{}

@@ -1,0 +1,177 @@
+-- Assignments of DOUBLE expressions to variables, in a tree.
+use Rattle.std.proofs.Common.{◌≡◌, ℕ, ◌+◌, ◌≤◌, Bool, true, false, List, refl, sym, ap, subst, ◌∙◌, arith}
+use Rattle.std.specs.Prelude.{Option, Some, None, ◌&&◌, if◌then◌else◌}
+use Rattle.std.proofs.lemmas.Bool.{false≢true}
+use Rattle.spl_branch.specs.declared.pieces.Piece.{Piece}
+use Rattle.spl_branch.specs.declared.pieces.Piece.TheVariants.{Begin}
+use Rattle.spl_tree.specs.declared.expressions.Kind.{Kind}
+use Rattle.spl_tree.specs.declared.expressions.Kind.TheVariants as kind
+use Rattle.spl_tree.specs.declared.names_and_places.At.{At}
+use Rattle.spl_tree.specs.Trees as tree
+use Rattle.spl_tree.specs.Trees.{Tree}
+use Rattle.spl_tree.specs.StatementTrees as stat
+use Rattle.spl_tree.specs.StatementTrees.{Target}
+use Rattle.spl_meaning.specs.Names as n
+use Rattle.spl_meaning.specs.Names.{Sort}
+use Rattle.spl_meaning.specs.Operations.{kept}
+use Rattle.spl_meaning.specs.Places.{Place, data_word, above_base, below_base, below_return}
+use Rattle.spl_meaning.specs.References.{Here, Setting, Access, its_own, address_of, variable_located, own_located, locate_by, locate_target, store}
+use Rattle.spl_meaning.specs.States.{State, Outcome, then_go, stopping}
+use Rattle.spl_meaning.specs.Statements.{is_intrinsic, is_intrinsic_alone, target_keeps_code, assign, assigned, alone_value, run}
+use Rattle.spl_meaning.specs.Values.{Callee, value}
+use Rattle.spl_code.specs.Calls.{Scope}
+use Rattle.spl_code.specs.Code.{as_value, code}
+use Rattle.spl_code.specs.Operands.{at_place}
+use Rattle.spl_code.specs.Parts.{Part, pieces, piece, nothing, ◌⨟◌}
+use Rattle.spl_code.specs.Stores.{stored}
+use Rattle.spl_statement_code.specs.Landings.{Context}
+use Rattle.spl_statement_code.specs.Statements.{statement}
+use Rattle.spl_follow.specs.Standing.{IsClosed}
+use Rattle.spl_follow.specs.Simulating.{Surroundings, Simulates, Performs}
+use Rattle.spl_follow.proofs.StandLemmas.{closed_last}
+use Rattle.spl_values.specs.Reached.{is_reached, IsWhole}
+use Rattle.spl_values.proofs.VariableLemmas.{both}
+use Rattle.spl_values.proofs.WholeLemmas.{then_same}
+use Rattle.spl_doubles.proofs.StoreLemmas.{variables_assigned}
+use Rattle.spl_covered.specs.Laws.{read_with}
+use Rattle.spl_targets.proofs.SameLemmas.{stopping_same, same_performs}
+use Rattle.spl_wide.specs.Wide.{is_wide_name, is_wide}
+use Rattle.spl_wide.specs.Laws.{WideAssignmentsAreWhole, WideAssignmentsPerform}
+use Rattle.spl_wide.proofs.WideLemmas.{IsWide, wide_case, wide_whole, wide_gives}
+
+-- a name on the left of := that is such is no intrinsic
+no_name : (st : Setting) (k : ℕ) (o : Option Sort) (pl : Option Place) → is_wide_name st k o pl ≡ true → is_intrinsic o ≡ false
+no_name st k (Some (n.intrinsic i)) pl e = absurd (false≢true e)
+no_name st k None pl e = refl
+no_name st k (Some (n.simple t own)) pl e = refl
+no_name st k (Some (n.value t)) pl e = refl
+no_name st k (Some (n.equate v)) pl e = refl
+no_name st k (Some (n.array t own low high)) pl e = refl
+no_name st k (Some (n.view t own base)) pl e = refl
+no_name st k (Some (n.pointer t own)) pl e = refl
+no_name st k (Some (n.by_reference t)) pl e = refl
+no_name st k (Some (n.array_parameter t)) pl e = refl
+no_name st k (Some n.label) pl e = refl
+no_name st k (Some (n.procedure p)) pl e = refl
+no_name st k (Some (n.subroutine p)) pl e = refl
+no_name st k (Some n.unknown) pl e = refl
+
+-- so no such expression is the call of one
+no_intrinsic : (c : Scope) (st : Setting) (e : Tree) (k : ℕ) → is_wide c st e k ≡ true → is_intrinsic_alone c.names e ≡ false
+no_intrinsic c st (tree.Tree.named x tree.Trees.none at) k e = no_name st k (c.names x) (c.places x) e
+no_intrinsic c st (tree.Tree.named x (tree.Trees.and i is) at) k e = absurd (false≢true e)
+no_intrinsic c st (tree.Tree.number v) k e = refl
+no_intrinsic c st (tree.Tree.truth b) k e = refl
+no_intrinsic c st (tree.Tree.binary o a b at) k e = refl
+no_intrinsic c st (tree.Tree.wide v) k e = refl
+no_intrinsic c st (tree.Tree.text bytes) k e = refl
+no_intrinsic c st (tree.Tree.address x es at) k e = refl
+no_intrinsic c st (tree.Tree.unary o a at) k e = refl
+no_intrinsic c st (tree.Tree.shift o a by at) k e = refl
+no_intrinsic c st (tree.Tree.field a start size at) k e = refl
+no_intrinsic c st (tree.Tree.transfer to a at) k e = refl
+no_intrinsic c st (tree.Tree.bytes o a b count at) k e = refl
+
+-- a store closes
+closed : (st : Setting) (k : ℕ) (place : Place) → is_reached st k place ≡ true → IsClosed (stored (its_own kind.Double) false k place)
+closed st k (data_word a) e = refl
+closed st k (above_base a) e = refl
+closed st k (below_base a) e = refl
+closed st k (below_return a) e = absurd (false≢true e)
+
+-- the code of such an assignment
+assign_code : (c : Context) (st : Setting) (x : List ℕ) (there : At) (e : Tree) (at : At) (k : ℕ) (r : IsWide st x k (c.scope.names x) (c.scope.places x))
+    → statement c (stat.Statement.assign (stat.Target.plain (tree.Tree.named x tree.Trees.none there)) e at) k
+    ≡ piece (Begin at) ⨟ (nothing ⨟ code c.scope e as_value k ⨟ pieces (stored (its_own kind.Double) false k r.place))
+assign_code c st x there e at k r =
+    ap (λ (ps : List Piece). piece (Begin at) ⨟ (nothing ⨟ code c.scope e as_value k ⨟ pieces ps))
+    (ap (λ (a : Access). at_place (c.scope.places x) (λ place. stored a false k place)) r.made
+    ∙ ap (λ (o : Option Place). at_place o (λ place. stored (its_own kind.Double) false k place)) r.is)
+
+-- it is whole
+name_whole : (c : Context) (st : Setting) (x : List ℕ) (there : At) (e : Tree) (at : At) (k : ℕ) → IsWide st x k (c.scope.names x) (c.scope.places x)
+    → IsWhole (code c.scope e as_value k)
+    → IsWhole (statement c (stat.Statement.assign (stat.Target.plain (tree.Tree.named x tree.Trees.none there)) e at) k)
+name_whole c st x there e at k r whole =
+    subst (λ (a : Part). IsWhole a) (sym (assign_code c st x there e at k r)) (record {
+      closed = λ l ws. closed_last (code c.scope e as_value k (l + 0 + 0) ws).pieces (stored (its_own kind.Double) false k r.place) (closed st k r.place r.reached);
+      keeps = λ l ws. whole.keeps (l + 0 + 0) ws;
+    })
+
+-- its meaning
+assign_is : (c : Scope) (results : List ℕ → Option (Kind × Place)) (st : Setting) (call : Callee) (x : List ℕ) (there : At) (e : Tree) (k : ℕ)
+    (r : IsWide st x k (c.names x) (c.places x)) → is_intrinsic_alone c.names e ≡ false → (u : State)
+    → assign (read_with c results st) call (stat.Target.plain (tree.Tree.named x tree.Trees.none there)) e k u
+    ≡ then_go (value (read_with c results st) call e k u) (λ vs v. store (variable_located kind.Double (address_of r.place v.now)) vs v)
+assign_is c results st call x there e k r alone u =
+    ap (λ (b : Bool). if b && target_keeps_code h.names to then assigned h call to (λ j s1. alone_value h call e j s1) k u else assigned h call to (λ j s1. value h call e j s1) k u) alone
+    ∙ then_same (value h call e k u) (λ vs v. then_go (locate_target h x None v) (λ p t. store p (kept p.kind vs) t))
+    (λ vs v. store (variable_located kind.Double (address_of r.place v.now)) vs v)
+    (λ vs v. ap (λ (a : Access). then_go (locate_by h x a None v) (λ p t. store p (kept p.kind vs) t)) r.target
+    ∙ ap (λ (o : Option Place). then_go (own_located kind.Double o None v) (λ p t. store p (kept p.kind vs) t)) r.is) where
+      h : Here
+      h = read_with c results st
+
+      to : Target
+      to = stat.Target.plain (tree.Tree.named x tree.Trees.none there)
+
+-- and it is performed
+name_performs : (c : Context) (results : List ℕ → Option (Kind × Place)) (z : Surroundings) (call : Callee) (d number : ℕ) (x : List ℕ) (there : At) (e : Tree)
+    (at : At) (k need : ℕ) → IsWide z.setting x k (c.scope.names x) (c.scope.places x) → 2 ≤ need → is_intrinsic_alone c.scope.names e ≡ false
+    → IsWhole (code c.scope e as_value k)
+    → Simulates z d as_value 2 k need (code c.scope e as_value k) (λ s. value (read_with c.scope results z.setting) call e k s)
+    → Performs z d k need (statement c (stat.Statement.assign (stat.Target.plain (tree.Tree.named x tree.Trees.none there)) e at) k)
+    (λ s. run (read_with c.scope results z.setting) call d number (stat.Statement.assign (stat.Target.plain (tree.Tree.named x tree.Trees.none there)) e at) k s)
+name_performs c results z call d number x there e at k need r enough alone whole sim =
+    let h = read_with c.scope results z.setting in
+    let to = stat.Target.plain (tree.Tree.named x tree.Trees.none there) in
+    same_performs z d k need (statement c (stat.Statement.assign to e at) k)
+    (piece (Begin at) ⨟ (nothing ⨟ code c.scope e as_value k ⨟ pieces (stored (its_own kind.Double) false k r.place)))
+    (λ s. run h call d number (stat.Statement.assign to e at) k s)
+    (λ s. stopping number at s (λ u. then_go (value h call e k u) (λ vs v. store (variable_located kind.Double (address_of r.place v.now)) vs v)))
+    (assign_code c z.setting x there e at k r)
+    (λ s. stopping_same number at s (λ u. assign h call to e k u)
+    (λ u. then_go (value h call e k u) (λ vs v. store (variable_located kind.Double (address_of r.place v.now)) vs v))
+    (assign_is c.scope results z.setting call x there e k r alone))
+    (variables_assigned z d k need number at r.place (code c.scope e as_value k) (λ u. value h call e k u) r.reached enough whole sim)
+
+-- ---- targets
+
+pub assigned_whole : WideAssignmentsAreWhole
+assigned_whole c st (stat.Target.plain (tree.Tree.named x tree.Trees.none there)) e at k covered =
+    let two = both (is_wide_name st k (c.scope.names x) (c.scope.places x)) (is_wide c.scope st e k) covered in
+    name_whole c st x there e at k (wide_case st x k (c.scope.names x) (c.scope.places x) two.0) (wide_whole c.scope st e k two.1)
+assigned_whole c st (stat.Target.plain (tree.Tree.named x (tree.Trees.and i is) there)) e at k covered = absurd (false≢true covered)
+assigned_whole c st (stat.Target.plain (tree.Tree.number w)) e at k covered = absurd (false≢true covered)
+assigned_whole c st (stat.Target.plain (tree.Tree.wide w)) e at k covered = absurd (false≢true covered)
+assigned_whole c st (stat.Target.plain (tree.Tree.text bytes)) e at k covered = absurd (false≢true covered)
+assigned_whole c st (stat.Target.plain (tree.Tree.truth b)) e at k covered = absurd (false≢true covered)
+assigned_whole c st (stat.Target.plain (tree.Tree.address x es there)) e at k covered = absurd (false≢true covered)
+assigned_whole c st (stat.Target.plain (tree.Tree.unary o a there)) e at k covered = absurd (false≢true covered)
+assigned_whole c st (stat.Target.plain (tree.Tree.binary o a b there)) e at k covered = absurd (false≢true covered)
+assigned_whole c st (stat.Target.plain (tree.Tree.shift o a by there)) e at k covered = absurd (false≢true covered)
+assigned_whole c st (stat.Target.plain (tree.Tree.field a start size there)) e at k covered = absurd (false≢true covered)
+assigned_whole c st (stat.Target.plain (tree.Tree.transfer t a there)) e at k covered = absurd (false≢true covered)
+assigned_whole c st (stat.Target.plain (tree.Tree.bytes o a b count there)) e at k covered = absurd (false≢true covered)
+assigned_whole c st (stat.Target.field r start size) e at k covered = absurd (false≢true covered)
+assigned_whole c st (stat.Target.address x there) e at k covered = absurd (false≢true covered)
+
+pub assigned_performs : WideAssignmentsPerform
+assigned_performs c results z call d number (stat.Target.plain (tree.Tree.named x tree.Trees.none there)) e at k need covered enough =
+    let two = both (is_wide_name z.setting k (c.scope.names x) (c.scope.places x)) (is_wide c.scope z.setting e k) covered in
+    name_performs c results z call d number x there e at k need (wide_case z.setting x k (c.scope.names x) (c.scope.places x) two.0) (omega (arith, enough))
+    (no_intrinsic c.scope z.setting e k two.1) (wide_whole c.scope z.setting e k two.1) (wide_gives c.scope results z call d e k need two.1 (omega (arith, enough)))
+assigned_performs c results z call d number (stat.Target.plain (tree.Tree.named x (tree.Trees.and i is) there)) e at k need covered enough = absurd (false≢true covered)
+assigned_performs c results z call d number (stat.Target.plain (tree.Tree.number w)) e at k need covered enough = absurd (false≢true covered)
+assigned_performs c results z call d number (stat.Target.plain (tree.Tree.wide w)) e at k need covered enough = absurd (false≢true covered)
+assigned_performs c results z call d number (stat.Target.plain (tree.Tree.text bytes)) e at k need covered enough = absurd (false≢true covered)
+assigned_performs c results z call d number (stat.Target.plain (tree.Tree.truth b)) e at k need covered enough = absurd (false≢true covered)
+assigned_performs c results z call d number (stat.Target.plain (tree.Tree.address x es there)) e at k need covered enough = absurd (false≢true covered)
+assigned_performs c results z call d number (stat.Target.plain (tree.Tree.unary o a there)) e at k need covered enough = absurd (false≢true covered)
+assigned_performs c results z call d number (stat.Target.plain (tree.Tree.binary o a b there)) e at k need covered enough = absurd (false≢true covered)
+assigned_performs c results z call d number (stat.Target.plain (tree.Tree.shift o a by there)) e at k need covered enough = absurd (false≢true covered)
+assigned_performs c results z call d number (stat.Target.plain (tree.Tree.field a start size there)) e at k need covered enough = absurd (false≢true covered)
+assigned_performs c results z call d number (stat.Target.plain (tree.Tree.transfer t a there)) e at k need covered enough = absurd (false≢true covered)
+assigned_performs c results z call d number (stat.Target.plain (tree.Tree.bytes o a b count there)) e at k need covered enough = absurd (false≢true covered)
+assigned_performs c results z call d number (stat.Target.field r start size) e at k need covered enough = absurd (false≢true covered)
+assigned_performs c results z call d number (stat.Target.address x there) e at k need covered enough = absurd (false≢true covered)
