@@ -52,7 +52,7 @@ made_so texts (x ∷ []) p k m = by (thin_of x) refl m where
   by (Some unit) e m = thin unit (record { thin = record { source = source_of x; program = k; thin = thin_so x (Some unit) e }; fits = m.1 }) m.0
 made_so texts (x ∷ y ∷ us) p k m = absurd m
 
-one_source : (x y : Source) → x ∷ [] ≡ y ∷ [] → x ≡ y
+pub one_source : (x y : Source) → x ∷ [] ≡ y ∷ [] → x ≡ y
 one_source x y e = cc
 
 -- where none is, the units are no thin one within its bounds

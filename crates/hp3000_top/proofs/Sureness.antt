@@ -18,6 +18,7 @@ use Rattle.spl_program.specs.declared.faults.ProgramFault.{ProgramFault}
 use Rattle.spl_program.specs.Programs.{IsFault}
 use Rattle.hp3000_top.specs.Programs.{IsThin, IsWithin, IsBeyond, IsMade, IsRefused, faulty, unlinked, fault_line, link_line, AreMade, FirstRefused, AreWithin, IsSure, AreSure, FirstFaulty}
 use Rattle.hp3000_top.specs.Programs as p
+use Rattle.hp3000_top.proofs.Making.{one_source}
 use Rattle.hp3000_top.specs.Steps.{IsCopy, AreCopies}
 use Rattle.hp3000_top.specs.Steps as s
 
@@ -27,9 +28,6 @@ some_is {A} {x} {y} e = ap (from x) e
     from : A → Option A → A
     from z None = z
     from z (Some w) = w
-
-pub one_source : (x y : Source) → x ∷ [] ≡ y ∷ [] → x ≡ y
-one_source x y e = cc
 
 pub thin_same : (texts : List (List ℕ)) (a b : u.Unit) → IsThin texts a → IsThin texts b → a ≡ b
 thin_same texts a b v w =
