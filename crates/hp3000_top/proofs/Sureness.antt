@@ -18,6 +18,7 @@ use Rattle.spl_program.specs.declared.faults.ProgramFault.{ProgramFault}
 use Rattle.spl_program.specs.Programs.{IsFault}
 use Rattle.hp3000_top.specs.Programs.{IsThin, IsWithin, IsBeyond, IsMade, IsRefused, faulty, unlinked, fault_line, link_line, AreMade, FirstRefused, AreWithin, IsSure, AreSure, FirstFaulty}
 use Rattle.hp3000_top.specs.Programs as p
+use Rattle.hp3000_top.proofs.Making.{one_source}
 use Rattle.hp3000_top.specs.Steps.{IsCopy, AreCopies}
 use Rattle.hp3000_top.specs.Steps as s
 use Rattle.hp3000_top.proofs.Making.{one_source}

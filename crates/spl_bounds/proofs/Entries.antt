@@ -33,7 +33,8 @@ use Rattle.mpe_segmenter.proofs.NameLemmas.{same_self}
 use Rattle.spl_bounds.specs.Bounds.{PartsHaveFewEntries}
 use Rattle.spl_bounds.proofs.Tables.{as_bound, few_wants}
 use Rattle.spl_bounds.proofs.Covers.{covered, named_passes, all_covered}
-use Rattle.spl_bounds.proofs.Modules.{segment_named, all_in_units, astray, owned_in_units, UsesAmong, here_met}
+use Rattle.spl_module_words.proofs.Segments.{segment_named}
+use Rattle.spl_bounds.proofs.Modules.{among_left, among_right, all_in_units, astray, owned_in_units, UsesAmong, here_met}
 
 -- ---- 1. what passes by a segment's name passes by its number
 
@@ -162,26 +163,10 @@ each_has f g (x ∷ xs) h all = let both = and_parts (f x) (list_all f xs) all i
 
 -- ---- 4. a segment
 
-uses_left : (x : List ℕ) (xs ys : List (List ℕ)) → is_among x xs ≡ true → is_among x (xs ++ ys) ≡ true
-uses_left x [] ys h = cc
-uses_left x (y ∷ xs) ys h = by (same_name x y) h (λ e. uses_left x xs ys e)
-  where
-    by : (b : Bool) → (b || is_among x xs) ≡ true → (is_among x xs ≡ true → is_among x (xs ++ ys) ≡ true) → (b || is_among x (xs ++ ys)) ≡ true
-    by true h rest = refl
-    by false h rest = rest h
-
-uses_right : (x : List ℕ) (xs ys : List (List ℕ)) → is_among x ys ≡ true → is_among x (xs ++ ys) ≡ true
-uses_right x [] ys h = h
-uses_right x (y ∷ xs) ys h = by (same_name x y) (uses_right x xs ys h)
-  where
-    by : (b : Bool) → is_among x (xs ++ ys) ≡ true → (b || is_among x (xs ++ ys)) ≡ true
-    by true h = refl
-    by false h = h
-
 all_used : (names : List (List ℕ)) (us : List Source) → ((x : List ℕ) → is_among x (joined uses_of us) ≡ true → is_among x names ≡ true) → Each (UsesAmong names) us
 all_used names [] h = tt
 all_used names (s ∷ us) h =
-    ((λ x e. h x (uses_left x (uses_of s) (joined uses_of us) e)), all_used names us (λ x e. h x (uses_right x (uses_of s) (joined uses_of us) e)))
+    ((λ x e. h x (among_left x (uses_of s) (joined uses_of us) e)), all_used names us (λ x e. h x (among_right x (uses_of s) (joined uses_of us) e)))
 
 few_together : (own lost ws n m wanted : ℕ) → own + lost ≤ n → m ≡ lost + ws → wanted ≤ m → own + wanted ≤ n + ws
 few_together own lost ws n m wanted h1 h2 h3 = omega (arith, h1, h2, h3)

@@ -3,8 +3,7 @@
 -- 2. what all modules of a segment have                    (all_in_units)
 -- 3. how many entries they have of their own               (owned_in_units)
 -- 4. where a procedure's module is                         (here_met)
-use Rattle.std.proofs.Common.{◌≡◌, ◌<◌, ◌≤◌, ◌⊎◌, inl, inr, ℕ, suc, ◌+◌, ◌&&◌, ◌||◌, nat_eq, not, Bool, true, false, if◌then◌else◌, List, [], ◌∷◌, ◌++◌, length, get_or, Option, Some, None, refl, sym, ap, subst, ◌∙◌, arith}
-use Rattle.std.specs.Prelude.{unwrap_or}
+use Rattle.std.proofs.Common.{◌≡◌, ◌<◌, ◌≤◌, ◌⊎◌, inl, inr, ℕ, ◌+◌, ◌&&◌, ◌||◌, nat_eq, not, Bool, true, false, if◌then◌else◌, List, [], ◌∷◌, ◌++◌, length, Option, Some, None, refl, sym, ap, subst, ◌∙◌, arith}
 use Rattle.std.specs.List.{list_all, slice_get}
 use Rattle.std.specs.Cmp.Lexicographic.{pointwise}
 use Rattle.std.proofs.lemmas.Bool.{and_parts, and_from, eq-eqb, eqb-true, lt-ltb}
@@ -25,6 +24,7 @@ use Rattle.spl_scopes.specs.Scopes.{Placed, placed_units}
 use Rattle.spl_module_code.specs.Modules.{holds_main, in_list, named_segment, uses_among, uses_of, numbered, is_taken, uses, next_number, marks_before, IsModuleOf, AreOfUnit, AreOf}
 use Rattle.spl_module_code.specs.Modules.{AreOfUnit as u}
 use Rattle.spl_module_code.specs.Modules.{AreOf as a}
+use Rattle.spl_module_words.proofs.Segments.{some_inside, segment_named, segment_there, next_found, room_for, room_less, room_none, room_all, room_most}
 use Rattle.spl_places.specs.Programs.{Each}
 use Rattle.spl_sound_labels.specs.Labels.{NoSubroutines}
 use Rattle.mpe_segmenter.specs.Names.{is_among, segment_of, modules_of}
@@ -35,54 +35,6 @@ use Rattle.mpe_segmenter.proofs.NameLemmas.{same_self}
 use Rattle.spl_bounds.proofs.Own.{numbered_names, own_at, callable_names, astray_among, entry_names, module_names, module_own, own_more, own_none}
 
 -- ---- 1. numbers of names
-
-some_inside : (d x y : ℕ) → Some x ≡ Some y → x ≡ y
-some_inside d x y is = ap (λ o. unwrap_or o d) is
-
--- the number that a name is found by is that of a segment with the name
-record NumberedAt (from : ℕ) (names : List (List ℕ)) (x : List ℕ) (g : ℕ) : Type 0 where
-  place : ℕ
-  is : g ≡ from + place
-  named : get_or names place [] ≡ x
-  there : slice_get names place ≡ Some x
-
-shift : (a b : ℕ) → suc a + b ≡ a + suc b
-shift a b = omega arith
-
-at_once : (a : ℕ) → a ≡ a + 0
-at_once a = omega arith
-
-numbered_at : (from : ℕ) (names : List (List ℕ)) (x : List ℕ) (g : ℕ) → find (numbered from names) x ≡ Some g → NumberedAt from names x g
-numbered_at from [] x g is = cc
-numbered_at from (name ∷ names) x g is = by (same_name x name) refl (λ e. numbered_at (suc from) names x g e)
-  where
-    by : (b : Bool) → same_name x name ≡ b → (find (numbered (suc from) names) x ≡ Some g → NumberedAt (suc from) names x g) → NumberedAt from (name ∷ names) x g
-    by true inside recur = record {
-      place = 0;
-      is = sym (some_inside from from g (sym (ap (λ (b : Bool). if b then Some from else find (numbered (suc from) names) x) inside) ∙ is)) ∙ at_once from;
-      named = sym (equal_is x name inside);
-      there = ap Some (sym (equal_is x name inside));
-    }
-    by false out recur =
-        let rest = recur (sym (ap (λ (b : Bool). if b then Some from else find (numbered (suc from) names) x) out) ∙ is) in
-        record { place = suc rest.place; is = rest.is ∙ shift from rest.place; named = rest.named; there = rest.there }
-
-zero_first : (i : ℕ) → 0 + i ≡ i
-zero_first i = omega arith
-
-pub segment_named : (s : Source) (x : List ℕ) (g : ℕ) → find (numbered 0 s.segments) x ≡ Some g → segment_name s g ≡ x
-segment_named s x g is = let n = numbered_at 0 s.segments x g is in ap (λ i. get_or s.segments i []) (n.is ∙ zero_first n.place) ∙ n.named
-
-pub segment_there : (s : Source) (x : List ℕ) (g : ℕ) → find (numbered 0 s.segments) x ≡ Some g → slice_get s.segments g ≡ Some x
-segment_there s x g is = let n = numbered_at 0 s.segments x g is in ap (λ i. slice_get s.segments i) (n.is ∙ zero_first n.place) ∙ n.there
-
-pub next_found : (p : Placed) (taken : List ℕ) (o : Option ℕ) (g : ℕ) → next_number p taken o ≡ Some g → o ≡ Some g
-next_found p taken None g is = cc
-next_found p taken (Some h) g is = by (uses p h && not (is_taken h taken)) is
-  where
-    by : (b : Bool) → (if b then Some h else None) ≡ Some g → Some h ≡ Some g
-    by true at = at
-    by false at = cc
 
 pub next_free : (p : Placed) (taken : List ℕ) (o : Option ℕ) (g : ℕ) → next_number p taken o ≡ Some g → is_taken g taken ≡ false
 next_free p taken None g is = cc
@@ -142,34 +94,6 @@ all_in_units f q x names at (s ∷ us) _ h all (a.more {ms = ms} {ns = ns} one o
 
 -- ---- 3. their own entries
 
--- a number of a name that had no module
-room_for : List ℕ → Option ℕ → ℕ → ℕ
-room_for taken None n = 0
-room_for taken (Some g) n = if is_taken g taken then 0 else n
-
-room_less : (g : ℕ) (taken : List ℕ) (o : Option ℕ) (n : ℕ) → room_for (g ∷ taken) o n ≤ room_for taken o n
-unfolding room_for
-room_less g taken None n = omega arith
-room_less g taken (Some h) n = by (nat_eq h g) (is_taken h taken)
-  where
-    by : (b t : Bool) → (if b || t then 0 else n) ≤ (if t then 0 else n)
-    by true true = omega arith
-    by true false = omega arith
-    by false true = omega arith
-    by false false = omega arith
-
-room_none : (g : ℕ) (taken : List ℕ) (o : Option ℕ) (n : ℕ) → o ≡ Some g → room_for (g ∷ taken) o n ≡ 0
-unfolding room_for
-room_none g taken None n is = cc
-room_none g taken (Some h) n is =
-    ap (λ (k : ℕ). if is_taken k (g ∷ taken) then 0 else n) (some_inside h h g is) ∙ ap (λ (b : Bool). if b || is_taken g taken then 0 else n) (eq-eqb g g refl)
-
-room_all : (g : ℕ) (taken : List ℕ) (o : Option ℕ) (n : ℕ) → o ≡ Some g → is_taken g taken ≡ false → room_for taken o n ≡ n
-unfolding room_for
-room_all g taken None n is free = cc
-room_all g taken (Some h) n is free =
-    ap (λ (k : ℕ). if is_taken k taken then 0 else n) (some_inside h h g is) ∙ ap (λ (b : Bool). if b then 0 else n) free
-
 owned_in_unit : (p : Placed) (x : List ℕ) (n : ℕ) (taken : List ℕ) (names : List (List ℕ)) (ms : List Module)
     → ((g : ℕ) (m : Module) → find (numbered 0 p.unit.segments) x ≡ Some g → IsModuleOf p x g m → own_count m ≤ n)
     → AreOfUnit p taken names ms → owned (modules_of x ms) ≤ room_for taken (find (numbered 0 p.unit.segments) x) n
@@ -207,20 +131,17 @@ astray x (u ∷ us) = astray_among u x (find (numbered 0 u.segments) x) (routine
 
 one_unit : (p : Placed) (x : List ℕ) (o : Option ℕ) (names : List (List ℕ)) (ms : List Module) → NoSubroutines p.unit → find (numbered 0 p.unit.segments) x ≡ o
     → AreOfUnit p [] names ms → owned (modules_of x ms) + length (astray_among p.unit x o (routines_of p.unit)) ≤ own_entries x p.unit
-unfolding room_for
 one_unit p x None names ms none is are =
     let own = owned_in_unit p x 0 [] names ms (λ g m found of. clash g (sym is ∙ found)) are in
+    let least = room_most [] (find (numbered 0 p.unit.segments) x) 0 in
     let lost = own_none p.unit x in
     by (owned (modules_of x ms)) (room_for [] (find (numbered 0 p.unit.segments) x) 0) (length (astray_among p.unit x None (routines_of p.unit))) (own_entries x p.unit)
-    own (ap (λ (o : Option ℕ). room_for [] o 0) is ∙ nowhere) lost
+    own least lost
   where
     clash : (g : ℕ) {A : Type 0} → None ≡ Some g → A
     clash g e = cc
 
-    nowhere : room_for [] None 0 ≡ 0
-    nowhere = refl
-
-    by : (a r l e : ℕ) → a ≤ r → r ≡ 0 → l ≤ e → a + l ≤ e
+    by : (a r l e : ℕ) → a ≤ r → r ≤ 0 → l ≤ e → a + l ≤ e
     by a r l e h1 h2 h3 = omega (arith, h1, h2, h3)
 one_unit p x (Some g) names ms none is are =
     let own = owned_in_unit p x (own_at p.unit g) [] names ms (λ h m found of. at_number h m found of) are in

@@ -32,7 +32,8 @@ use Rattle.mpe_segmenter.proofs.PartLemmas.{equal_is}
 use Rattle.mpe_segmenter.proofs.NameLemmas.{same_self}
 use Rattle.spl_bounds.specs.Segments.{StandsIn, NumbersSegments, ModulesMakeSegments}
 use Rattle.spl_bounds.proofs.Own.{own_numbered, entry_count}
-use Rattle.spl_bounds.proofs.Modules.{segment_named, segment_there, next_found, module_segment, among_left, among_right}
+use Rattle.spl_module_words.proofs.Segments.{segment_named, segment_there, next_found}
+use Rattle.spl_bounds.proofs.Modules.{module_segment, among_left, among_right}
 
 -- ---- names one behind the other
 

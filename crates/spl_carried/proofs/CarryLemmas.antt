@@ -1,8 +1,8 @@
 -- A program whose main body is covered follows the run of its units.
-use Rattle.std.proofs.Common.{◌≡◌, ℕ, zero, suc, ◌+◌, ◌<◌, ◌≤◌, Bool, true, false, List, [], ◌∷◌, ◌++◌, length, Option, Some, None, refl, sym, ap, subst, ◌∙◌, arith, ◌-◌, ◌*◌, inl}
-use Rattle.std.specs.Prelude.{◌==◌, ◌||◌, not, nat_eq, nat_lt, slice_get, unwrap_or, option_map, codes, if◌then◌else◌, ◌&&◌, nat_le}
+use Rattle.std.proofs.Common.{◌≡◌, ℕ, zero, suc, ◌+◌, ◌-◌, ◌*◌, ◌≤◌, Bool, true, false, List, [], ◌∷◌, ◌++◌, length, Option, Some, None, refl, sym, ap, subst, ◌∙◌, arith, inl, ◌<◌}
+use Rattle.std.specs.Prelude.{◌==◌, ◌&&◌, ◌||◌, not, nat_eq, nat_le, slice_get, option_map, codes, if◌then◌else◌}
 use Rattle.std.specs.List.{list_all}
-use Rattle.std.proofs.lemmas.Bool.{and_parts, eqb-true, ltb-true, false≢true, leb-true}
+use Rattle.std.proofs.lemmas.Bool.{and_parts, eqb-true, leb-true, not-true, false≢true}
 use Rattle.hp_word.specs.declared.endings.Ending.TheVariants.{Running, Terminated}
 use Rattle.hp_word.specs.declared.intrinsics.Intrinsic.TheVariants as gate
 use Rattle.hp_instr.specs.declared.instruction.Instr.TheVariants as i
@@ -77,7 +77,7 @@ use Rattle.spl_bounds.specs.Programs.{IsOf, ProgramsKeepBounds, DataWordsAreInit
 use Rattle.spl_followed.specs.Laws.{FollowedProgramsCarry}
 use Rattle.spl_carried.specs.Laws.{CoveredProgramsCarry}
 use Rattle.spl_carried.proofs.WholeLemmas.{whole_parts}
-use Rattle.spl_carried.proofs.MainLemmas.{IsIn, at_front, behind, in_all, MainThere, main_there, main_is}
+use Rattle.spl_carried.proofs.MainLemmas.{IsIn, at_front, behind, in_all, MainThere, main_there, main_is, same_entry}
 use Rattle.spl_carried.proofs.GateLemmas.{module_gates_lead}
 use Rattle.spl_carried.proofs.PieceLemmas.{landing_place, way_out, main_context, MainPieces, main_pieces, MainStands, main_stands}
 use Rattle.spl_covered.specs.Laws.{read_with}
@@ -120,13 +120,6 @@ record OfMain (unit : Placed) (number : ℕ) (offset : ℕ) (marks : ℕ → ℕ
   segment : unit.unit.tree.segment ≡ number
   starts : offset ≡ marks (length (module_entries unit.unit unit.unit.tree.segment))
 
-not_true : (b : Bool) → not b ≡ true → b ≡ false
-not_true false e = refl
-not_true true e = absurd (false≢true e)
-
-some_same : (a b : ℕ) → Some a ≡ Some b → a ≡ b
-some_same a b e = ap (λ (o : Option ℕ). unwrap_or o 0) e
-
 of_main : (unit : Placed) (number offset : ℕ) (marks : ℕ → ℕ) → option_map marks (main_mark unit number) ≡ Some offset → OfMain unit number offset marks
 of_main unit number offset marks e = by (holds_main unit number) refl e where
   by : (b : Bool) → holds_main unit number ≡ b
@@ -136,10 +129,10 @@ of_main unit number offset marks e = by (holds_main unit number) refl e where
       let two = and_parts (not unit.unit.subprogram) (nat_eq unit.unit.tree.segment number) h in
       let same = eqb-true unit.unit.tree.segment number two.1 in
       record {
-        whole = not_true unit.unit.subprogram two.0;
+        whole = not-true unit.unit.subprogram two.0;
         holds = subst (λ (k : ℕ). holds_main unit k ≡ true) (sym same) h;
         segment = same;
-        starts = sym (some_same (marks (length (module_entries unit.unit number))) offset e)
+        starts = sym (same_entry (marks (length (module_entries unit.unit number))) offset e)
             ∙ ap (λ (k : ℕ). marks (length (module_entries unit.unit k))) (sym same);
       }
 

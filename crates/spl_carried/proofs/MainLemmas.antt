@@ -73,7 +73,7 @@ some_there : (o : Option ℕ) → is_some o ≡ true → (k : ℕ) × (o ≡ Som
 some_there (Some k) e = (k, refl)
 some_there None e = absurd (false≢true e)
 
-same_entry : (a b : ℕ) → Some a ≡ Some b → a ≡ b
+pub same_entry : (a b : ℕ) → Some a ≡ Some b → a ≡ b
 same_entry a b e = ap (λ (o : Option ℕ). unwrap_or o 0) e
 
 module_with_main : (first : ℕ) (ms : List Module) (entry : ℕ) → main_at first ms ≡ Some entry → HasMain first ms entry

@@ -1,6 +1,7 @@
 -- The words of all modules in a segment: of each unit one module at most, by the number that its name has there.
 use Rattle.std.proofs.Common.{◌≡◌, ◌≤◌, ℕ, suc, ◌+◌, ◌&&◌, ◌||◌, nat_eq, not, Bool, true, false, if◌then◌else◌, List, [], ◌∷◌, ◌++◌, get_or, Option, Some, None, refl, sym, ap, ◌∙◌, arith}
 use Rattle.std.specs.Prelude.{unwrap_or}
+use Rattle.std.specs.List.{slice_get}
 use Rattle.std.proofs.lemmas.Bool.{and_parts, and_from, eqb-true, eq-eqb}
 use Rattle.spl_tree.specs.Views.{letters}
 use Rattle.spl_meaning.specs.Names.{find, same_name}
@@ -32,13 +33,14 @@ same_self : (x : List ℕ) → same_name x x ≡ true
 same_self [] = refl
 same_self (a ∷ x) = and_from (nat_eq a a) (same_name x x) (eq-eqb a a refl) (same_self x)
 
--- the segment of a number that is found has that name
+-- the number that a name is found by is that of a segment with the name
 record NumberedAt (from : ℕ) (names : List (List ℕ)) (x : List ℕ) (g : ℕ) : Type 0 where
   place : ℕ
   is : g ≡ from + place
-  there : get_or names place [] ≡ x
+  named : get_or names place [] ≡ x
+  there : slice_get names place ≡ Some x
 
-some_inside : (d x y : ℕ) → Some x ≡ Some y → x ≡ y
+pub some_inside : (d x y : ℕ) → Some x ≡ Some y → x ≡ y
 some_inside d x y is = ap (λ o. unwrap_or o d) is
 
 shift : (a b : ℕ) → suc a + b ≡ a + suc b
@@ -55,17 +57,21 @@ numbered_at from (name ∷ names) x g is = by (same_name x name) refl (λ e. num
     by true inside recur = record {
       place = 0;
       is = sym (some_inside from from g (sym (ap (λ (b : Bool). if b then Some from else find (numbered (suc from) names) x) inside) ∙ is)) ∙ at_once from;
-      there = sym (same_letters x name inside);
+      named = sym (same_letters x name inside);
+      there = ap Some (sym (same_letters x name inside));
     }
     by false out recur =
         let rest = recur (sym (ap (λ (b : Bool). if b then Some from else find (numbered (suc from) names) x) out) ∙ is) in
-        record { place = suc rest.place; is = rest.is ∙ shift from rest.place; there = rest.there }
+        record { place = suc rest.place; is = rest.is ∙ shift from rest.place; named = rest.named; there = rest.there }
 
 zero_first : (i : ℕ) → 0 + i ≡ i
 zero_first i = omega arith
 
-segment_named : (s : Source) (x : List ℕ) (g : ℕ) → find (numbered 0 s.segments) x ≡ Some g → segment_name s g ≡ x
-segment_named s x g is = let n = numbered_at 0 s.segments x g is in ap (λ i. get_or s.segments i []) (n.is ∙ zero_first n.place) ∙ n.there
+pub segment_named : (s : Source) (x : List ℕ) (g : ℕ) → find (numbered 0 s.segments) x ≡ Some g → segment_name s g ≡ x
+segment_named s x g is = let n = numbered_at 0 s.segments x g is in ap (λ i. get_or s.segments i []) (n.is ∙ zero_first n.place) ∙ n.named
+
+pub segment_there : (s : Source) (x : List ℕ) (g : ℕ) → find (numbered 0 s.segments) x ≡ Some g → slice_get s.segments g ≡ Some x
+segment_there s x g is = let n = numbered_at 0 s.segments x g is in ap (λ i. slice_get s.segments i) (n.is ∙ zero_first n.place) ∙ n.there
 
 -- ---- by name no less than by number
 
@@ -121,11 +127,11 @@ few_of_module p name g m f of =
 -- ---- a unit
 
 -- the module of a name, where it had none
-room_for : List ℕ → Option ℕ → ℕ → ℕ
+pub room_for : List ℕ → Option ℕ → ℕ → ℕ
 room_for taken None n = 0
 room_for taken (Some g) n = if is_taken g taken then 0 else n
 
-room_less : (g : ℕ) (taken : List ℕ) (o : Option ℕ) (n : ℕ) → room_for (g ∷ taken) o n ≤ room_for taken o n
+pub room_less : (g : ℕ) (taken : List ℕ) (o : Option ℕ) (n : ℕ) → room_for (g ∷ taken) o n ≤ room_for taken o n
 unfolding room_for
 room_less g taken None n = omega arith
 room_less g taken (Some h) n = by (nat_eq h g) (is_taken h taken)
@@ -136,19 +142,19 @@ room_less g taken (Some h) n = by (nat_eq h g) (is_taken h taken)
     by false true = omega arith
     by false false = omega arith
 
-room_none : (g : ℕ) (taken : List ℕ) (o : Option ℕ) (n : ℕ) → o ≡ Some g → room_for (g ∷ taken) o n ≡ 0
+pub room_none : (g : ℕ) (taken : List ℕ) (o : Option ℕ) (n : ℕ) → o ≡ Some g → room_for (g ∷ taken) o n ≡ 0
 unfolding room_for
 room_none g taken None n is = cc
 room_none g taken (Some h) n is =
     ap (λ (k : ℕ). if is_taken k (g ∷ taken) then 0 else n) (some_inside h h g is) ∙ ap (λ (b : Bool). if b || is_taken g taken then 0 else n) (eq-eqb g g refl)
 
-room_all : (g : ℕ) (taken : List ℕ) (o : Option ℕ) (n : ℕ) → o ≡ Some g → is_taken g taken ≡ false → room_for taken o n ≡ n
+pub room_all : (g : ℕ) (taken : List ℕ) (o : Option ℕ) (n : ℕ) → o ≡ Some g → is_taken g taken ≡ false → room_for taken o n ≡ n
 unfolding room_for
 room_all g taken None n is free = cc
 room_all g taken (Some h) n is free =
     ap (λ (k : ℕ). if is_taken k taken then 0 else n) (some_inside h h g is) ∙ ap (λ (b : Bool). if b then 0 else n) free
 
-next_found : (p : Placed) (taken : List ℕ) (o : Option ℕ) (g : ℕ) → next_number p taken o ≡ Some g → o ≡ Some g
+pub next_found : (p : Placed) (taken : List ℕ) (o : Option ℕ) (g : ℕ) → next_number p taken o ≡ Some g → o ≡ Some g
 next_found p taken None g is = cc
 next_found p taken (Some h) g is = by (uses p h && not (is_taken h taken)) is
   where
@@ -195,7 +201,7 @@ words_append : (x : List ℕ) (xs ys : List Module) → words_in x (xs ++ ys) �
 words_append x [] ys = omega arith
 words_append x (m ∷ xs) ys = let rest = words_append x xs ys in omega (arith, rest)
 
-room_most : (taken : List ℕ) (o : Option ℕ) (n : ℕ) → room_for taken o n ≤ n
+pub room_most : (taken : List ℕ) (o : Option ℕ) (n : ℕ) → room_for taken o n ≤ n
 unfolding room_for
 room_most taken None n = omega arith
 room_most taken (Some g) n = by (is_taken g taken)

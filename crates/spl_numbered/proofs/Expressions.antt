@@ -6,7 +6,7 @@ use Rattle.spl_tree.specs.Operators.{Form}
 use Rattle.spl_tree.specs.Trees as tree
 use Rattle.spl_tree.specs.Trees.{Tree}
 use Rattle.spl_tree.specs.Expressions as g
-use Rattle.spl_numbered.specs.Beyond.{beyond}
+use Rattle.spl_numbered.proofs.Beyond.{beyond}
 
 pub constant_eats : (top : ℕ) {v : tree.Constant} {ts rest : List Lexeme} → g.Constant v ts rest → beyond top rest ≤ beyond top ts
 constant_eats top (g.Constant.number i) = omega arith

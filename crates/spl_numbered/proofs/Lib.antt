@@ -1,3 +1,5 @@
+-- In reading order.
+pub mod Beyond
 pub mod Expressions
 pub mod Statements
 pub mod Units

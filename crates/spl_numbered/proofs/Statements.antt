@@ -4,7 +4,7 @@ use Rattle.spl_tree.specs.Symbols.{Lexeme}
 use Rattle.spl_tree.specs.Trees.{Tree}
 use Rattle.spl_tree.specs.StatementTrees as stat
 use Rattle.spl_tree.specs.Statements as st
-use Rattle.spl_numbered.specs.Beyond.{beyond}
+use Rattle.spl_numbered.proofs.Beyond.{beyond}
 use Rattle.spl_numbered.proofs.Expressions.{constant_eats, level_eats, arguments_eat}
 
 expression_eats : (top : ℕ) {e : Tree} {ts rest : List Lexeme} → st.Expression e ts rest → beyond top rest ≤ beyond top ts

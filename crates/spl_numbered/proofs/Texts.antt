@@ -14,7 +14,7 @@ use Rattle.spl_tree.specs.DeclarationTrees.{declarations}
 use Rattle.spl_grammar.specs.Verdicts.{spelled}
 use Rattle.spl_meaning.specs.Tables.{Routine, routines_of}
 use Rattle.spl_places.specs.Programs.{Each}
-use Rattle.spl_numbered.specs.Beyond.{out, beyond, all_out}
+use Rattle.spl_numbered.proofs.Beyond.{out, beyond, all_out}
 use Rattle.spl_numbered.specs.Laws.{TextsNumberSegments}
 use Rattle.spl_numbered.proofs.Units.{unit_eats, main_in, routines_in}
 

@@ -16,7 +16,7 @@ use Rattle.spl_meaning.specs.Stops.{declaration_stops}
 use Rattle.spl_meaning.specs.Names.{Sort, Table, nothing_declared}
 use Rattle.spl_meaning.specs.Tables.{Routine, with_declaration, routines_among}
 use Rattle.spl_places.specs.Programs.{Each}
-use Rattle.spl_numbered.specs.Beyond.{out, beyond, declared_out, all_out}
+use Rattle.spl_numbered.proofs.Beyond.{out, beyond, declared_out, all_out}
 use Rattle.spl_numbered.proofs.Expressions.{constant_eats}
 use Rattle.spl_numbered.proofs.Statements.{statement_eats, statements_eat}
 

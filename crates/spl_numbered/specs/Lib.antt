@@ -1,3 +1,2 @@
 -- In reading order.
-pub mod Beyond
 pub mod Laws

@@ -42,7 +42,8 @@ all_true true true ea eb = refl
 all_true true false ea eb = never eb
 all_true false b ea eb = never ea
 
-true_or : (a b : Bool) → a ≡ true → (a || b) ≡ true
+-- one of two tests is enough
+pub true_or : (a b : Bool) → a ≡ true → (a || b) ≡ true
 true_or true b e = refl
 true_or false b e = never e
 

@@ -6,7 +6,7 @@
 use Rattle.std.proofs.Common.{◌≡◌, ℕ, ◌+◌, ◌<◌, ◌≤◌, Bool, true, false, not, List, [], ◌∷◌, ◌++◌, length, map, Option, Some, None, is_some, refl, sym, ap, ◌∙◌, arith}
 use Rattle.std.specs.Prelude.{codes, ◌==◌, ◌&&◌, ◌||◌, nat_lt, nat_le, option_map, if◌then◌else◌}
 use Rattle.std.specs.List.{list_all}
-use Rattle.std.proofs.lemmas.Bool.{leb-true}
+use Rattle.std.proofs.lemmas.Bool.{leb-true, not-true}
 use Rattle.std.proofs.lemmas.Bool.Decides.{nat_tests}
 use Rattle.spl_tree.specs.declared.expressions.Kind.{Kind}
 use Rattle.spl_tree.specs.declared.expressions.Kind.TheVariants as kind
@@ -35,7 +35,7 @@ use Rattle.thin_jobs.specs.Bytes.{is_name_byte}
 use Rattle.thin_covered.specs.Shown.{Shows}
 use Rattle.thin_covered.specs.Laws.{ThinUnitsAreCovered}
 use Rattle.thin_covered.proofs.NameLemmas.{never, turned, integers, IsOf, items_made, items_found, as_intrinsic, intrinsics_found, HasFront, intrinsics_behind, integer_found, integer_placed}
-use Rattle.thin_covered.proofs.StatementLemmas.{AllRun, list_fits}
+use Rattle.thin_covered.proofs.StatementLemmas.{AllRun, list_fits, true_or}
 
 -- ---- 1. the parts of a thin unit
 
@@ -59,11 +59,6 @@ record IsThinTree (ds : List Declaration) (ss : List Statement) : Type 0 where
 some_where : {A : Type 0} (b : Bool) (o : Option A) (x : A) → (if b then o else None) ≡ Some x → (b ≡ true) × (o ≡ Some x)
 some_where true o x e = (refl, e)
 some_where false o x e = cc
-
--- what is not so
-not_own : (b : Bool) → not b ≡ true → b ≡ false
-not_own true e = never e
-not_own false e = refl
 
 -- the kind of a thin unit's items
 of_integers : (k : Kind) → thin.is_integer k ≡ true → k ≡ kind.Integer
@@ -90,7 +85,7 @@ two_parts own k is gs ss e =
     record {
       items = is;
       gates = gs;
-      declared = ap (λ (o : Bool). decl.Declaration.data_items o k is ∷ decl.Declaration.intrinsic gs ∷ []) (not_own own parts.0)
+      declared = ap (λ (o : Bool). decl.Declaration.data_items o k is ∷ decl.Declaration.intrinsic gs ∷ []) (not-true own parts.0)
           ∙ ap (λ (j : Kind). decl.Declaration.data_items false j is ∷ decl.Declaration.intrinsic gs ∷ []) (of_integers k parts.1);
       variables = parts.2;
       intrinsics = parts.3;
@@ -118,7 +113,7 @@ name_tests : (y : List ℕ) → is_variable_name y ≡ true → (u.same_name (co
 name_tests y e =
     let last = both (list_all is_name_byte y && not (u.same_name (codes "QUIT") y)) (not (u.same_name (codes "TERMINATE") y)) e in
     let first = both (list_all is_name_byte y) (not (u.same_name (codes "QUIT") y)) last.0 in
-    (not_own _ first.1, not_own _ last.1)
+    (not-true _ first.1, not-true _ last.1)
 
 -- either way
 no_quit : (y : List ℕ) → is_variable_name y ≡ true → u.same_name y (codes "QUIT") ≡ false
@@ -128,10 +123,6 @@ no_terminate : (y : List ℕ) → is_variable_name y ≡ true → u.same_name y 
 no_terminate y e = let tests = name_tests y e in turned y (codes "TERMINATE") ∙ tests.1
 
 -- one of two tests is enough
-or_here : (a b : Bool) → a ≡ true → (a || b) ≡ true
-or_here true b e = refl
-or_here false b e = never e
-
 or_later : (a b : Bool) → b ≡ true → (a || b) ≡ true
 or_later true b e = refl
 or_later false b e = e
@@ -145,7 +136,7 @@ quit_listed (g ∷ gs) e = by (u.same_name (codes "QUIT") g) refl e (quit_listed
         → (u.same_gate (if b then u.quit_gate else u.terminate_gate) u.quit_gate || u.has_gate (map gate_of gs) u.quit_gate) ≡ true
         → (u.has_gate (map gate_of gs) u.quit_gate ≡ true → u.is_declared gs (codes "QUIT") ≡ true)
         → (u.same_name g (codes "QUIT") || u.is_declared gs (codes "QUIT")) ≡ true
-    by true same has later = or_here _ _ (turned g (codes "QUIT") ∙ same)
+    by true same has later = true_or _ _ (turned g (codes "QUIT") ∙ same)
     by false same has later = or_later (u.same_name g (codes "QUIT")) _ (later has)
 
 -- one that is not QUIT's is TERMINATE's
@@ -160,7 +151,7 @@ terminate_listed (g ∷ gs) all e =
         → (u.has_gate (map gate_of gs) u.terminate_gate ≡ true → u.is_declared gs (codes "TERMINATE") ≡ true)
         → (u.same_name g (codes "TERMINATE") || u.is_declared gs (codes "TERMINATE")) ≡ true
     by true same is has later = or_later (u.same_name g (codes "TERMINATE")) _ (later has)
-    by false same is has later = or_here _ _ (turned g (codes "TERMINATE") ∙ is)
+    by false same is has later = true_or _ _ (turned g (codes "TERMINATE") ∙ is)
 
 -- each of one or two
 all_gates : (gs : List (List ℕ)) → are_gates gs ≡ true → list_all is_gate_name gs ≡ true
@@ -277,5 +268,5 @@ thin_covered source unit e =
     let tests = some_where (not source.subprogram && is_first_segment source.segments) (tree_unit source.tree.items source.tree.statements) unit e in
     let outer = both (not source.subprogram) (is_first_segment source.segments) tests.0 in
     let placed : scopes.Placed = record { at = first_reached (source ∷ []); unit = source } in
-    one_unit source.subprogram (is_covered_body (module_entries source source.tree.segment) (main_body (global_places placed) source)) (not_own source.subprogram outer.0)
+    one_unit source.subprogram (is_covered_body (module_entries source source.tree.segment) (main_body (global_places placed) source)) (not-true source.subprogram outer.0)
     (body_covered source (module_entries source source.tree.segment) (tree_parts source.tree.items source.tree.statements unit tests.1))
