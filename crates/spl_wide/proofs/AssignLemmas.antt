@@ -1,7 +1,8 @@
 -- Assignments of DOUBLE expressions to variables, in a tree.
 use Rattle.std.proofs.Common.{◌≡◌, ℕ, ◌+◌, ◌≤◌, Bool, true, false, List, refl, sym, ap, subst, ◌∙◌, arith}
-use Rattle.std.specs.Prelude.{Option, Some, None, ◌&&◌, if◌then◌else◌}
+use Rattle.std.specs.Prelude.{Option, Some, None, ◌&&◌, ◌||◌, if◌then◌else◌}
 use Rattle.std.proofs.lemmas.Bool.{false≢true}
+use Rattle.std.proofs.Math.Logic.{⊎_elim}
 use Rattle.spl_branch.specs.declared.pieces.Piece.{Piece}
 use Rattle.spl_branch.specs.declared.pieces.Piece.TheVariants.{Begin}
 use Rattle.spl_tree.specs.declared.expressions.Kind.{Kind}
@@ -15,7 +16,7 @@ use Rattle.spl_meaning.specs.Names as n
 use Rattle.spl_meaning.specs.Names.{Sort}
 use Rattle.spl_meaning.specs.Operations.{kept}
 use Rattle.spl_meaning.specs.Places.{Place, data_word, above_base, below_base, below_return}
-use Rattle.spl_meaning.specs.References.{Here, Setting, Access, its_own, address_of, variable_located, own_located, locate_by, locate_target, store}
+use Rattle.spl_meaning.specs.References.{Here, Setting, Access, its_own, access_of, address_of, variable_located, own_located, locate_by, locate_target, store}
 use Rattle.spl_meaning.specs.States.{State, Outcome, then_go, stopping}
 use Rattle.spl_meaning.specs.Statements.{is_intrinsic, is_intrinsic_alone, target_keeps_code, assign, assigned, alone_value, run}
 use Rattle.spl_meaning.specs.Values.{Callee, value}
@@ -33,10 +34,13 @@ use Rattle.spl_values.specs.Reached.{is_reached, IsWhole}
 use Rattle.spl_values.proofs.VariableLemmas.{both}
 use Rattle.spl_values.proofs.WholeLemmas.{then_same}
 use Rattle.spl_doubles.proofs.StoreLemmas.{variables_assigned}
+use Rattle.spl_covered.specs.Covered.{is_covered}
 use Rattle.spl_covered.specs.Laws.{read_with}
+use Rattle.spl_covered.proofs.OperatorLemmas.{either}
 use Rattle.spl_targets.proofs.SameLemmas.{stopping_same, same_performs}
-use Rattle.spl_wide.specs.Wide.{is_wide_name, is_wide}
+use Rattle.spl_wide.specs.Wide.{is_wide_name, is_wide_element, is_wide_led, is_wide}
 use Rattle.spl_wide.specs.Laws.{WideAssignmentsAreWhole, WideAssignmentsPerform}
+use Rattle.spl_wide.proofs.LedLemmas.{leading_case, led_of_element}
 use Rattle.spl_wide.proofs.WideLemmas.{IsWide, wide_case, wide_whole, wide_gives}
 
 -- a name on the left of := that is such is no intrinsic
@@ -58,8 +62,13 @@ no_name st k (Some n.unknown) pl e = refl
 
 -- so no such expression is the call of one
 no_intrinsic : (c : Scope) (st : Setting) (e : Tree) (k : ℕ) → is_wide c st e k ≡ true → is_intrinsic_alone c.names e ≡ false
-no_intrinsic c st (tree.Tree.named x tree.Trees.none at) k e = no_name st k (c.names x) (c.places x) e
-no_intrinsic c st (tree.Tree.named x (tree.Trees.and i is) at) k e = absurd (false≢true e)
+no_intrinsic c st (tree.Tree.named x tree.Trees.none at) k e =
+    ⊎_elim (λ own. no_name st k (c.names x) (c.places x) own) (λ led. (leading_case st x k (c.names x) (c.places x) led).alone)
+    (either (is_wide_name st k (c.names x) (c.places x)) (is_wide_led st k (access_of (c.names x)) (c.places x)) e)
+no_intrinsic c st (tree.Tree.named x (tree.Trees.and i tree.Trees.none) at) k e =
+    let two = both (is_wide_element st k (access_of (c.names x)) (c.places x)) (is_covered c st i k) e in
+    (leading_case st x k (c.names x) (c.places x) (led_of_element st k (access_of (c.names x)) (c.places x) two.0)).alone
+no_intrinsic c st (tree.Tree.named x (tree.Trees.and i (tree.Trees.and j js)) at) k e = absurd (false≢true e)
 no_intrinsic c st (tree.Tree.number v) k e = refl
 no_intrinsic c st (tree.Tree.truth b) k e = refl
 no_intrinsic c st (tree.Tree.binary o a b at) k e = refl

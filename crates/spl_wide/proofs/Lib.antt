@@ -1,3 +1,4 @@
 -- In reading order.
+pub mod LedLemmas
 pub mod WideLemmas
 pub mod AssignLemmas

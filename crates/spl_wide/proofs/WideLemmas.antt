@@ -1,6 +1,6 @@
 -- DOUBLE expressions along the tree: their code is whole, and gives their two words.
 use Rattle.std.proofs.Common.{◌≡◌, ℕ, ◌+◌, ◌%◌, ◌≤◌, Bool, true, false, List, [], ◌∷◌, ◌++◌, refl, sym, ap, subst, ◌∙◌, arith}
-use Rattle.std.specs.Prelude.{Option, Some, None, ◌&&◌}
+use Rattle.std.specs.Prelude.{Option, Some, None, ◌&&◌, ◌||◌}
 use Rattle.std.proofs.lemmas.Bool.{false≢true}
 use Rattle.std.proofs.Math.Logic.{⊎_elim}
 use Rattle.hp_word.specs.Bytes.{high_word, low_word}
@@ -38,9 +38,11 @@ use Rattle.spl_doubles.proofs.DoubleLemmas.{constant_closed, constants_give, ext
 use Rattle.spl_operators.specs.Laws.{is_word_operand}
 use Rattle.spl_covered.specs.Covered.{is_covered}
 use Rattle.spl_covered.specs.Laws.{read_with}
+use Rattle.spl_covered.proofs.OperatorLemmas.{either}
 use Rattle.spl_covered.proofs.CoverLemmas.{covered_width, covered_whole, covered_gives}
-use Rattle.spl_wide.specs.Wide.{is_wide_name, is_wide}
+use Rattle.spl_wide.specs.Wide.{is_wide_name, is_wide_element, is_wide_led, is_wide}
 use Rattle.spl_wide.specs.Laws.{WideCodeIsWhole, WideValuesSimulate}
+use Rattle.spl_wide.proofs.LedLemmas.{leading_case, led_of_element, led_whole, led_simulates, element_whole, element_simulates}
 
 -- ---- names
 
@@ -131,7 +133,12 @@ sum_parts c st o a b k e =
 -- the kind of each is DOUBLE
 kind_is : (c : Scope) (st : Setting) (e : Tree) (k : ℕ) → is_wide c st e k ≡ true → kind_of c.names e ≡ of kind.Double
 kind_is c st (tree.Tree.wide v) k e = refl
-kind_is c st (tree.Tree.named x tree.Trees.none at) k e = (wide_case st x k (c.names x) (c.places x) e).operand
+kind_is c st (tree.Tree.named x tree.Trees.none at) k e =
+    ⊎_elim (λ own. (wide_case st x k (c.names x) (c.places x) own).operand) (λ led. (leading_case st x k (c.names x) (c.places x) led).operand)
+    (either (is_wide_name st k (c.names x) (c.places x)) (is_wide_led st k (access_of (c.names x)) (c.places x)) e)
+kind_is c st (tree.Tree.named x (tree.Trees.and i tree.Trees.none) at) k e =
+    let two = both (is_wide_element st k (access_of (c.names x)) (c.places x)) (is_covered c st i k) e in
+    (leading_case st x k (c.names x) (c.places x) (led_of_element st k (access_of (c.names x)) (c.places x) two.0)).operand
 kind_is c st (tree.Tree.transfer kind.Double a at) k e = refl
 kind_is c st (tree.Tree.binary o a b at) k e =
     let parts = sum_parts c st o a b k e in
@@ -143,7 +150,7 @@ kind_is c st (tree.Tree.binary o a b at) k e =
     (λ is. subst (λ (j : ℕ). kind_of c.names (tree.Tree.binary j a b at) ≡ of kind.Double) (sym is)
     (ap (λ (x : Operand). class_operand (class_of x (kind_of c.names b))) left ∙ ap (λ (x : Operand). class_operand (class_of (of kind.Double) x)) right))
     (sum_cases o parts.0)
-kind_is c st (tree.Tree.named x (tree.Trees.and i es) at) k e = absurd (false≢true e)
+kind_is c st (tree.Tree.named x (tree.Trees.and i (tree.Trees.and j js)) at) k e = absurd (false≢true e)
 kind_is c st (tree.Tree.transfer kind.Integer a at) k e = absurd (false≢true e)
 kind_is c st (tree.Tree.transfer kind.Logical a at) k e = absurd (false≢true e)
 kind_is c st (tree.Tree.transfer kind.Byte a at) k e = absurd (false≢true e)
@@ -226,6 +233,11 @@ sum_room names o a b at need e left room =
       at_minus : most names (tree.Tree.binary minus a b at) + 8 ≤ need → (most names a + 8 ≤ need) × (most names b + 8 + 2 ≤ need)
       at_minus l = (omega (arith, l), omega (arith, two, l))
 
+-- the room of an index
+pub index_room : (names : Names) (x : List ℕ) (i : Tree) (at : At) (need : ℕ) → most names (tree.Tree.named x (tree.Trees.and i tree.Trees.none) at) + 8 ≤ need
+    → most names i + 8 ≤ need
+index_room names x i at need room = omega (arith, room)
+
 -- a double constant closes
 double_closed : (d : ℕ) → IsClosed (double_constant d)
 double_closed d = closed_last (constant (high_word d)) (constant (low_word d)) (constant_closed (low_word d))
@@ -237,7 +249,12 @@ pub wide_whole : WideCodeIsWhole
 wide_whole c st (tree.Tree.wide v) k e =
     whole_last (pieces (double_constant (v % 4294967296)))
     (whole_pieces (double_constant (v % 4294967296)) (double_closed (v % 4294967296)))
-wide_whole c st (tree.Tree.named x tree.Trees.none at) k e = name_whole c st x at k (wide_case st x k (c.names x) (c.places x) e)
+wide_whole c st (tree.Tree.named x tree.Trees.none at) k e =
+    ⊎_elim (λ own. name_whole c st x at k (wide_case st x k (c.names x) (c.places x) own)) (λ led. led_whole c st x at k led)
+    (either (is_wide_name st k (c.names x) (c.places x)) (is_wide_led st k (access_of (c.names x)) (c.places x)) e)
+wide_whole c st (tree.Tree.named x (tree.Trees.and i tree.Trees.none) at) k e =
+    let two = both (is_wide_element st k (access_of (c.names x)) (c.places x)) (is_covered c st i k) e in
+    element_whole c st x i at k two.0 (covered_whole c st i k two.1)
 wide_whole c st (tree.Tree.transfer kind.Double a at) k e =
     let two = both (is_word_operand (kind_of c.names a)) (is_covered c st a k) e in
     whole_last (code c a as_value k ⨟ pieces (transfer kind.Double (kind_of c.names a)))
@@ -249,7 +266,7 @@ wide_whole c st (tree.Tree.binary o a b at) k e =
     subst (λ (p : Part). IsWhole p) (sym (sum_code c o a b at k parts.0 (kind_is c st a k parts.1) (kind_is c st b j parts.2)))
     (whole_last (code c a as_value k ⨟ code c b as_value j ⨟ pieces (class_operator doubles o))
     (whole_behind (code c a as_value k ⨟ code c b as_value j) (class_operator doubles o) operands (sum_closed o parts.0)))
-wide_whole c st (tree.Tree.named x (tree.Trees.and i es) at) k e = absurd (false≢true e)
+wide_whole c st (tree.Tree.named x (tree.Trees.and i (tree.Trees.and j js)) at) k e = absurd (false≢true e)
 wide_whole c st (tree.Tree.transfer kind.Integer a at) k e = absurd (false≢true e)
 wide_whole c st (tree.Tree.transfer kind.Logical a at) k e = absurd (false≢true e)
 wide_whole c st (tree.Tree.transfer kind.Byte a at) k e = absurd (false≢true e)
@@ -268,7 +285,14 @@ wide_gives c results z call d (tree.Tree.wide v) k need e enough =
     last_simulates z d as_value 2 k need (pieces (double_constant (v % 4294967296))) (λ s. done (double_words (v % 4294967296)) s)
     (constants_give z d k need (v % 4294967296) (omega arith) (omega (arith, enough)))
 wide_gives c results z call d (tree.Tree.named x tree.Trees.none at) k need e enough =
-    name_simulates c results z call d x at k need (wide_case z.setting x k (c.names x) (c.places x) e) (omega (arith, enough))
+    ⊎_elim (λ own. name_simulates c results z call d x at k need (wide_case z.setting x k (c.names x) (c.places x) own) (omega (arith, enough)))
+    (λ led. led_simulates c results z call d x at k need led (omega (arith, enough)))
+    (either (is_wide_name z.setting k (c.names x) (c.places x)) (is_wide_led z.setting k (access_of (c.names x)) (c.places x)) e)
+wide_gives c results z call d (tree.Tree.named x (tree.Trees.and i tree.Trees.none) at) k need e enough =
+    let two = both (is_wide_element z.setting k (access_of (c.names x)) (c.places x)) (is_covered c z.setting i k) e in
+    element_simulates c results z call d x i at k need two.0 (omega (arith, enough)) (covered_whole c z.setting i k two.1)
+    (subst (λ (j : ℕ). Simulates z d as_value j k need (code c i as_value k) (λ s. value (read_with c results z.setting) call i k s)) (covered_width c z.setting i k two.1)
+    (covered_gives c results z call d i k need two.1 (index_room c.names x i at need enough)))
 wide_gives c results z call d (tree.Tree.transfer kind.Double a at) k need e enough =
     let h = read_with c results z.setting in
     let two = both (is_word_operand (kind_of c.names a)) (is_covered c z.setting a k) e in
@@ -296,7 +320,7 @@ wide_gives c results z call d (tree.Tree.binary o a b at) k need e enough =
     (sum_code c o a b at k parts.0 left right) (λ s. sum_is h call o a b at k s parts.0 left right)
     (last_simulates z d as_value 2 k need (first ⨟ other ⨟ pieces (class_operator doubles o))
     (λ s. then_go (value h call a k s) (λ vs t. then_go (value h call b j t) (λ us u. by_class doubles o vs us u))) sum)
-wide_gives c results z call d (tree.Tree.named x (tree.Trees.and i es) at) k need e enough = absurd (false≢true e)
+wide_gives c results z call d (tree.Tree.named x (tree.Trees.and i (tree.Trees.and j js)) at) k need e enough = absurd (false≢true e)
 wide_gives c results z call d (tree.Tree.transfer kind.Integer a at) k need e enough = absurd (false≢true e)
 wide_gives c results z call d (tree.Tree.transfer kind.Logical a at) k need e enough = absurd (false≢true e)
 wide_gives c results z call d (tree.Tree.transfer kind.Byte a at) k need e enough = absurd (false≢true e)
