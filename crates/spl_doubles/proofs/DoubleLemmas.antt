@@ -58,7 +58,7 @@ use Rattle.spl_doubles.specs.Laws.{DoubleConstantsSimulate, DoubleSumsSimulate, 
 -- ---- behind one value
 
 -- a value of some words, and pieces that make one of others of it
-parts_then : (z : Surroundings) (d k need j n : ℕ) (a : Part) (ps : List Piece) (meaning : State → Outcome (List ℕ)) (last : List ℕ → State → Outcome (List ℕ))
+pub parts_then : (z : Surroundings) (d k need j n : ℕ) (a : Part) (ps : List Piece) (meaning : State → Outcome (List ℕ)) (last : List ℕ → State → Outcome (List ℕ))
     → IsWhole a → Simulates z d as_value j k need a meaning
     → ((r q : Spot) (vs : List ℕ) (s : State) (m : Machine) (d0 : Data) (m0 : Machine) → Stands z.ground z.sites (on r) ps q → d0.top + k + need ≤ d0.stack
     → IsValue z.setting r j k d0 m0 vs s m
@@ -234,11 +234,11 @@ subtracted_small : (b a : ℕ) → (double_subtracted b a).value < 4294967296
 unfolding double_subtracted double_result
 subtracted_small b a = double_of-below _
 
-high_small : (d : ℕ) → d < 4294967296 → high_word d < 65536
+pub high_small : (d : ℕ) → d < 4294967296 → high_word d < 65536
 unfolding high_word
 high_small d small = omega (arith, small)
 
-low_small : (d : ℕ) → low_word d < 65536
+pub low_small : (d : ℕ) → low_word d < 65536
 unfolding low_word
 low_small d = omega arith
 

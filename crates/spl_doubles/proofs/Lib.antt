@@ -1,3 +1,4 @@
 -- In reading order.
 pub mod DoubleLemmas
+pub mod SignLemmas
 pub mod StoreLemmas

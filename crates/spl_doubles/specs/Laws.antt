@@ -1,18 +1,18 @@
--- The laws of this crate: DOUBLE constants, sums, transfers and stores in variables, each over its parts as variables. The high word of a DOUBLE
--- is the lower one.
-use Rattle.std.specs.Prelude.{◌≡◌, ℕ, ◌+◌, ◌≤◌, ◌<◌, ◌*◌, ◌/◌, true, false, List}
+-- The laws of this crate: DOUBLE constants, sums, signs, transfers and stores in variables, each over its parts as variables. The high word of a
+-- DOUBLE is the lower one.
+use Rattle.std.specs.Prelude.{◌≡◌, ℕ, ◌+◌, ◌≤◌, ◌<◌, ◌*◌, ◌/◌, ◌==◌, ◌||◌, true, false, List}
 use Rattle.spl_tree.specs.declared.expressions.Kind.{Kind}
 use Rattle.spl_tree.specs.declared.expressions.Kind.TheVariants as kind
 use Rattle.spl_tree.specs.declared.names_and_places.At.{At}
 use Rattle.spl_branch.specs.declared.pieces.Piece.TheVariants.{Begin}
-use Rattle.spl_meaning.specs.Kinds.{Operand, of, doubles}
-use Rattle.spl_meaning.specs.Operations.{double_words, by_class, transferred}
+use Rattle.spl_meaning.specs.Kinds.{Operand, of, doubles, positive, negative}
+use Rattle.spl_meaning.specs.Operations.{double_words, by_class, signed_done, transferred}
 use Rattle.spl_meaning.specs.Places.{Place}
 use Rattle.spl_meaning.specs.References.{its_own, address_of, variable_located, store}
 use Rattle.spl_meaning.specs.States.{State, Outcome, done, then_go, stopping}
 use Rattle.spl_code.specs.Code.{as_value}
 use Rattle.spl_code.specs.Constants.{double_constant}
-use Rattle.spl_code.specs.Operators.{class_operator, transfer}
+use Rattle.spl_code.specs.Operators.{class_operator, sign_operator, transfer}
 use Rattle.spl_code.specs.Parts.{Part, pieces, piece, nothing, ◌⨟◌}
 use Rattle.spl_code.specs.Stores.{stored}
 use Rattle.spl_follow.specs.Simulating.{Surroundings, Simulates, Performs}
@@ -30,6 +30,13 @@ DoubleSumsSimulate = (z : Surroundings) (d k need more op : ℕ) (a b : Part) (f
     → IsWhole b → Simulates z d as_value 2 k need a first → Simulates z d as_value 2 (k + 2) more b other → more + 2 ≤ need
     → Simulates z d as_value 2 k need (a ⨟ b ⨟ pieces (class_operator doubles op))
     (λ s. then_go (first s) (λ vs t. then_go (other t) (λ us u. by_class doubles op vs us u)))
+
+-- + and -: + leaves the value, and - traps where the result is out of range.
+abbrev pub DoubleSignsSimulate : Type 0
+DoubleSignsSimulate = (z : Surroundings) (d k need op : ℕ) (a : Part) (meaning : State → Outcome (List ℕ)) → ((op == positive) || (op == negative)) ≡ true
+    → IsWhole a → Simulates z d as_value 2 k need a meaning
+    → Simulates z d as_value 2 k need (a ⨟ pieces (sign_operator op (of kind.Double)))
+    (λ s. then_go (meaning s) (λ vs t. signed_done op (of kind.Double) vs t))
 
 -- a DOUBLE as a value of one word: its low word, of which a BYTE keeps the right eight bits
 abbrev pub LowWordsSimulate : Type 0

@@ -1,6 +1,6 @@
 -- DOUBLE expressions along the tree: their code is whole, and gives their two words.
 use Rattle.std.proofs.Common.{◌≡◌, ℕ, ◌+◌, ◌%◌, ◌≤◌, Bool, true, false, List, [], ◌∷◌, ◌++◌, refl, sym, ap, subst, ◌∙◌, arith}
-use Rattle.std.specs.Prelude.{Option, Some, None, ◌&&◌, ◌||◌}
+use Rattle.std.specs.Prelude.{Option, Some, None, ◌==◌, ◌&&◌, ◌||◌}
 use Rattle.std.proofs.lemmas.Bool.{false≢true}
 use Rattle.std.proofs.Math.Logic.{⊎_elim}
 use Rattle.hp_word.specs.Bytes.{high_word, low_word}
@@ -9,10 +9,10 @@ use Rattle.spl_tree.specs.declared.expressions.Kind.TheVariants as kind
 use Rattle.spl_tree.specs.declared.names_and_places.At.{At}
 use Rattle.spl_tree.specs.Trees as tree
 use Rattle.spl_tree.specs.Trees.{Tree}
-use Rattle.spl_meaning.specs.Kinds.{Operand, of, const, unknown, Class, doubles, plus, minus, named_operand, kind_of, operand_width, class_of, class_operand}
+use Rattle.spl_meaning.specs.Kinds.{Operand, of, const, unknown, Class, doubles, plus, minus, positive, negative, unary_operand, named_operand, kind_of, operand_width, class_of, class_operand}
 use Rattle.spl_meaning.specs.Names as n
 use Rattle.spl_meaning.specs.Names.{Names, Sort}
-use Rattle.spl_meaning.specs.Operations.{double_words, by_class, transferred}
+use Rattle.spl_meaning.specs.Operations.{double_words, by_class, signed_done, transferred}
 use Rattle.spl_meaning.specs.Pending.{most, result_words}
 use Rattle.spl_meaning.specs.Places.{Place}
 use Rattle.spl_meaning.specs.References.{Here, Setting, Access, its_own, access_of, target_access, own_located, locate_by, read}
@@ -23,7 +23,7 @@ use Rattle.spl_code.specs.Code as made
 use Rattle.spl_code.specs.Code.{as_value, code}
 use Rattle.spl_code.specs.Constants.{constant, double_constant}
 use Rattle.spl_code.specs.Operands.{mode_of, loaded, at_place}
-use Rattle.spl_code.specs.Operators.{class_operator, transfer}
+use Rattle.spl_code.specs.Operators.{class_operator, sign_operator, transfer}
 use Rattle.spl_code.specs.Parts.{Part, pieces, nothing, ◌⨟◌}
 use Rattle.spl_statement_code.specs.Assignments.{assigned_access}
 use Rattle.spl_follow.specs.Standing.{IsClosed}
@@ -35,7 +35,9 @@ use Rattle.spl_values.proofs.VariableLemmas.{both}
 use Rattle.spl_values.proofs.WholeLemmas.{whole_pieces, whole_then, whole_first, whole_last, whole_behind, same_simulates, first_simulates, last_simulates}
 use Rattle.spl_variables.proofs.OwnLemmas.{own_words_give}
 use Rattle.spl_doubles.proofs.DoubleLemmas.{constant_closed, constants_give, extensions_give, sums_give}
+use Rattle.spl_doubles.proofs.SignLemmas.{signs_give}
 use Rattle.spl_operators.specs.Laws.{is_word_operand}
+use Rattle.spl_operators.proofs.SingleLemmas.{sign_cases}
 use Rattle.spl_covered.specs.Covered.{is_covered}
 use Rattle.spl_covered.specs.Laws.{read_with}
 use Rattle.spl_covered.proofs.OperatorLemmas.{either}
@@ -130,6 +132,12 @@ sum_parts c st o a b k e =
     let rest = both (is_wide c st a k) (is_wide c st b (k + operand_width (kind_of c.names a))) two.1 in
     (two.0, rest.0, rest.1)
 
+-- a sign keeps the kind
+sign_kind : (o : ℕ) (x : Operand) → ((o == positive) || (o == negative)) ≡ true → x ≡ of kind.Double → unary_operand o x ≡ of kind.Double
+sign_kind o x e is =
+    ap (λ (y : Operand). unary_operand o y) is
+    ∙ ⊎_elim (λ i. ap (λ (n : ℕ). unary_operand n (of kind.Double)) i) (λ i. ap (λ (n : ℕ). unary_operand n (of kind.Double)) i) (sign_cases o e)
+
 -- the kind of each is DOUBLE
 kind_is : (c : Scope) (st : Setting) (e : Tree) (k : ℕ) → is_wide c st e k ≡ true → kind_of c.names e ≡ of kind.Double
 kind_is c st (tree.Tree.wide v) k e = refl
@@ -140,6 +148,9 @@ kind_is c st (tree.Tree.named x (tree.Trees.and i tree.Trees.none) at) k e =
     let two = both (is_wide_element st k (access_of (c.names x)) (c.places x)) (is_covered c st i k) e in
     (leading_case st x k (c.names x) (c.places x) (led_of_element st k (access_of (c.names x)) (c.places x) two.0)).operand
 kind_is c st (tree.Tree.transfer kind.Double a at) k e = refl
+kind_is c st (tree.Tree.unary o a at) k e =
+    let two = both ((o == positive) || (o == negative)) (is_wide c st a k) e in
+    sign_kind o (kind_of c.names a) two.0 (kind_is c st a k two.1)
 kind_is c st (tree.Tree.binary o a b at) k e =
     let parts = sum_parts c st o a b k e in
     let left = kind_is c st a k parts.1 in
@@ -158,7 +169,6 @@ kind_is c st (tree.Tree.number v) k e = absurd (false≢true e)
 kind_is c st (tree.Tree.truth b) k e = absurd (false≢true e)
 kind_is c st (tree.Tree.text bytes) k e = absurd (false≢true e)
 kind_is c st (tree.Tree.address x es at) k e = absurd (false≢true e)
-kind_is c st (tree.Tree.unary o a at) k e = absurd (false≢true e)
 kind_is c st (tree.Tree.shift o a by at) k e = absurd (false≢true e)
 kind_is c st (tree.Tree.field a start size at) k e = absurd (false≢true e)
 kind_is c st (tree.Tree.bytes o a b count at) k e = absurd (false≢true e)
@@ -176,6 +186,15 @@ extension_closed (of kind.Byte) e = refl
 extension_closed (of kind.Double) e = absurd (false≢true e)
 extension_closed const e = refl
 extension_closed unknown e = absurd (false≢true e)
+
+-- ---- signs
+
+-- the code behind the value: nothing, or DNEG
+sign_whole : (o : ℕ) (a : Part) → ((o == positive) || (o == negative)) ≡ true → IsWhole a → IsWhole (a ⨟ pieces (sign_operator o (of kind.Double)))
+sign_whole o a e whole =
+    ⊎_elim (λ i. subst (λ (n : ℕ). IsWhole (a ⨟ pieces (sign_operator n (of kind.Double)))) (sym i) (whole_last a whole))
+    (λ i. subst (λ (n : ℕ). IsWhole (a ⨟ pieces (sign_operator n (of kind.Double)))) (sym i) (whole_behind a (sign_operator negative (of kind.Double)) whole refl))
+    (sign_cases o e)
 
 -- ---- sums
 
@@ -259,6 +278,11 @@ wide_whole c st (tree.Tree.transfer kind.Double a at) k e =
     let two = both (is_word_operand (kind_of c.names a)) (is_covered c st a k) e in
     whole_last (code c a as_value k ⨟ pieces (transfer kind.Double (kind_of c.names a)))
     (whole_behind (code c a as_value k) (transfer kind.Double (kind_of c.names a)) (covered_whole c st a k two.1) (extension_closed (kind_of c.names a) two.0))
+wide_whole c st (tree.Tree.unary o a at) k e =
+    let two = both ((o == positive) || (o == negative)) (is_wide c st a k) e in
+    let one = code c a as_value k in
+    subst (λ (x : Operand). IsWhole (one ⨟ pieces (sign_operator o x) ⨟ nothing)) (sym (kind_is c st a k two.1))
+    (whole_last (one ⨟ pieces (sign_operator o (of kind.Double))) (sign_whole o one two.0 (wide_whole c st a k two.1)))
 wide_whole c st (tree.Tree.binary o a b at) k e =
     let parts = sum_parts c st o a b k e in
     let j = k + operand_width (kind_of c.names a) in
@@ -274,7 +298,6 @@ wide_whole c st (tree.Tree.number v) k e = absurd (false≢true e)
 wide_whole c st (tree.Tree.truth b) k e = absurd (false≢true e)
 wide_whole c st (tree.Tree.text bytes) k e = absurd (false≢true e)
 wide_whole c st (tree.Tree.address x es at) k e = absurd (false≢true e)
-wide_whole c st (tree.Tree.unary o a at) k e = absurd (false≢true e)
 wide_whole c st (tree.Tree.shift o a by at) k e = absurd (false≢true e)
 wide_whole c st (tree.Tree.field a start size at) k e = absurd (false≢true e)
 wide_whole c st (tree.Tree.bytes o a b count at) k e = absurd (false≢true e)
@@ -301,6 +324,14 @@ wide_gives c results z call d (tree.Tree.transfer kind.Double a at) k need e eno
     (extensions_give z d k need (kind_of c.names a) (code c a as_value k) (λ s. value h call a k s) two.0 (omega (arith, enough)) (covered_whole c z.setting a k two.1)
     (subst (λ (j : ℕ). Simulates z d as_value j k need (code c a as_value k) (λ s. value h call a k s)) (covered_width c z.setting a k two.1)
     (covered_gives c results z call d a k need two.1 enough)))
+wide_gives c results z call d (tree.Tree.unary o a at) k need e enough =
+    let two = both ((o == positive) || (o == negative)) (is_wide c z.setting a k) e in
+    let one = code c a as_value k in
+    let first : State → Outcome (List ℕ) = λ s. value (read_with c results z.setting) call a k s in
+    subst (λ (x : Operand). Simulates z d as_value 2 k need (one ⨟ pieces (sign_operator o x) ⨟ nothing) (λ s. then_go (first s) (λ vs t. signed_done o x vs t)))
+    (sym (kind_is c z.setting a k two.1))
+    (last_simulates z d as_value 2 k need (one ⨟ pieces (sign_operator o (of kind.Double))) (λ s. then_go (first s) (λ vs t. signed_done o (of kind.Double) vs t))
+    (signs_give z d k need o one first two.0 (wide_whole c z.setting a k two.1) (wide_gives c results z call d a k need two.1 enough)))
 wide_gives c results z call d (tree.Tree.binary o a b at) k need e enough =
     let h = read_with c results z.setting in
     let parts = sum_parts c z.setting o a b k e in
@@ -328,7 +359,6 @@ wide_gives c results z call d (tree.Tree.number v) k need e enough = absurd (fal
 wide_gives c results z call d (tree.Tree.truth b) k need e enough = absurd (false≢true e)
 wide_gives c results z call d (tree.Tree.text bytes) k need e enough = absurd (false≢true e)
 wide_gives c results z call d (tree.Tree.address x es at) k need e enough = absurd (false≢true e)
-wide_gives c results z call d (tree.Tree.unary o a at) k need e enough = absurd (false≢true e)
 wide_gives c results z call d (tree.Tree.shift o a by at) k need e enough = absurd (false≢true e)
 wide_gives c results z call d (tree.Tree.field a start size at) k need e enough = absurd (false≢true e)
 wide_gives c results z call d (tree.Tree.bytes o a b count at) k need e enough = absurd (false≢true e)

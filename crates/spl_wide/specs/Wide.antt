@@ -1,11 +1,11 @@
 -- Which DOUBLE expressions and assignments of them are proved. A further construct makes it larger.
-use Rattle.std.specs.Prelude.{ℕ, ◌+◌, ◌&&◌, ◌||◌, not, Bool, true, false, Option, Some}
+use Rattle.std.specs.Prelude.{ℕ, ◌+◌, ◌==◌, ◌&&◌, ◌||◌, not, Bool, true, false, Option, Some}
 use Rattle.spl_tree.specs.declared.expressions.Kind.TheVariants as kind
 use Rattle.spl_tree.specs.Trees as tree
 use Rattle.spl_tree.specs.Trees.{Tree}
 use Rattle.spl_tree.specs.StatementTrees as stat
 use Rattle.spl_tree.specs.StatementTrees.{Target}
-use Rattle.spl_meaning.specs.Kinds.{kind_of, operand_width}
+use Rattle.spl_meaning.specs.Kinds.{positive, negative, kind_of, operand_width}
 use Rattle.spl_meaning.specs.Names as n
 use Rattle.spl_meaning.specs.Names.{Sort}
 use Rattle.spl_meaning.specs.Places.{Place}
@@ -33,7 +33,7 @@ is_wide_led st k (by_cell is_pointer t) place = is_wide_element st k (by_cell is
 is_wide_led st k _ place = false
 
 -- A DOUBLE expression, in a body with this setting and while k words wait: constants, such variables, what names lead to, by an index that is
--- covered or without one, transfers of one word that is covered, and + and - of such, of which the left one waits.
+-- covered or without one, transfers of one word that is covered, + and - of one such, and of two, of which the left one waits.
 abbrev pub is_wide : Scope → Setting → Tree → ℕ → Bool
 is_wide c st (tree.Tree.wide v) k = true
 is_wide c st (tree.Tree.named x tree.Trees.none at) k =
@@ -41,6 +41,7 @@ is_wide c st (tree.Tree.named x tree.Trees.none at) k =
 is_wide c st (tree.Tree.named x (tree.Trees.and i tree.Trees.none) at) k =
     is_wide_element st k (access_of (c.names x)) (c.places x) && is_covered c st i k
 is_wide c st (tree.Tree.transfer kind.Double a at) k = is_word_operand (kind_of c.names a) && is_covered c st a k
+is_wide c st (tree.Tree.unary op a at) k = ((op == positive) || (op == negative)) && is_wide c st a k
 is_wide c st (tree.Tree.binary op a b at) k = is_sum op && (is_wide c st a k && is_wide c st b (k + operand_width (kind_of c.names a)))
 is_wide c st _ k = false
 
