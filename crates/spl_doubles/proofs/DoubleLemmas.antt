@@ -1,5 +1,5 @@
 -- Values of two words: constants, what stands behind one value and behind two, and the rows of DOUBLEs.
-use Rattle.std.proofs.Common.{◌≡◌, ◌⊎◌, inl, inr, ℕ, ◌+◌, ◌*◌, ◌-◌, ◌/◌, ◌%◌, ◌<◌, ◌≤◌, Bool, true, false, List, [], ◌∷◌, ◌++◌, length, refl, sym, ap, subst, ◌∙◌, arith}
+use Rattle.std.proofs.Common.{◌≡◌, ℕ, ◌+◌, ◌-◌, ◌/◌, ◌%◌, ◌<◌, ◌≤◌, Bool, true, false, List, [], ◌∷◌, ◌++◌, length, refl, sym, ap, subst, ◌∙◌, arith}
 use Rattle.std.specs.Prelude.{◌^◌, nat_lt, if◌then◌else◌, bit_and}
 use Rattle.std.proofs.lemmas.Bool.{ltb-true, ltb-false, false≢true}
 use Rattle.std.proofs.lemmas.Nat.{and_mask}
@@ -22,36 +22,32 @@ use Rattle.hp_yields.proofs.StackYields as rows
 use Rattle.hp_yields.proofs.WordYields as word_rows
 use Rattle.spl_branch.specs.declared.pieces.Piece.{Piece}
 use Rattle.spl_branch.specs.declared.pieces.Piece.TheVariants.{Do}
-use Rattle.spl_tree.specs.declared.expressions.Kind.{Kind}
 use Rattle.spl_tree.specs.declared.expressions.Kind.TheVariants as kind
-use Rattle.spl_meaning.specs.Kinds.{Operand, of, const, unknown, doubles, plus, minus}
+use Rattle.spl_meaning.specs.Kinds.{of, const, unknown, doubles, plus, minus}
 use Rattle.spl_meaning.specs.Operations.{double_words, double_done, by_class, transferred}
 use Rattle.spl_meaning.specs.References.{Setting}
-use Rattle.spl_meaning.specs.States.{Data, State, Begun, Outcome, done, ends, trapped, then_go}
+use Rattle.spl_meaning.specs.States.{Data, State, Outcome, done, ends, trapped, then_go}
 use Rattle.spl_code.specs.Code.{as_value}
-use Rattle.spl_code.specs.Constants.{constant, double_constant}
+use Rattle.spl_code.specs.Constants.{constant}
 use Rattle.spl_code.specs.Instructions.{ZERO, DELB, DUP, XCH, LDI, LDNI, LSL, ASR, ANDI, ORI}
-use Rattle.spl_code.specs.Operators.{class_operator, transfer}
+use Rattle.spl_code.specs.Operators.{class_operator}
 use Rattle.spl_code.specs.Parts.{Part, pieces, ◌⨟◌}
-use Rattle.spl_follow.specs.Spots.{Spot, pos, Point, on, Ground}
+use Rattle.spl_follow.specs.Spots.{Spot, pos, on, Ground}
 use Rattle.spl_follow.specs.Leading.{Leads}
 use Rattle.spl_follow.specs.Matching.{IsValue}
 use Rattle.spl_follow.specs.Following.{Rate, tally, tally_with, Follows, NoExit}
 use Rattle.spl_follow.specs.Doing.{doing}
 use Rattle.spl_follow.specs.Standing.{Stands, IsClosed, due_after}
 use Rattle.spl_follow.specs.Yielding.{Yields}
-use Rattle.spl_follow.specs.Parts.{Gives}
 use Rattle.spl_follow.specs.Simulating.{Surroundings, Simulates}
 use Rattle.spl_follow.proofs.FollowLemmas.{bind_follows}
 use Rattle.spl_follow.proofs.KeepLemmas.{values_join, value_word, value_ready}
 use Rattle.spl_follow.proofs.PartLemmas.{stand_in_order, rows_trap, values_follow}
 use Rattle.spl_follow.proofs.StandLemmas.{closed_last}
-use Rattle.spl_values.specs.Reached.{is_sum, IsWhole}
+use Rattle.spl_values.specs.Reached.{IsWhole}
 use Rattle.spl_values.proofs.ConstantLemmas.{constants_give as words_give}
 use Rattle.spl_values.proofs.GiveLemmas.{last_leads, value_row}
 use Rattle.spl_values.proofs.SumLemmas.{sum_cases, front_on}
-use Rattle.spl_values.proofs.WholeLemmas.{whole_pieces}
-use Rattle.spl_operators.specs.Laws.{is_word_operand, is_single}
 use Rattle.spl_operators.proofs.RowLemmas.{words_row, row_then, value_there, value_room, yields_beneath, lower_deleted, zero_behind_one, exchanged}
 use Rattle.spl_doubles.specs.Laws.{DoubleConstantsSimulate, DoubleSumsSimulate, LowWordsSimulate, ExtensionsSimulate}
 

@@ -2,3 +2,4 @@
 pub mod DoubleLemmas
 pub mod SignLemmas
 pub mod StoreLemmas
+pub mod CellLemmas

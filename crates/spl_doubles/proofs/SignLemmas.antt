@@ -1,5 +1,5 @@
 -- Signs of DOUBLEs: the value that stays, and DNEG.
-use Rattle.std.proofs.Common.{◌≡◌, ℕ, ◌+◌, ◌-◌, ◌<◌, Bool, true, false, List, [], ◌∷◌, ◌++◌, refl, sym, subst, arith}
+use Rattle.std.proofs.Common.{◌≡◌, ℕ, ◌+◌, ◌-◌, ◌<◌, Bool, true, false, List, [], ◌∷◌, refl, sym, subst, arith}
 use Rattle.std.specs.Prelude.{if◌then◌else◌}
 use Rattle.std.proofs.lemmas.List.{append-nil}
 use Rattle.std.proofs.Math.Logic.{⊎_elim}
@@ -16,7 +16,7 @@ use Rattle.hp_yields.proofs.StackYields as rows
 use Rattle.spl_branch.specs.declared.pieces.Piece.{Piece}
 use Rattle.spl_branch.specs.declared.pieces.Piece.TheVariants.{Do}
 use Rattle.spl_tree.specs.declared.expressions.Kind.TheVariants as kind
-use Rattle.spl_meaning.specs.Kinds.{of, positive, negative}
+use Rattle.spl_meaning.specs.Kinds.{of}
 use Rattle.spl_meaning.specs.Operations.{double_words, double_done, minus_done, signed_done}
 use Rattle.spl_meaning.specs.References.{Setting}
 use Rattle.spl_meaning.specs.States.{Data, State, Outcome, done, ends, trapped, then_go}
@@ -34,7 +34,6 @@ use Rattle.spl_follow.proofs.WayLemmas.{goes_none}
 use Rattle.spl_follow.proofs.FollowLemmas.{bind_follows}
 use Rattle.spl_follow.proofs.KeepLemmas.{value_word}
 use Rattle.spl_follow.proofs.PartLemmas.{rows_trap}
-use Rattle.spl_values.specs.Reached.{IsWhole}
 use Rattle.spl_values.proofs.GiveLemmas.{last_leads}
 use Rattle.spl_operators.proofs.RowLemmas.{words_row, value_there}
 use Rattle.spl_operators.proofs.SingleLemmas.{sign_cases}

@@ -1,5 +1,5 @@
 -- Names whose words lead to DOUBLEs, by index or not: what they stand for, and their code.
-use Rattle.std.proofs.Common.{◌≡◌, ℕ, ◌+◌, ◌≤◌, Bool, true, false, List, [], ◌∷◌, refl, sym, ap, subst, ◌∙◌, arith}
+use Rattle.std.proofs.Common.{◌≡◌, ℕ, ◌+◌, ◌≤◌, Bool, true, false, List, [], ◌∷◌, refl, sym, ap, subst, ◌∙◌}
 use Rattle.std.specs.Prelude.{Option, Some, None, ◌&&◌, ◌||◌, not}
 use Rattle.std.proofs.lemmas.Bool.{false≢true, not-true}
 use Rattle.spl_tree.specs.declared.expressions.Kind.{Kind}
@@ -9,7 +9,7 @@ use Rattle.spl_tree.specs.Trees as tree
 use Rattle.spl_tree.specs.Trees.{Tree}
 use Rattle.spl_meaning.specs.Names as n
 use Rattle.spl_meaning.specs.Names.{Sort}
-use Rattle.spl_meaning.specs.Kinds.{Operand, of, named_operand}
+use Rattle.spl_meaning.specs.Kinds.{of, named_operand}
 use Rattle.spl_meaning.specs.Pending.{result_words}
 use Rattle.spl_meaning.specs.Places.{Place}
 use Rattle.spl_meaning.specs.References.{Here, Setting, Located, Access, its_own, by_address, by_cell, its_result, nowhere, access_of, target_access, index_or_zero, led_located, locate_by, read}

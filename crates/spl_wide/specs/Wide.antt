@@ -45,7 +45,10 @@ is_wide c st (tree.Tree.unary op a at) k = ((op == positive) || (op == negative)
 is_wide c st (tree.Tree.binary op a b at) k = is_sum op && (is_wide c st a k && is_wide c st b (k + operand_width (kind_of c.names a)))
 is_wide c st _ k = false
 
--- one that is stored in such a variable
+-- One that is stored in such a variable, in what a name leads to, or in an element at an index that is covered, which waits below it.
 abbrev pub is_wide_assignment : Scope → Setting → Target → Tree → ℕ → Bool
-is_wide_assignment c st (stat.Target.plain (tree.Tree.named x tree.Trees.none at)) e k = is_wide_name st k (c.names x) (c.places x) && is_wide c st e k
+is_wide_assignment c st (stat.Target.plain (tree.Tree.named x tree.Trees.none at)) e k =
+    (is_wide_name st k (c.names x) (c.places x) || is_wide_led st k (access_of (c.names x)) (c.places x)) && is_wide c st e k
+is_wide_assignment c st (stat.Target.plain (tree.Tree.named x (tree.Trees.and i tree.Trees.none) at)) e k =
+    is_wide_element st k (access_of (c.names x)) (c.places x) && (is_covered c st i k && is_wide c st e (k + 1))
 is_wide_assignment c st _ e k = false
