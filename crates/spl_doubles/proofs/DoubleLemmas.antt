@@ -1,5 +1,5 @@
 -- Values of two words: constants, what stands behind one value and behind two, and the rows of DOUBLEs.
-use Rattle.std.proofs.Common.{◌≡◌, ◌⊎◌, inl, inr, ℕ, ◌+◌, ◌*◌, ◌-◌, ◌/◌, ◌%◌, ◌<◌, ◌≤◌, Bool, true, false, List, [], ◌∷◌, ◌++◌, length, refl, sym, ap, subst, ◌∙◌, arith}
+use Rattle.std.proofs.Common.{◌≡◌, ℕ, ◌+◌, ◌-◌, ◌/◌, ◌%◌, ◌<◌, ◌≤◌, Bool, true, false, List, [], ◌∷◌, ◌++◌, length, refl, sym, ap, subst, ◌∙◌, arith}
 use Rattle.std.specs.Prelude.{◌^◌, nat_lt, if◌then◌else◌, bit_and}
 use Rattle.std.proofs.lemmas.Bool.{ltb-true, ltb-false, false≢true}
 use Rattle.std.proofs.lemmas.Nat.{and_mask}
@@ -22,43 +22,39 @@ use Rattle.hp_yields.proofs.StackYields as rows
 use Rattle.hp_yields.proofs.WordYields as word_rows
 use Rattle.spl_branch.specs.declared.pieces.Piece.{Piece}
 use Rattle.spl_branch.specs.declared.pieces.Piece.TheVariants.{Do}
-use Rattle.spl_tree.specs.declared.expressions.Kind.{Kind}
 use Rattle.spl_tree.specs.declared.expressions.Kind.TheVariants as kind
-use Rattle.spl_meaning.specs.Kinds.{Operand, of, const, unknown, doubles, plus, minus}
+use Rattle.spl_meaning.specs.Kinds.{of, const, unknown, doubles, plus, minus}
 use Rattle.spl_meaning.specs.Operations.{double_words, double_done, by_class, transferred}
 use Rattle.spl_meaning.specs.References.{Setting}
-use Rattle.spl_meaning.specs.States.{Data, State, Begun, Outcome, done, ends, trapped, then_go}
+use Rattle.spl_meaning.specs.States.{Data, State, Outcome, done, ends, trapped, then_go}
 use Rattle.spl_code.specs.Code.{as_value}
-use Rattle.spl_code.specs.Constants.{constant, double_constant}
+use Rattle.spl_code.specs.Constants.{constant}
 use Rattle.spl_code.specs.Instructions.{ZERO, DELB, DUP, XCH, LDI, LDNI, LSL, ASR, ANDI, ORI}
-use Rattle.spl_code.specs.Operators.{class_operator, transfer}
+use Rattle.spl_code.specs.Operators.{class_operator}
 use Rattle.spl_code.specs.Parts.{Part, pieces, ◌⨟◌}
-use Rattle.spl_follow.specs.Spots.{Spot, pos, Point, on, Ground}
+use Rattle.spl_follow.specs.Spots.{Spot, pos, on, Ground}
 use Rattle.spl_follow.specs.Leading.{Leads}
 use Rattle.spl_follow.specs.Matching.{IsValue}
 use Rattle.spl_follow.specs.Following.{Rate, tally, tally_with, Follows, NoExit}
 use Rattle.spl_follow.specs.Doing.{doing}
 use Rattle.spl_follow.specs.Standing.{Stands, IsClosed, due_after}
 use Rattle.spl_follow.specs.Yielding.{Yields}
-use Rattle.spl_follow.specs.Parts.{Gives}
 use Rattle.spl_follow.specs.Simulating.{Surroundings, Simulates}
 use Rattle.spl_follow.proofs.FollowLemmas.{bind_follows}
 use Rattle.spl_follow.proofs.KeepLemmas.{values_join, value_word, value_ready}
 use Rattle.spl_follow.proofs.PartLemmas.{stand_in_order, rows_trap, values_follow}
 use Rattle.spl_follow.proofs.StandLemmas.{closed_last}
-use Rattle.spl_values.specs.Reached.{is_sum, IsWhole}
+use Rattle.spl_values.specs.Reached.{IsWhole}
 use Rattle.spl_values.proofs.ConstantLemmas.{constants_give as words_give}
 use Rattle.spl_values.proofs.GiveLemmas.{last_leads, value_row}
 use Rattle.spl_values.proofs.SumLemmas.{sum_cases, front_on}
-use Rattle.spl_values.proofs.WholeLemmas.{whole_pieces}
-use Rattle.spl_operators.specs.Laws.{is_word_operand, is_single}
 use Rattle.spl_operators.proofs.RowLemmas.{words_row, row_then, value_there, value_room, yields_beneath, lower_deleted, zero_behind_one, exchanged}
 use Rattle.spl_doubles.specs.Laws.{DoubleConstantsSimulate, DoubleSumsSimulate, LowWordsSimulate, ExtensionsSimulate}
 
 -- ---- behind one value
 
 -- a value of some words, and pieces that make one of others of it
-parts_then : (z : Surroundings) (d k need j n : ℕ) (a : Part) (ps : List Piece) (meaning : State → Outcome (List ℕ)) (last : List ℕ → State → Outcome (List ℕ))
+pub parts_then : (z : Surroundings) (d k need j n : ℕ) (a : Part) (ps : List Piece) (meaning : State → Outcome (List ℕ)) (last : List ℕ → State → Outcome (List ℕ))
     → IsWhole a → Simulates z d as_value j k need a meaning
     → ((r q : Spot) (vs : List ℕ) (s : State) (m : Machine) (d0 : Data) (m0 : Machine) → Stands z.ground z.sites (on r) ps q → d0.top + k + need ≤ d0.stack
     → IsValue z.setting r j k d0 m0 vs s m
@@ -234,11 +230,11 @@ subtracted_small : (b a : ℕ) → (double_subtracted b a).value < 4294967296
 unfolding double_subtracted double_result
 subtracted_small b a = double_of-below _
 
-high_small : (d : ℕ) → d < 4294967296 → high_word d < 65536
+pub high_small : (d : ℕ) → d < 4294967296 → high_word d < 65536
 unfolding high_word
 high_small d small = omega (arith, small)
 
-low_small : (d : ℕ) → low_word d < 65536
+pub low_small : (d : ℕ) → low_word d < 65536
 unfolding low_word
 low_small d = omega arith
 

@@ -1,42 +1,39 @@
 -- A DOUBLE that is stored in a variable: STD puts both of its words.
-use Rattle.std.proofs.Common.{◌≡◌, ◌≢◌, ◌⊎◌, inl, inr, ℕ, ◌+◌, ◌-◌, ◌%◌, ◌<◌, ◌≤◌, Bool, true, false, List, [], ◌∷◌, ◌++◌, length, take, refl, sym, ap, subst, ◌∙◌, arith}
-use Rattle.std.specs.Prelude.{Option, Some, None, nat_eq, Ok, Err, Result, if◌then◌else◌, slice_index, slice_set, unwrap_or}
-use Rattle.std.proofs.lemmas.Bool.{eqb-true, eq-eqb, false≢true}
+use Rattle.std.proofs.Common.{◌≡◌, ℕ, zero, suc, ◌+◌, ◌-◌, ◌%◌, ◌<◌, ◌≤◌, Bool, true, false, List, [], ◌∷◌, ◌++◌, length, take, refl, sym, ap, subst, ◌∙◌, arith}
+use Rattle.std.specs.Prelude.{Option, Some, nat_eq, Ok, if◌then◌else◌, slice_index, slice_set}
 use Rattle.std.proofs.lemmas.List.{append-nil, length-set, get_or-set_same, get_or-set_other}
 use Rattle.std.proofs.lemmas.Option.{none-some}
 use Rattle.std.proofs.Math.Logic.{⊎_elim}
 use Rattle.hp_word.specs.declared.arithmetic.Code.{Code}
-use Rattle.hp_word.specs.declared.endings.Trap.{Trap}
 use Rattle.hp_word.specs.declared.endings.Trap.TheVariants.{Bounds}
 use Rattle.hp_instr.specs.declared.instruction.Instr.TheVariants as instr
 use Rattle.hp_instr.specs.declared.instruction.Mode.{Mode}
 use Rattle.hp_session.specs.State.{Machine, Outcome as Row, word, without}
-use Rattle.hp_session.specs.Places.{address, moved, operand, read_at}
+use Rattle.hp_session.specs.Places.{address, moved}
 use Rattle.hp_memory_rows.specs.MemoryRows.{memory_row}
 use Rattle.hp_flat.specs.Step.{at_left}
 use Rattle.hp_yields.specs.Rows.{held, with_held}
 use Rattle.hp_yields.proofs.MemoryYields as rows
 use Rattle.spl_tree.specs.declared.expressions.Kind.TheVariants as kind
-use Rattle.spl_frames.specs.Words.{AreWords, IsOfWords}
+use Rattle.spl_frames.specs.Words.{AreWords}
 use Rattle.spl_meaning.specs.Places.{Place, put}
-use Rattle.spl_meaning.specs.References.{Setting, its_own, address_of, word_at, placed_word, variable_located, store_by, store}
-use Rattle.spl_meaning.specs.States.{Data, State, Outcome, done, ends, trapped, then_go, stopping}
-use Rattle.spl_code.specs.Code.{as_value}
+use Rattle.spl_meaning.specs.References.{Setting, address_of, word_at, placed_word, variable_located, store_by, store}
+use Rattle.spl_meaning.specs.States.{Data, State, Outcome, done, then_go, stopping}
 use Rattle.spl_code.specs.Operands.{mode_of}
-use Rattle.spl_code.specs.Parts.{Part, pieces, piece, nothing, ◌⨟◌}
+use Rattle.spl_code.specs.Parts.{pieces, piece, nothing, ◌⨟◌}
 use Rattle.spl_code.specs.Stores.{own_stored}
 use Rattle.spl_branch.specs.declared.pieces.Piece.TheVariants.{Do, Begin}
-use Rattle.spl_follow.specs.Spots.{Spot, pos, on, landed, Ground}
+use Rattle.spl_follow.specs.Spots.{Spot, spot, pos, on, landed, Ground}
 use Rattle.spl_follow.specs.Leading.{Leads}
 use Rattle.spl_follow.specs.Matching.{Outer, outer, Matches, Matched, Kept, Coded, IsValue}
 use Rattle.spl_follow.specs.Following.{Rate, tally, Follows, NoExit}
 use Rattle.spl_follow.specs.Doing.{doing}
 use Rattle.spl_follow.specs.Yielding.{Becomes}
 use Rattle.spl_follow.specs.Parts.{Completes}
-use Rattle.spl_follow.specs.Simulating.{Surroundings, Simulates, Performs}
+use Rattle.spl_follow.specs.Simulating.{Performs}
 use Rattle.spl_follow.proofs.KeepLemmas.{kept_top, value_word}
-use Rattle.spl_follow.proofs.RowLemmas.{stray_here, row_trap, becomes_goes, becomes_matches, yields_matched, yields_kept}
-use Rattle.spl_values.specs.Reached.{is_reached, IsWhole}
+use Rattle.spl_follow.proofs.RowLemmas.{stray_here, row_trap, becomes_goes, becomes_matches, yields_matched, yields_kept, put_cases, put_none}
+use Rattle.spl_values.specs.Reached.{is_reached}
 use Rattle.spl_values.proofs.GiveLemmas.{last_leads}
 use Rattle.spl_operands.specs.Operands.{Finds, Seen}
 use Rattle.spl_operands.proofs.SeeLemmas.{see}
@@ -48,25 +45,12 @@ use Rattle.spl_doubles.specs.Laws.{DoubleVariablesAssigned}
 
 -- ---- a word that is put
 
--- at its address it is that one, and at each other the one before
-put_cases : (mem : ℕ → Option ℕ) (a v b x : ℕ) → put a v mem b ≡ Some x → ((b ≡ a) × (x ≡ v)) ⊎ ((b ≢ a) × (mem b ≡ Some x))
-put_cases mem a v b x e = by (nat_eq a b) refl e where
-  by : (t : Bool) → nat_eq a b ≡ t → (if t then Some v else mem b) ≡ Some x → ((b ≡ a) × (x ≡ v)) ⊎ ((b ≢ a) × (mem b ≡ Some x))
-  by true t e = inl (sym (eqb-true a b t), sym (ap (λ (o : Option ℕ). unwrap_or o 0) e))
-  by false t e = inr (λ same. false≢true (sym t ∙ eq-eqb a b (sym same)), e)
-
--- a data word is one still, and what is none is none
+-- a data word is one still
 put_there : (mem : ℕ → Option ℕ) (a v b old : ℕ) → mem b ≡ Some old → (x : ℕ) × (put a v mem b ≡ Some x)
 put_there mem a v b old e = by (nat_eq a b) where
   by : (t : Bool) → (x : ℕ) × ((if t then Some v else mem b) ≡ Some x)
   by true = (v, refl)
   by false = (old, e)
-
-put_none : (mem : ℕ → Option ℕ) (a v old b : ℕ) → mem a ≡ Some old → mem b ≡ None → put a v mem b ≡ None
-put_none mem a v old b there none = by (nat_eq a b) refl where
-  by : (t : Bool) → nat_eq a b ≡ t → (if t then Some v else mem b) ≡ None
-  by true t = absurd (none-some old (sym none ∙ ap mem (sym (eqb-true a b t)) ∙ there))
-  by false t = none
 
 -- so what matches does with it
 put_matched : (st : Setting) (d : Data) (xs : List ℕ) (u : Outer) (k a v old : ℕ) → Matches st d xs u k → d.mem a ≡ Some old → v < 65536
@@ -100,42 +84,92 @@ put_kept b d xs e ys a v old k there = record {
 
 -- ---- STD
 
--- both words are put, and deleted
-words_put : (g : Ground) (w : Rate) (p q : Spot) (st : Setting) (mode : Mode) (i x : Bool) (a k h l v u : ℕ) (d0 : Data) (m0 : Machine) (s : State) (m : Machine)
-    → Leads g (on p) q (doing g.segments (instr.Memory 14 true x i mode) q) → IsValue st p 2 k d0 m0 (h ∷ l ∷ []) s m
-    → Finds kind.Double mode i x false a (at_left m) → Seen false a v s (at_left m) → Seen false ((a + 1) % 65536) u s (at_left m)
+-- STD stands at p, with the words h and l on top of k that wait, in a part that began with d0 and m0.
+pub record StoringDouble (st : Setting) (p : Spot) (k : ℕ) (d0 : Data) (m0 : Machine) (h l : ℕ) (s : State) (m : Machine) : Type 0 where
+  pub at : spot m ≡ p
+  pub matches : Matched st s.now m (k + 2)
+  pub high : word 1 m ≡ h
+  pub low : word 0 m ≡ l
+  pub high_small : h < 65536
+  pub low_small : l < 65536
+  pub kept : Kept (d0.top + k) d0 m0.stack s.now m.stack
+  pub coded : Coded s.code m.regs.code
+  pub room : s.now.top + (k + 2) ≤ s.now.stack
+
+-- behind a value it may stand
+pub value_storing : (st : Setting) (p : Spot) (k h l : ℕ) (d0 : Data) (m0 : Machine) (s : State) (m : Machine) → IsValue st p 2 k d0 m0 (h ∷ l ∷ []) s m
+    → s.now.top + (k + 2) ≤ s.now.stack → StoringDouble st p k d0 m0 h l s m
+value_storing st p k h l d0 m0 s m x room = record {
+  at = x.at;
+  matches = x.matches;
+  high = value_word st p 2 k 1 0 d0 m0 (h ∷ l ∷ []) s m x refl;
+  low = value_word st p 2 k 0 1 d0 m0 (h ∷ l ∷ []) s m x refl;
+  high_small = x.small.0;
+  low_small = x.small.1.0;
+  kept = x.kept;
+  coded = subst (λ (c : Option Code). Coded c m.regs.code) (sym x.silent) tt;
+  room = room;
+}
+
+-- the row of STD where both words are there
+put_row : (mode : Mode) (i x far : Bool) (a h l : ℕ) (m : Machine) → 2 ≤ length m.stack → word 1 m ≡ h → word 0 m ≡ l
+    → Finds kind.Double mode i x far a (at_left m) → a < length (held far (at_left m)) → (a + 1) % 65536 < length (held far (at_left m))
+    → memory_row 14 true mode i x (at_left m)
+    ≡ Ok (without 2 (with_held far (slice_set (slice_set (held far (at_left m)) a h) ((a + 1) % 65536) l) (at_left m)))
+put_row mode i x far a h l m enough high low f first second =
+    let c = (a + 1) % 65536 in
+    let n = at_left m in
+    let at : address (moved 1 f.place) ≡ c = moved_address 1 f.place ∙ ap (λ (b : ℕ). (b + 1) % 65536) f.at in
+    let same : slice_set (slice_set (held far n) (address f.place) (word 1 m)) (address (moved 1 f.place)) (word 0 m) ≡ slice_set (slice_set (held far n) a h) c l =
+    ap (λ (b : ℕ). slice_set (slice_set (held far n) b (word 1 m)) (address (moved 1 f.place)) (word 0 m)) f.at
+    ∙ ap (λ (b : ℕ). slice_set (slice_set (held far n) a (word 1 m)) b (word 0 m)) at
+    ∙ ap (λ (b : ℕ). slice_set (slice_set (held far n) a b) c (word 0 m)) high
+    ∙ ap (λ (b : ℕ). slice_set (slice_set (held far n) a h) c b) low in
+    rows.double_puts mode i x far f.place n enough f.is f.side (moved_side 1 f.place far n f.side)
+    (subst (λ (b : ℕ). b < length (held far n)) (sym f.at) first) (subst (λ (b : ℕ). b < length (held far n)) (sym at) second)
+    ∙ ap (λ (zs : List ℕ). let left : Row = Ok (without 2 (with_held far zs n)) in left) same
+
+-- two words less are on top
+less_matched : (st : Setting) (d : Data) (m : Machine) (k : ℕ) → Matched st d m (k + 2) → Matches st d (take (length m.stack - 2) m.stack) (outer m) k
+less_matched st d m k x =
+    let none : k + 0 ≡ k = omega arith in
+    subst (λ (xs : List ℕ). Matches st d xs (outer m) k) (append-nil (take (length m.stack - 2) m.stack))
+    (subst (λ (j : ℕ). Matches st d (take (length m.stack - 2) m.stack ++ []) (outer m) j) none (yields_matched st d m k 2 [] x))
+
+less_kept : (b : ℕ) (d : Data) (xs : List ℕ) (e : Data) (ys : List ℕ) → Kept b d xs e ys → length ys ≡ b + 2
+    → Kept b d xs e (take (length ys - 2) ys)
+less_kept b d xs e ys k long =
+    subst (λ (zs : List ℕ). Kept b d xs e zs) (append-nil (take (length ys - 2) ys)) (yields_kept b d xs e ys [] 2 k long)
+
+-- a list of words with another word in it
+words_set : (xs : List ℕ) (a v : ℕ) → AreWords xs → v < 65536 → AreWords (slice_set xs a v)
+words_set [] a v h l = tt
+words_set (x ∷ xs) zero v h l = (l, h.1)
+words_set (x ∷ xs) (suc a) v h l = (h.0, words_set xs a v h.1 l)
+
+-- both words are put, on the stack or in the extra segment, and deleted
+words_put : (g : Ground) (w : Rate) (p q : Spot) (st : Setting) (mode : Mode) (i x far : Bool) (a k h l v u : ℕ) (d0 : Data) (m0 : Machine) (s : State) (m : Machine)
+    → Leads g (on p) q (doing g.segments (instr.Memory 14 true x i mode) q) → StoringDouble st p k d0 m0 h l s m
+    → Finds kind.Double mode i x far a (at_left m) → Seen far a v s (at_left m) → Seen far ((a + 1) % 65536) u s (at_left m)
     → Follows g w (pos q - pos p) 0 w.reach (tally s) m (Completes st q k d0 m0) NoExit
-    (done tt (placed_word false ((a + 1) % 65536) l (placed_word false a h s)))
-words_put g w p q st mode i x a k h l v u d0 m0 s m leads y f seen next =
+    (done tt (placed_word far ((a + 1) % 65536) l (placed_word far a h s)))
+words_put g w p q st mode i x false a k h l v u d0 m0 s m leads y f seen next =
     let c = (a + 1) % 65536 in
     let words = y.matches.words in
     let enough : 2 ≤ length m.stack = omega (arith, words) in
-    let at : address (moved 1 f.place) ≡ c = moved_address 1 f.place ∙ ap (λ (b : ℕ). (b + 1) % 65536) f.at in
     let ys : List ℕ = slice_set (slice_set m.stack a h) c l in
-    let same : slice_set (slice_set m.stack (address f.place) (word 1 m)) (address (moved 1 f.place)) (word 0 m) ≡ ys =
-    ap (λ (b : ℕ). slice_set (slice_set m.stack b (word 1 m)) (address (moved 1 f.place)) (word 0 m)) f.at
-    ∙ ap (λ (b : ℕ). slice_set (slice_set m.stack a (word 1 m)) b (word 0 m)) at
-    ∙ ap (λ (b : ℕ). slice_set (slice_set m.stack a b) c (word 0 m)) (value_word st p 2 k 1 0 d0 m0 (h ∷ l ∷ []) s m y refl)
-    ∙ ap (λ (b : ℕ). slice_set (slice_set m.stack a h) c b) (value_word st p 2 k 0 1 d0 m0 (h ∷ l ∷ []) s m y refl) in
     let row : Becomes (take (length ys - 2) ys) (outer m) (memory_row 14 true mode i x (at_left m)) = record {
       left = without 2 (with_held false ys (at_left m));
-      is = rows.double_puts mode i x false f.place (at_left m) enough f.is f.side (moved_side 1 f.place false (at_left m) f.side)
-          (subst (λ (b : ℕ). b < length m.stack) (sym f.at) seen.there) (subst (λ (b : ℕ). b < length m.stack) (sym at) next.there)
-          ∙ ap (λ (zs : List ℕ). let left : Row = Ok (without 2 (with_held false zs (at_left m))) in left) same;
+      is = put_row mode i x false a h l m enough y.high y.low f seen.there next.there;
       words = refl;
       same = refl;
     } in
     let d1 : Data = record s.now { mem = put a h s.now.mem } in
     let t : State = placed_word false c l (placed_word false a h s) in
     let there = put_there s.now.mem a h c u (next.known refl) in
-    let first = put_matched st s.now m.stack (outer m) (k + 2) a h v y.matches (seen.known refl) y.small.0 in
+    let first = put_matched st s.now m.stack (outer m) (k + 2) a h v y.matches (seen.known refl) y.high_small in
     let second : Matches st t.now ys (outer m) (k + 2) =
-    put_matched st d1 (slice_set m.stack a h) (outer m) (k + 2) c l there.0 first there.1 y.small.1.0 in
-    let none : k + 0 ≡ k = omega arith in
-    let whole = append-nil (take (length ys - 2) ys) in
-    let dropped : Matches st t.now (take (length ys - 2) ys) (outer m) k =
-    subst (λ (zs : List ℕ). Matches st t.now zs (outer m) k) whole
-    (subst (λ (j : ℕ). Matches st t.now (take (length ys - 2) ys ++ []) (outer m) j) none (yields_matched st t.now (record m { stack = ys }) k 2 [] second)) in
+    put_matched st d1 (slice_set m.stack a h) (outer m) (k + 2) c l there.0 first there.1 y.low_small in
     let top = kept_top (d0.top + k) d0 m0.stack s.now m.stack y.kept in
     let count = second.words in
     let kept = put_kept (d0.top + k) d0 m0.stack d1 (slice_set m.stack a h) c l there.0
@@ -145,38 +179,77 @@ words_put g w p q st mode i x a k h l v u d0 m0 s m leads y f seen next =
           (take (length ys - 2) ys) (outer m) row leads refl y.at refl y.matches refl,
       record {
         at = refl;
-        matches = becomes_matches st t.now k (memory_row 14 true mode i x (at_left m)) (take (length ys - 2) ys) (outer m) row dropped;
-        kept = subst (λ (zs : List ℕ). Kept (d0.top + k) d0 m0.stack t.now zs) whole
-            (yields_kept (d0.top + k) d0 m0.stack t.now ys [] 2 kept (omega (arith, count, top)));
-        coded = subst (λ (b : Option Code). Coded b m.regs.code) (sym y.silent) tt;
+        matches = becomes_matches st t.now k (memory_row 14 true mode i x (at_left m)) (take (length ys - 2) ys) (outer m) row
+            (less_matched st t.now (record m { stack = ys }) k second);
+        kept = less_kept (d0.top + k) d0 m0.stack t.now ys kept (omega (arith, count, top));
+        coded = y.coded;
+      },
+    )
+words_put g w p q st mode i x true a k h l v u d0 m0 s m leads y f seen next =
+    let c = (a + 1) % 65536 in
+    let words = y.matches.words in
+    let enough : 2 ≤ length m.stack = omega (arith, words) in
+    let xs : List ℕ = take (length m.stack - 2) m.stack in
+    let ys : List ℕ = slice_set (slice_set m.extra a h) c l in
+    let out : Outer = record (outer m) { extra = ys } in
+    let row : Becomes xs out (memory_row 14 true mode i x (at_left m)) = record {
+      left = without 2 (with_held true ys (at_left m));
+      is = put_row mode i x true a h l m enough y.high y.low f seen.there next.there;
+      words = refl;
+      same = refl;
+    } in
+    let t : State = placed_word true c l (placed_word true a h s) in
+    let before = less_matched st s.now m k y.matches in
+    let matches : Matches st t.now xs out k = record {
+      words = before.words;
+      lies = before.lies;
+      low = before.low;
+      holds = before.holds;
+      of_words = record {
+        stack = before.of_words.stack;
+        extra = words_set (slice_set s.now.extra a h) c l (words_set s.now.extra a h before.of_words.extra y.high_small) y.low_small;
+        lines = before.of_words.lines;
+      };
+      outer = ap (λ (b : Outer). record b { extra = slice_set (slice_set b.extra a h) c l }) before.outer;
+    } in
+    let top = kept_top (d0.top + k) d0 m0.stack s.now m.stack y.kept in
+    let kept = less_kept (d0.top + k) d0 m0.stack s.now m.stack y.kept (omega (arith, words, top)) in (
+      landed q row.left,
+      becomes_goes g w (on p) q (doing g.segments (instr.Memory 14 true x i mode) q) st s.begun s m (k + 2) (memory_row 14 true mode i x (at_left m))
+          xs out row leads refl y.at refl y.matches refl,
+      record {
+        at = refl;
+        matches = becomes_matches st t.now k (memory_row 14 true mode i x (at_left m)) xs out row matches;
+        kept = record { footing = kept.footing; none = kept.none; word = kept.word };
+        coded = y.coded;
       },
     )
 
--- STD where its operand is at an address of the stack: both words are seen, the run strays, or both trap.
-double_put : (g : Ground) (w : Rate) (p q : Spot) (st : Setting) (mode : Mode) (i x : Bool) (a k h l : ℕ) (d0 : Data) (m0 : Machine) (s : State) (m : Machine)
-    → Leads g (on p) q (doing g.segments (instr.Memory 14 true x i mode) q) → IsValue st p 2 k d0 m0 (h ∷ l ∷ []) s m → s.now.top + (k + 2) ≤ s.now.stack
-    → Finds kind.Double mode i x false a (at_left m)
-    → Follows g w (pos q - pos p) 0 w.reach (tally s) m (Completes st q k d0 m0) NoExit (store_by kind.Double false a (h ∷ l ∷ []) s)
-double_put g w p q st mode i x a k h l d0 m0 s m leads y room f =
+-- STD where its operand is at an address: both words are seen, the run strays, or both trap.
+pub double_put : (g : Ground) (w : Rate) (p q : Spot) (st : Setting) (mode : Mode) (i x far : Bool) (a k h l : ℕ) (d0 : Data) (m0 : Machine) (s : State) (m : Machine)
+    → Leads g (on p) q (doing g.segments (instr.Memory 14 true x i mode) q) → StoringDouble st p k d0 m0 h l s m
+    → Finds kind.Double mode i x far a (at_left m)
+    → Follows g w (pos q - pos p) 0 w.reach (tally s) m (Completes st q k d0 m0) NoExit (store_by kind.Double far a (h ∷ l ∷ []) s)
+double_put g w p q st mode i x far a k h l d0 m0 s m leads y f =
     let c = (a + 1) % 65536 in
     let words = y.matches.words in
     let enough : 2 ≤ length m.stack = omega (arith, words) in
     let at : address (moved 1 f.place) ≡ c = moved_address 1 f.place ∙ ap (λ (b : ℕ). (b + 1) % 65536) f.at in
-    let side = moved_side 1 f.place false (at_left m) f.side in
-    see (λ (o : Outcome (Unit {0})). Follows g w (pos q - pos p) 0 w.reach (tally s) m (Completes st q k d0 m0) NoExit o) false a (k + 2) st s (at_left m)
-    (λ v s1. then_go (word_at false c s1) (λ u s2. done tt (placed_word false c l (placed_word false a h s2)))) y.matches room
-    (λ v seen. see (λ (o : Outcome (Unit {0})). Follows g w (pos q - pos p) 0 w.reach (tally s) m (Completes st q k d0 m0) NoExit o) false c (k + 2) st s (at_left m)
-    (λ u s2. done tt (placed_word false c l (placed_word false a h s2))) y.matches room
-    (λ u next. words_put g w p q st mode i x a k h l v u d0 m0 s m leads y f seen next)
+    let side = moved_side 1 f.place far (at_left m) f.side in
+    see (λ (o : Outcome (Unit {0})). Follows g w (pos q - pos p) 0 w.reach (tally s) m (Completes st q k d0 m0) NoExit o) far a (k + 2) st s (at_left m)
+    (λ v s1. then_go (word_at far c s1) (λ u s2. done tt (placed_word far c l (placed_word far a h s2)))) y.matches y.room
+    (λ v seen. see (λ (o : Outcome (Unit {0})). Follows g w (pos q - pos p) 0 w.reach (tally s) m (Completes st q k d0 m0) NoExit o) far c (k + 2) st s (at_left m)
+    (λ u s2. done tt (placed_word far c l (placed_word far a h s2))) y.matches y.room
+    (λ u next. words_put g w p q st mode i x far a k h l v u d0 m0 s m leads y f seen next)
     (stray_here g w (pos q - pos p) 0 w.reach st (on p) (k + 2) s s.begun m (Completes st q k d0 m0) NoExit leads.start y.at refl y.matches)
     (λ past. row_trap g w w.reach (on p) q (doing g.segments (instr.Memory 14 true x i mode) q) st s.begun s m (k + 2) (memory_row 14 true mode i x (at_left m))
     Bounds (Completes st q k d0 m0) NoExit leads refl y.at refl y.matches
-    (rows.low_not_stored mode i x f.place v Bounds (at_left m) enough f.is (seen_read f.place false a v s (at_left m) f.side f.at seen)
-    (past_read (moved 1 f.place) false c (at_left m) side at past))))
+    (rows.low_not_stored mode i x f.place v Bounds (at_left m) enough f.is (seen_read f.place far a v s (at_left m) f.side f.at seen)
+    (past_read (moved 1 f.place) far c (at_left m) side at past))))
     (stray_here g w (pos q - pos p) 0 w.reach st (on p) (k + 2) s s.begun m (Completes st q k d0 m0) NoExit leads.start y.at refl y.matches)
     (λ past. row_trap g w w.reach (on p) q (doing g.segments (instr.Memory 14 true x i mode) q) st s.begun s m (k + 2) (memory_row 14 true mode i x (at_left m))
     Bounds (Completes st q k d0 m0) NoExit leads refl y.at refl y.matches
-    (rows.high_not_stored mode i x f.place Bounds (at_left m) enough f.is (past_read f.place false a (at_left m) f.side f.at past)))
+    (rows.high_not_stored mode i x f.place Bounds (at_left m) enough f.is (past_read f.place far a (at_left m) f.side f.at past)))
 
 -- ---- variables
 
@@ -186,7 +259,7 @@ variable_put : (g : Ground) (w : Rate) (p q : Spot) (st : Setting) (place : Plac
     → IsValue st p 2 k d0 m0 vs s m → s.now.top + (k + 2) ≤ s.now.stack
     → Follows g w (pos q - pos p) 0 w.reach (tally s) m (Completes st q k d0 m0) NoExit (store (variable_located kind.Double (address_of place s.now)) vs s)
 variable_put g w p q st place k (h ∷ l ∷ []) d0 m0 s m reached leads y room =
-    double_put g w p q st (mode_of k place) false false (address_of place s.now) k h l d0 m0 s m leads y room
+    double_put g w p q st (mode_of k place) false false false (address_of place s.now) k h l d0 m0 s m leads (value_storing st p k h l d0 m0 s m y room)
     (own_finds kind.Double (mode_of k place) (address_of place s.now) (at_left m) (place_based st s.now k (k + 2) place (at_left m) reached y.matches)
     (place_low st s.now k (k + 2) place (at_left m) reached y.matches))
 variable_put g w p q st place k [] d0 m0 s m reached leads y room = let wide = y.wide in absurd (omega (arith, wide))

@@ -1,20 +1,22 @@
--- The laws of this crate: DOUBLE constants, sums, transfers and stores in variables, each over its parts as variables. The high word of a DOUBLE
--- is the lower one.
-use Rattle.std.specs.Prelude.{◌≡◌, ℕ, ◌+◌, ◌≤◌, ◌<◌, ◌*◌, ◌/◌, true, false, List}
+-- The laws of this crate: DOUBLE constants, sums, signs, transfers and stores, each over its parts as variables. The high word of a DOUBLE is the
+-- lower one.
+use Rattle.std.specs.Prelude.{◌≡◌, ℕ, ◌+◌, ◌≤◌, ◌<◌, ◌*◌, ◌/◌, ◌==◌, ◌||◌, Bool, true, false, List, Some}
 use Rattle.spl_tree.specs.declared.expressions.Kind.{Kind}
 use Rattle.spl_tree.specs.declared.expressions.Kind.TheVariants as kind
 use Rattle.spl_tree.specs.declared.names_and_places.At.{At}
 use Rattle.spl_branch.specs.declared.pieces.Piece.TheVariants.{Begin}
-use Rattle.spl_meaning.specs.Kinds.{Operand, of, doubles}
-use Rattle.spl_meaning.specs.Operations.{double_words, by_class, transferred}
+use Rattle.spl_meaning.specs.Kinds.{Operand, of, doubles, positive, negative}
+use Rattle.spl_meaning.specs.Operations.{double_words, by_class, signed_done, transferred, kept}
 use Rattle.spl_meaning.specs.Places.{Place}
-use Rattle.spl_meaning.specs.References.{its_own, address_of, variable_located, store}
+use Rattle.spl_meaning.specs.References.{its_own, address_of, variable_located, led_located, index_or_zero, store}
 use Rattle.spl_meaning.specs.States.{State, Outcome, done, then_go, stopping}
+use Rattle.spl_meaning.specs.Values.{as_index}
 use Rattle.spl_code.specs.Code.{as_value}
 use Rattle.spl_code.specs.Constants.{double_constant}
-use Rattle.spl_code.specs.Operators.{class_operator, transfer}
+use Rattle.spl_code.specs.Operands.{mode_of}
+use Rattle.spl_code.specs.Operators.{class_operator, sign_operator, transfer}
 use Rattle.spl_code.specs.Parts.{Part, pieces, piece, nothing, ◌⨟◌}
-use Rattle.spl_code.specs.Stores.{stored}
+use Rattle.spl_code.specs.Stores.{stored, cell_stored, element_stored}
 use Rattle.spl_follow.specs.Simulating.{Surroundings, Simulates, Performs}
 use Rattle.spl_values.specs.Reached.{is_sum, is_reached, IsWhole}
 use Rattle.spl_operators.specs.Laws.{is_word_operand, is_single}
@@ -30,6 +32,13 @@ DoubleSumsSimulate = (z : Surroundings) (d k need more op : ℕ) (a b : Part) (f
     → IsWhole b → Simulates z d as_value 2 k need a first → Simulates z d as_value 2 (k + 2) more b other → more + 2 ≤ need
     → Simulates z d as_value 2 k need (a ⨟ b ⨟ pieces (class_operator doubles op))
     (λ s. then_go (first s) (λ vs t. then_go (other t) (λ us u. by_class doubles op vs us u)))
+
+-- + and -: + leaves the value, and - traps where the result is out of range.
+abbrev pub DoubleSignsSimulate : Type 0
+DoubleSignsSimulate = (z : Surroundings) (d k need op : ℕ) (a : Part) (meaning : State → Outcome (List ℕ)) → ((op == positive) || (op == negative)) ≡ true
+    → IsWhole a → Simulates z d as_value 2 k need a meaning
+    → Simulates z d as_value 2 k need (a ⨟ pieces (sign_operator op (of kind.Double)))
+    (λ s. then_go (meaning s) (λ vs t. signed_done op (of kind.Double) vs t))
 
 -- a DOUBLE as a value of one word: its low word, of which a BYTE keeps the right eight bits
 abbrev pub LowWordsSimulate : Type 0
@@ -52,3 +61,20 @@ DoubleVariablesAssigned = (z : Surroundings) (d k need number : ℕ) (at : At) (
     → is_reached z.setting k place ≡ true → 2 ≤ need → IsWhole a → Simulates z d as_value 2 k need a value
     → Performs z d k need (piece (Begin at) ⨟ (nothing ⨟ a ⨟ pieces (stored (its_own kind.Double) false k place)))
     (λ s. stopping number at s (λ u. then_go (value u) (λ vs v. store (variable_located kind.Double (address_of place v.now)) vs v)))
+
+-- The same through the word of a name, without an index. In a split procedure what is led to is in the extra segment, past which both trap too.
+abbrev pub DoubleCellsAssigned : Type 0
+DoubleCellsAssigned = (z : Surroundings) (d k need number : ℕ) (at : At) (far : Bool) (place : Place) (a : Part) (value : State → Outcome (List ℕ))
+    → is_reached z.setting k place ≡ true → far ≡ z.setting.split → 2 ≤ need → IsWhole a → Simulates z d as_value 2 k need a value
+    → Performs z d k need (piece (Begin at) ⨟ (nothing ⨟ a ⨟ pieces (cell_stored kind.Double false (mode_of k place))))
+    (λ s. stopping number at s (λ u. then_go (value u) (λ vs v.
+    then_go (led_located far kind.Double (Some place) 0 v) (λ p x. store p (kept p.kind vs) x))))
+
+-- And in an element: its index is made first, and waits below both words until the store has taken it to X.
+abbrev pub DoubleElementsAssigned : Type 0
+DoubleElementsAssigned = (z : Surroundings) (d k need more number : ℕ) (at : At) (far : Bool) (place : Place) (a b : Part)
+    (index value : State → Outcome (List ℕ)) → is_reached z.setting k place ≡ true → far ≡ z.setting.split → 3 ≤ need → more + 1 ≤ need → IsWhole a
+    → IsWhole b → Simulates z d as_value 1 k need a index → Simulates z d as_value 2 (k + 1) more b value
+    → Performs z d k need (piece (Begin at) ⨟ (a ⨟ b ⨟ pieces (element_stored kind.Double false (mode_of k place))))
+    (λ s. stopping number at s (λ u. then_go (then_go (index u) as_index) (λ i v. then_go (value v) (λ vs w.
+    then_go (led_located far kind.Double (Some place) (index_or_zero i) w) (λ p x. store p (kept p.kind vs) x)))))

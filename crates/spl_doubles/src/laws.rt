@@ -1,5 +1,5 @@
 //! The laws of this crate, as the contracts of functions that do nothing.
-ghost use Rattle.spl_doubles.specs.Laws.{DoubleConstantsSimulate, DoubleSumsSimulate, LowWordsSimulate, ExtensionsSimulate, DoubleVariablesAssigned};
+ghost use Rattle.spl_doubles.specs.Laws.{DoubleConstantsSimulate, DoubleSumsSimulate, DoubleSignsSimulate, LowWordsSimulate, ExtensionsSimulate, DoubleVariablesAssigned, DoubleCellsAssigned, DoubleElementsAssigned};
 
 /// A DOUBLE constant.
 pub fn constants_simulate()
@@ -9,6 +9,11 @@ pub fn constants_simulate()
 /// + and - of DOUBLEs.
 pub fn sums_simulate()
     ensures { DoubleSumsSimulate }
+{}
+
+/// + and - of one DOUBLE.
+pub fn signs_simulate()
+    ensures { DoubleSignsSimulate }
 {}
 
 /// A DOUBLE as a value of one word.
@@ -24,4 +29,14 @@ pub fn extensions_simulate()
 /// A DOUBLE that is stored in a variable.
 pub fn variables_are_assigned()
     ensures { DoubleVariablesAssigned }
+{}
+
+/// A DOUBLE that is stored through the word of a name.
+pub fn cells_are_assigned()
+    ensures { DoubleCellsAssigned }
+{}
+
+/// A DOUBLE that is stored in an element, whose index waits below it.
+pub fn elements_are_assigned()
+    ensures { DoubleElementsAssigned }
 {}

@@ -1,9 +1,9 @@
-//! Values of two words: DOUBLE constants, sums and transfers, and stores in variables, by their code wherever it stands.
+//! Values of two words: DOUBLE constants, sums, signs and transfers, and stores, by their code wherever it stands.
 #![tactic(auto)]
 
 mod laws;
 
 pub use laws::{
-    constants_simulate, extensions_simulate, low_words_simulate, sums_simulate,
-    variables_are_assigned,
+    cells_are_assigned, constants_simulate, elements_are_assigned, extensions_simulate,
+    low_words_simulate, signs_simulate, sums_simulate, variables_are_assigned,
 };

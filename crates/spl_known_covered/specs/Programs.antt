@@ -13,7 +13,7 @@ abbrev pub AllSo : Bool → List String → Type 0
 AllSo covered [] = Unit {0}
 AllSo covered (t ∷ ts) = IsSo covered t × AllSo covered ts
 
--- sums, loops, choices, elements of arrays, BYTEs, bit fields, pointers, DOUBLEs, what is declared and not called, calls of intrinsics, IF on
+-- sums, loops, choices, elements of arrays, BYTEs, bit fields, pointers, DOUBLEs and their elements, what is declared and not called, calls of intrinsics, IF on
 -- the condition code; and jumps: backwards, forwards, out of a FOR, inside one, and from one arm of a CASE to another
 abbrev pub covered_texts : List String
 covered_texts =
@@ -27,6 +27,7 @@ covered_texts =
     ∷ "BEGIN INTEGER I; LOGICAL ARRAY L(0:3); I.(4:3):=5; L(1).(0:2):=I.(4:3) END."
     ∷ "BEGIN INTEGER ARRAY A(0:3); INTEGER POINTER P; @P:=@A(1); P:=7; P(1):=P END."
     ∷ "BEGIN DOUBLE D; INTEGER I; D:=1D; D:=D+DOUBLE(I)-2D END."
+    ∷ "BEGIN DOUBLE ARRAY D(0:3); DOUBLE POINTER P; INTEGER I; @P:=@D(1); D(I):=-D(1); P:=P(1)+D(I) END."
     ∷ "BEGIN INTEGER I; PROCEDURE P; I:=1; I:=2 END."
     ∷ "BEGIN INTRINSIC TERMINATE; TERMINATE END."
     ∷ "BEGIN LOGICAL ARRAY W(0:3); INTEGER N; INTRINSIC READ,PRINT; N:=READ(W,-8); PRINT(W,-N,0) END."
@@ -38,11 +39,11 @@ covered_texts =
     ∷ "BEGIN INTEGER I,K; FOR I:=1 UNTIL 3 DO BEGIN M: K:=K+1; IF K<I THEN GO TO M END END."
     ∷ "BEGIN INTEGER I; CASE I OF BEGIN GO TO M; M: I:=2 END END." ∷ []
 
--- an element of DOUBLEs, also behind a label, a call of a procedure, an intrinsic within an expression, and a unit without a main body
+-- a DOUBLE as a value of one word, a relation of DOUBLEs behind a label, a call of a procedure, an intrinsic within an expression, and a unit without a main body
 abbrev pub other_texts : List String
 other_texts =
-    "BEGIN DOUBLE ARRAY D(0:3); D(1):=1D END."
-    ∷ "BEGIN DOUBLE ARRAY D(0:3); L: D(1):=1D; GO TO L END."
+    "BEGIN DOUBLE D; INTEGER I; I:=INTEGER(D) END."
+    ∷ "BEGIN DOUBLE D; INTEGER I; L: IF D<1D THEN I:=1; GO TO L END."
     ∷ "BEGIN INTEGER I; PROCEDURE P; I:=1; P END."
     ∷ "BEGIN LOGICAL ARRAY W(0:3); INTEGER N; INTRINSIC READ; N:=READ(W,4)+1 END."
     ∷ "$CONTROL SUBPROGRAM\nBEGIN INTEGER I; PROCEDURE P; I:=1; END." ∷ []

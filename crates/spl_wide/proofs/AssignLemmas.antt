@@ -1,7 +1,8 @@
--- Assignments of DOUBLE expressions to variables, in a tree.
+-- Assignments of DOUBLE expressions, in a tree: to variables, and by their targets.
 use Rattle.std.proofs.Common.{◌≡◌, ℕ, ◌+◌, ◌≤◌, Bool, true, false, List, refl, sym, ap, subst, ◌∙◌, arith}
-use Rattle.std.specs.Prelude.{Option, Some, None, ◌&&◌, if◌then◌else◌}
+use Rattle.std.specs.Prelude.{Option, Some, None, ◌&&◌, ◌||◌, if◌then◌else◌}
 use Rattle.std.proofs.lemmas.Bool.{false≢true}
+use Rattle.std.proofs.Math.Logic.{⊎_elim}
 use Rattle.spl_branch.specs.declared.pieces.Piece.{Piece}
 use Rattle.spl_branch.specs.declared.pieces.Piece.TheVariants.{Begin}
 use Rattle.spl_tree.specs.declared.expressions.Kind.{Kind}
@@ -14,9 +15,10 @@ use Rattle.spl_tree.specs.StatementTrees.{Target}
 use Rattle.spl_meaning.specs.Names as n
 use Rattle.spl_meaning.specs.Names.{Sort}
 use Rattle.spl_meaning.specs.Operations.{kept}
+use Rattle.spl_meaning.specs.Pending.{most}
 use Rattle.spl_meaning.specs.Places.{Place, data_word, above_base, below_base, below_return}
-use Rattle.spl_meaning.specs.References.{Here, Setting, Access, its_own, address_of, variable_located, own_located, locate_by, locate_target, store}
-use Rattle.spl_meaning.specs.States.{State, Outcome, then_go, stopping}
+use Rattle.spl_meaning.specs.References.{Here, Setting, Access, its_own, access_of, address_of, variable_located, own_located, locate_by, locate_target, store}
+use Rattle.spl_meaning.specs.States.{State, then_go, stopping}
 use Rattle.spl_meaning.specs.Statements.{is_intrinsic, is_intrinsic_alone, target_keeps_code, assign, assigned, alone_value, run}
 use Rattle.spl_meaning.specs.Values.{Callee, value}
 use Rattle.spl_code.specs.Calls.{Scope}
@@ -33,11 +35,17 @@ use Rattle.spl_values.specs.Reached.{is_reached, IsWhole}
 use Rattle.spl_values.proofs.VariableLemmas.{both}
 use Rattle.spl_values.proofs.WholeLemmas.{then_same}
 use Rattle.spl_doubles.proofs.StoreLemmas.{variables_assigned}
+use Rattle.spl_covered.specs.Covered.{is_covered}
 use Rattle.spl_covered.specs.Laws.{read_with}
+use Rattle.spl_covered.proofs.OperatorLemmas.{either}
+use Rattle.spl_covered.proofs.CoverLemmas.{covered_width, covered_whole, covered_gives}
 use Rattle.spl_targets.proofs.SameLemmas.{stopping_same, same_performs}
-use Rattle.spl_wide.specs.Wide.{is_wide_name, is_wide}
+use Rattle.spl_targets.proofs.ElementLemmas.{element_room}
+use Rattle.spl_wide.specs.Wide.{is_wide_name, is_wide_element, is_wide_led, is_wide}
 use Rattle.spl_wide.specs.Laws.{WideAssignmentsAreWhole, WideAssignmentsPerform}
+use Rattle.spl_wide.proofs.LedLemmas.{leading_case, led_of_element}
 use Rattle.spl_wide.proofs.WideLemmas.{IsWide, wide_case, wide_whole, wide_gives}
+use Rattle.spl_wide.proofs.TargetLemmas as targets
 
 -- a name on the left of := that is such is no intrinsic
 no_name : (st : Setting) (k : ℕ) (o : Option Sort) (pl : Option Place) → is_wide_name st k o pl ≡ true → is_intrinsic o ≡ false
@@ -58,8 +66,13 @@ no_name st k (Some n.unknown) pl e = refl
 
 -- so no such expression is the call of one
 no_intrinsic : (c : Scope) (st : Setting) (e : Tree) (k : ℕ) → is_wide c st e k ≡ true → is_intrinsic_alone c.names e ≡ false
-no_intrinsic c st (tree.Tree.named x tree.Trees.none at) k e = no_name st k (c.names x) (c.places x) e
-no_intrinsic c st (tree.Tree.named x (tree.Trees.and i is) at) k e = absurd (false≢true e)
+no_intrinsic c st (tree.Tree.named x tree.Trees.none at) k e =
+    ⊎_elim (λ own. no_name st k (c.names x) (c.places x) own) (λ led. (leading_case st x k (c.names x) (c.places x) led).alone)
+    (either (is_wide_name st k (c.names x) (c.places x)) (is_wide_led st k (access_of (c.names x)) (c.places x)) e)
+no_intrinsic c st (tree.Tree.named x (tree.Trees.and i tree.Trees.none) at) k e =
+    let two = both (is_wide_element st k (access_of (c.names x)) (c.places x)) (is_covered c st i k) e in
+    (leading_case st x k (c.names x) (c.places x) (led_of_element st k (access_of (c.names x)) (c.places x) two.0)).alone
+no_intrinsic c st (tree.Tree.named x (tree.Trees.and i (tree.Trees.and j js)) at) k e = absurd (false≢true e)
 no_intrinsic c st (tree.Tree.number v) k e = refl
 no_intrinsic c st (tree.Tree.truth b) k e = refl
 no_intrinsic c st (tree.Tree.binary o a b at) k e = refl
@@ -137,11 +150,27 @@ name_performs c results z call d number x there e at k need r enough alone whole
 
 -- ---- targets
 
+-- what is asked of an element that is stored
+element_parts : (c : Scope) (st : Setting) (x : List ℕ) (i e : Tree) (k : ℕ)
+    → (is_wide_element st k (access_of (c.names x)) (c.places x) && (is_covered c st i k && is_wide c st e (k + 1))) ≡ true
+    → (is_wide_element st k (access_of (c.names x)) (c.places x) ≡ true) × (is_covered c st i k ≡ true) × (is_wide c st e (k + 1) ≡ true)
+element_parts c st x i e k covered =
+    let two = both (is_wide_element st k (access_of (c.names x)) (c.places x)) (is_covered c st i k && is_wide c st e (k + 1)) covered in
+    let rest = both (is_covered c st i k) (is_wide c st e (k + 1)) two.1 in
+    (two.0, rest.0, rest.1)
+
 pub assigned_whole : WideAssignmentsAreWhole
 assigned_whole c st (stat.Target.plain (tree.Tree.named x tree.Trees.none there)) e at k covered =
-    let two = both (is_wide_name st k (c.scope.names x) (c.scope.places x)) (is_wide c.scope st e k) covered in
-    name_whole c st x there e at k (wide_case st x k (c.scope.names x) (c.scope.places x) two.0) (wide_whole c.scope st e k two.1)
-assigned_whole c st (stat.Target.plain (tree.Tree.named x (tree.Trees.and i is) there)) e at k covered = absurd (false≢true covered)
+    let own = is_wide_name st k (c.scope.names x) (c.scope.places x) in
+    let led = is_wide_led st k (access_of (c.scope.names x)) (c.scope.places x) in
+    let two = both (own || led) (is_wide c.scope st e k) covered in
+    let whole = wide_whole c.scope st e k two.1 in
+    ⊎_elim (λ one. name_whole c st x there e at k (wide_case st x k (c.scope.names x) (c.scope.places x) one) whole)
+    (λ other. targets.led_whole c st x there e at k other whole) (either own led two.0)
+assigned_whole c st (stat.Target.plain (tree.Tree.named x (tree.Trees.and i tree.Trees.none) there)) e at k covered =
+    let parts = element_parts c.scope st x i e k covered in
+    targets.element_whole c st x i there e at k parts.0 (covered_whole c.scope st i k parts.1) (wide_whole c.scope st e (k + 1) parts.2)
+assigned_whole c st (stat.Target.plain (tree.Tree.named x (tree.Trees.and i (tree.Trees.and j js)) there)) e at k covered = absurd (false≢true covered)
 assigned_whole c st (stat.Target.plain (tree.Tree.number w)) e at k covered = absurd (false≢true covered)
 assigned_whole c st (stat.Target.plain (tree.Tree.wide w)) e at k covered = absurd (false≢true covered)
 assigned_whole c st (stat.Target.plain (tree.Tree.text bytes)) e at k covered = absurd (false≢true covered)
@@ -158,10 +187,27 @@ assigned_whole c st (stat.Target.address x there) e at k covered = absurd (false
 
 pub assigned_performs : WideAssignmentsPerform
 assigned_performs c results z call d number (stat.Target.plain (tree.Tree.named x tree.Trees.none there)) e at k need covered enough =
-    let two = both (is_wide_name z.setting k (c.scope.names x) (c.scope.places x)) (is_wide c.scope z.setting e k) covered in
-    name_performs c results z call d number x there e at k need (wide_case z.setting x k (c.scope.names x) (c.scope.places x) two.0) (omega (arith, enough))
-    (no_intrinsic c.scope z.setting e k two.1) (wide_whole c.scope z.setting e k two.1) (wide_gives c.scope results z call d e k need two.1 (omega (arith, enough)))
-assigned_performs c results z call d number (stat.Target.plain (tree.Tree.named x (tree.Trees.and i is) there)) e at k need covered enough = absurd (false≢true covered)
+    let own = is_wide_name z.setting k (c.scope.names x) (c.scope.places x) in
+    let led = is_wide_led z.setting k (access_of (c.scope.names x)) (c.scope.places x) in
+    let two = both (own || led) (is_wide c.scope z.setting e k) covered in
+    let alone = no_intrinsic c.scope z.setting e k two.1 in
+    let whole = wide_whole c.scope z.setting e k two.1 in
+    let sim = wide_gives c.scope results z call d e k need two.1 (omega (arith, enough)) in
+    ⊎_elim
+    (λ one. name_performs c results z call d number x there e at k need (wide_case z.setting x k (c.scope.names x) (c.scope.places x) one) (omega (arith, enough)) alone
+    whole sim)
+    (λ other. targets.led_performs c results z call d number x there e at k need other (omega (arith, enough)) alone whole sim) (either own led two.0)
+assigned_performs c results z call d number (stat.Target.plain (tree.Tree.named x (tree.Trees.and i tree.Trees.none) there)) e at k need covered enough =
+    let parts = element_parts c.scope z.setting x i e k covered in
+    let room = element_room c.scope.names x i there e at need enough in
+    let index = covered_gives c.scope results z call d i k need parts.1 room.0 in
+    let more = most c.scope.names e + 8 in
+    targets.element_performs c results z call d number x i there e at k need more parts.0 (omega (arith, enough)) room.1
+    (no_intrinsic c.scope z.setting e (k + 1) parts.2) (covered_whole c.scope z.setting i k parts.1) (wide_whole c.scope z.setting e (k + 1) parts.2)
+    (subst (λ (j : ℕ). Simulates z d as_value j k need (code c.scope i as_value k) (λ s. value (read_with c.scope results z.setting) call i k s))
+    (covered_width c.scope z.setting i k parts.1) index)
+    (wide_gives c.scope results z call d e (k + 1) more parts.2 (omega arith))
+assigned_performs c results z call d number (stat.Target.plain (tree.Tree.named x (tree.Trees.and i (tree.Trees.and j js)) there)) e at k need covered enough = absurd (false≢true covered)
 assigned_performs c results z call d number (stat.Target.plain (tree.Tree.number w)) e at k need covered enough = absurd (false≢true covered)
 assigned_performs c results z call d number (stat.Target.plain (tree.Tree.wide w)) e at k need covered enough = absurd (false≢true covered)
 assigned_performs c results z call d number (stat.Target.plain (tree.Tree.text bytes)) e at k need covered enough = absurd (false≢true covered)

@@ -1,3 +1,5 @@
 -- In reading order.
+pub mod LedLemmas
 pub mod WideLemmas
+pub mod TargetLemmas
 pub mod AssignLemmas

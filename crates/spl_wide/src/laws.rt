@@ -7,7 +7,7 @@ pub fn wide_values_simulate()
     ensures value { WideValuesSimulate }
 {}
 
-/// Their assignments to variables.
+/// Their assignments.
 pub fn wide_assignments_perform()
     ensures whole { WideAssignmentsAreWhole }
     ensures one { WideAssignmentsPerform }

@@ -1,4 +1,4 @@
-//! DOUBLE expressions in a tree, and their assignments to variables, by their code wherever it stands.
+//! DOUBLE expressions in a tree, and their assignments, by their code wherever it stands.
 #![tactic(auto)]
 
 mod laws;
