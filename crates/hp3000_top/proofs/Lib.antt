@@ -2,7 +2,7 @@ pub mod ClosedJobs
 pub mod Loops
 pub mod Making
 pub mod Copies
-pub mod Filing
+pub mod FileLemmas
 pub mod LineLemmas
 pub mod Sureness
 pub mod Needs

@@ -7,7 +7,7 @@ use mpe_progfile::{read, write};
 use std::alloc::{AllocError, Global};
 
 /// An equal program, read of the program's file. Only memory may be wanting.
-#[tactic(auto, using(crate::proofs::Filing::copy_so))]
+#[tactic(auto, using(crate::proofs::FileLemmas::copy_so))]
 pub fn through_file(alloc: Global, program: &Program) -> Result<Program, AllocError>
     ensures { IfOk result (λ p. IsCopy program.now p) }
 {

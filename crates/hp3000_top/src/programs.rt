@@ -73,7 +73,6 @@ fn made_program(alloc: Global, text: &Text) -> Result<Program, Unmade>
 }
 
 /// The program that is made of a program's texts, as it is read of its file: what runs is what `prep` writes.
-#[tactic(auto, using(crate::proofs::Making::filed_is_made))]
 fn program_of(alloc: Global, text: &Text) -> Result<Program, Unmade>
     requires { ProgramFits 1048576 (text_value text.now) }
     ensures made { IfOk result (λ p. IsMade (text_value text.now).units p) }

@@ -1,5 +1,5 @@
 -- A program that is read of a program's file is equal to it.
-use Rattle.std.proofs.Common.{◌≡◌, List, Ok, ap}
+use Rattle.std.proofs.Common.{◌≡◌, ℕ, List, Ok, ap}
 use Rattle.hp_program.specs.declared.program.Program.{Program}
 use Rattle.mpe_progfile.specs.Files.{IsFile}
 use Rattle.mpe_progfile.specs.Laws.{GivesParts}
