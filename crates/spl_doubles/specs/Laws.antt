@@ -1,17 +1,18 @@
--- The laws of this crate: DOUBLE constants, sums, signs, transfers and stores, each over its parts as variables. The high word of a DOUBLE is the
--- lower one.
+-- The laws of this crate: DOUBLE constants, sums, relations, signs, transfers and stores, each over its parts as variables. The high word of a
+-- DOUBLE is the lower one.
 use Rattle.std.specs.Prelude.{◌≡◌, ℕ, ◌+◌, ◌≤◌, ◌<◌, ◌*◌, ◌/◌, ◌==◌, ◌||◌, Bool, true, false, List, Some}
 use Rattle.spl_tree.specs.declared.expressions.Kind.{Kind}
 use Rattle.spl_tree.specs.declared.expressions.Kind.TheVariants as kind
 use Rattle.spl_tree.specs.declared.names_and_places.At.{At}
 use Rattle.spl_branch.specs.declared.pieces.Piece.TheVariants.{Begin}
-use Rattle.spl_meaning.specs.Kinds.{Operand, of, doubles, positive, negative}
+use Rattle.spl_meaning.specs.Kinds.{Operand, of, doubles, positive, negative, is_relation, relation_number}
 use Rattle.spl_meaning.specs.Operations.{double_words, by_class, signed_done, transferred, kept}
 use Rattle.spl_meaning.specs.Places.{Place}
 use Rattle.spl_meaning.specs.References.{its_own, address_of, variable_located, led_located, index_or_zero, store}
 use Rattle.spl_meaning.specs.States.{State, Outcome, done, then_go, stopping}
 use Rattle.spl_meaning.specs.Values.{as_index}
-use Rattle.spl_code.specs.Code.{as_value}
+use Rattle.spl_code.specs.Code as made
+use Rattle.spl_code.specs.Code.{Aim, as_value}
 use Rattle.spl_code.specs.Constants.{double_constant}
 use Rattle.spl_code.specs.Operands.{mode_of}
 use Rattle.spl_code.specs.Operators.{class_operator, sign_operator, transfer}
@@ -31,6 +32,15 @@ abbrev pub DoubleSumsSimulate : Type 0
 DoubleSumsSimulate = (z : Surroundings) (d k need more op : ℕ) (a b : Part) (first other : State → Outcome (List ℕ)) → is_sum op ≡ true → IsWhole a
     → IsWhole b → Simulates z d as_value 2 k need a first → Simulates z d as_value 2 (k + 2) more b other → more + 2 ≤ need
     → Simulates z d as_value 2 k need (a ⨟ b ⨟ pieces (class_operator doubles op))
+    (λ s. then_go (first s) (λ vs t. then_go (other t) (λ us u. by_class doubles op vs us u)))
+
+-- A relation of two DOUBLEs: both are compared, and the test leads to its mark in the codes in which it does not hold. As a value it is all ones, or
+-- zero.
+abbrev pub DoubleRelationsSimulate : Type 0
+DoubleRelationsSimulate = (z : Surroundings) (d k need more op : ℕ) (aim : Aim) (a b : Part) (first other : State → Outcome (List ℕ))
+    → is_relation op ≡ true → IsWhole a → IsWhole b → Simulates z d as_value 2 k need a first
+    → Simulates z d as_value 2 (k + 2) more b other → more + 2 ≤ need
+    → Simulates z d aim 1 k need (made.compared (relation_number op) doubles aim (a ⨟ b))
     (λ s. then_go (first s) (λ vs t. then_go (other t) (λ us u. by_class doubles op vs us u)))
 
 -- + and -: + leaves the value, and - traps where the result is out of range.

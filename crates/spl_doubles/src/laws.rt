@@ -1,5 +1,5 @@
 //! The laws of this crate, as the contracts of functions that do nothing.
-ghost use Rattle.spl_doubles.specs.Laws.{DoubleConstantsSimulate, DoubleSumsSimulate, DoubleSignsSimulate, LowWordsSimulate, ExtensionsSimulate, DoubleVariablesAssigned, DoubleCellsAssigned, DoubleElementsAssigned};
+ghost use Rattle.spl_doubles.specs.Laws.{DoubleConstantsSimulate, DoubleSumsSimulate, DoubleRelationsSimulate, DoubleSignsSimulate, LowWordsSimulate, ExtensionsSimulate, DoubleVariablesAssigned, DoubleCellsAssigned, DoubleElementsAssigned};
 
 /// A DOUBLE constant.
 pub fn constants_simulate()
@@ -9,6 +9,11 @@ pub fn constants_simulate()
 /// + and - of DOUBLEs.
 pub fn sums_simulate()
     ensures { DoubleSumsSimulate }
+{}
+
+/// A relation of DOUBLEs.
+pub fn relations_simulate()
+    ensures { DoubleRelationsSimulate }
 {}
 
 /// + and - of one DOUBLE.
