@@ -1,6 +1,6 @@
 -- Arguments: a value as its parameter holds it, or the word of a name that is the address of what it leads to.
-use Rattle.std.proofs.Common.{◌≡◌, ℕ, ◌+◌, ◌-◌, ◌*◌, ◌%◌, ◌≤◌, ◌<◌, Bool, true, false, List, [], ◌∷◌, ◌++◌, refl, sym, ap, subst, ◌∙◌, arith}
-use Rattle.std.specs.Prelude.{Option, Some, None, ◌&&◌, not, if◌then◌else◌, max}
+use Rattle.std.proofs.Common.{◌≡◌, ℕ, ◌+◌, ◌-◌, ◌≤◌, Bool, true, false, List, [], ◌∷◌, ◌++◌, refl, sym, ap, subst, ◌∙◌, arith}
+use Rattle.std.specs.Prelude.{Option, Some, None, if◌then◌else◌}
 use Rattle.std.proofs.lemmas.Bool.{false≢true}
 use Rattle.std.proofs.lemmas.List.{append-nil}
 use Rattle.hp_session.specs.State.{Machine}
@@ -10,12 +10,11 @@ use Rattle.spl_tree.specs.declared.names_and_places.At.{At}
 use Rattle.spl_tree.specs.Trees as tree
 use Rattle.spl_tree.specs.Trees.{Tree, Trees}
 use Rattle.spl_branch.specs.declared.pieces.Piece.{Piece}
-use Rattle.spl_meaning.specs.Names.{Formal}
 use Rattle.spl_meaning.specs.Operations.{passed}
-use Rattle.spl_meaning.specs.Pending.{by_value, value_words, formal_words, formals_words, most, most_of}
+use Rattle.spl_meaning.specs.Pending.{by_value, value_words, formal_words, formals_words, most}
 use Rattle.spl_meaning.specs.Places.{Place}
 use Rattle.spl_meaning.specs.References.{Here, Setting, locate}
-use Rattle.spl_meaning.specs.States.{Data, State, Exit, Outcome, done, leaves, spent, ends, strays, then_go}
+use Rattle.spl_meaning.specs.States.{Data, State, Outcome, done, leaves, spent, ends, strays, then_go}
 use Rattle.spl_meaning.specs.Values as run
 use Rattle.spl_meaning.specs.Values.{Callee, value, located, index, address_done}
 use Rattle.spl_code.specs.Calls.{Scope}
@@ -24,17 +23,16 @@ use Rattle.spl_code.specs.Operators.{as_parameter}
 use Rattle.spl_code.specs.Parts.{Part, pieces, nothing, ◌⨟◌}
 use Rattle.spl_follow.specs.Spots.{Spot, pos, Ground}
 use Rattle.spl_follow.specs.Matching.{IsValue}
-use Rattle.spl_follow.specs.Following.{Rate, Tally, tally, tally_with, Follows, NoExit}
+use Rattle.spl_follow.specs.Following.{Rate, Tally, tally_with, Follows, NoExit}
 use Rattle.spl_follow.specs.Standing.{Stands, due_after}
 use Rattle.spl_follow.specs.Simulating.{Surroundings, Simulates}
-use Rattle.spl_follow.proofs.FollowLemmas.{go_done}
 use Rattle.spl_values.specs.Reached.{IsWhole}
 use Rattle.spl_values.proofs.VariableLemmas.{both}
-use Rattle.spl_values.proofs.WholeLemmas.{whole_pieces, whole_first, whole_last, whole_then, then_same, same_simulates, first_simulates, last_simulates}
+use Rattle.spl_values.proofs.WholeLemmas.{whole_last, whole_then, same_simulates, last_simulates}
 use Rattle.spl_covered.specs.Covered.{is_covered}
 use Rattle.spl_covered.specs.Laws.{read_with}
 use Rattle.spl_covered.proofs.CoverLemmas.{covered_width, covered_whole, covered_gives}
-use Rattle.spl_intrinsics.proofs.RoomLemmas.{joined, more_room}
+use Rattle.spl_intrinsics.proofs.RoomLemmas.{joined}
 use Rattle.spl_arguments.specs.Covered.{is_passed_word, is_covered_reference, is_covered_argument, are_covered_arguments}
 use Rattle.spl_arguments.specs.Laws.{ArgumentsAreWhole, ArgumentsSimulate}
 

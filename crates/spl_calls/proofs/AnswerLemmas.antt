@@ -1,6 +1,6 @@
 -- Assignments of what an intrinsic answers, along the tree.
-use Rattle.std.proofs.Common.{◌≡◌, ℕ, ◌+◌, ◌-◌, ◌≤◌, Bool, true, false, List, [], ◌∷◌, ◌++◌, refl, sym, ap, subst, ◌∙◌, arith}
-use Rattle.std.specs.Prelude.{Option, Some, None, ◌&&◌, ◌==◌, max, if◌then◌else◌}
+use Rattle.std.proofs.Common.{◌≡◌, ℕ, ◌+◌, ◌-◌, ◌≤◌, Bool, true, false, List, refl, sym, ap, subst, ◌∙◌, arith}
+use Rattle.std.specs.Prelude.{Option, Some, None, ◌&&◌, ◌==◌, if◌then◌else◌}
 use Rattle.std.proofs.lemmas.Bool.{false≢true, eqb-true}
 use Rattle.hp_word.specs.declared.intrinsics.Intrinsic.{Intrinsic}
 use Rattle.hp_word.specs.declared.intrinsics.Intrinsic.TheVariants as gate
@@ -15,17 +15,17 @@ use Rattle.spl_tree.specs.StatementTrees.{Target}
 use Rattle.spl_meaning.specs.Names as n
 use Rattle.spl_meaning.specs.Names.{Sort, intrinsic_profile}
 use Rattle.spl_meaning.specs.Operations.{kept}
-use Rattle.spl_meaning.specs.Pending.{most, result_words, statement_most}
+use Rattle.spl_meaning.specs.Pending.{most, result_words}
 use Rattle.spl_meaning.specs.Places.{Place, data_word, above_base, below_base, below_return}
 use Rattle.spl_meaning.specs.References.{Here, Setting, Access, its_own, target_access, address_of, variable_located, own_located, locate_by, locate_target, store}
 use Rattle.spl_meaning.specs.Serving.{served}
 use Rattle.spl_meaning.specs.States.{State, Outcome, then_go, stopping}
-use Rattle.spl_meaning.specs.Statements.{is_intrinsic, is_intrinsic_alone, keeps_code, target_keeps_code, intrinsic_value, alone_value, assigned, assign, run}
+use Rattle.spl_meaning.specs.Statements.{is_intrinsic, keeps_code, intrinsic_value, assigned, assign, run}
 use Rattle.spl_meaning.specs.Values as run
-use Rattle.spl_meaning.specs.Values.{Callee, Sense, sense_of, value}
+use Rattle.spl_meaning.specs.Values.{Callee, sense_of, value}
 use Rattle.spl_code.specs.Calls.{Scope}
 use Rattle.spl_code.specs.Code as made
-use Rattle.spl_code.specs.Code.{as_value, closing, index, variable, is_indexed, code}
+use Rattle.spl_code.specs.Code.{as_value, closing, index, variable, is_indexed}
 use Rattle.spl_code.specs.Operands.{at_place}
 use Rattle.spl_code.specs.Parts.{Part, pieces, piece, nothing, ◌⨟◌}
 use Rattle.spl_code.specs.Stores.{stored}
@@ -39,14 +39,13 @@ use Rattle.spl_follow.specs.Simulating.{Surroundings, Performs}
 use Rattle.spl_values.specs.Reached.{is_word_kind, is_reached, IsWhole}
 use Rattle.spl_values.proofs.VariableLemmas.{both}
 use Rattle.spl_values.proofs.WholeLemmas.{whole_behind, whole_first, then_same}
-use Rattle.spl_covered.specs.Covered.{has_reached}
 use Rattle.spl_covered.specs.Laws.{read_with}
 use Rattle.spl_targets.proofs.SameLemmas.{stopping_same, same_performs}
 use Rattle.spl_intrinsics.specs.Laws.{is_answered}
 use Rattle.spl_intrinsics.specs.Calls.{asked}
 use Rattle.spl_intrinsics.proofs.AskLemmas.{asked_whole}
 use Rattle.spl_intrinsics.proofs.PerformLemmas.{answers_assigned}
-use Rattle.spl_calls.specs.Covered.{is_covered_question, is_covered_value, is_answered_name, is_covered_answer}
+use Rattle.spl_calls.specs.Covered.{is_covered_question, is_covered_value, is_answered_name}
 use Rattle.spl_calls.specs.Laws.{MayCall, AnswersAreWhole, AnswersPerform}
 use Rattle.spl_calls.proofs.CallLemmas.{IsQuestion, question_case, question_asked, question_whole, begun_whole, call_most}
 

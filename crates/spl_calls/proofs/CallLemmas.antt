@@ -1,6 +1,6 @@
 -- Calls of intrinsics along the tree: their code is whole, and performs them.
 use Rattle.std.proofs.Common.{◌≡◌, ℕ, ◌+◌, ◌-◌, ◌≤◌, Bool, true, false, List, [], ◌∷◌, ◌++◌, refl, sym, ap, subst, ◌∙◌, arith}
-use Rattle.std.specs.Prelude.{Option, Some, None, ◌&&◌, ◌==◌, not, max, if◌then◌else◌}
+use Rattle.std.specs.Prelude.{Option, Some, None, ◌&&◌, not, max, if◌then◌else◌}
 use Rattle.std.proofs.lemmas.Bool.{false≢true, eqb-true}
 use Rattle.std.proofs.lemmas.List.{append-nil}
 use Rattle.hp_word.specs.declared.intrinsics.Intrinsic.{Intrinsic}
@@ -13,29 +13,25 @@ use Rattle.spl_tree.specs.declared.names_and_places.At.{At}
 use Rattle.spl_tree.specs.Trees as tree
 use Rattle.spl_tree.specs.Trees.{Tree, Trees}
 use Rattle.spl_tree.specs.StatementTrees as stat
-use Rattle.spl_tree.specs.StatementTrees.{Target}
 use Rattle.spl_meaning.specs.Names as n
-use Rattle.spl_meaning.specs.Names.{Sort, Formal, Profile, intrinsic_named, intrinsic_profile}
+use Rattle.spl_meaning.specs.Names.{Sort, Formal, intrinsic_named, intrinsic_profile}
 use Rattle.spl_meaning.specs.Kinds.{callable}
-use Rattle.spl_meaning.specs.Operations.{passed, kept}
-use Rattle.spl_meaning.specs.Pending.{most, most_of, formals_words, profile_formals, profile_result_words, link_words, result_words, statement_most}
-use Rattle.spl_meaning.specs.Places.{Place, data_word, above_base, below_base, below_return}
-use Rattle.spl_meaning.specs.References.{Here, Setting, Access, its_own, target_access, address_of, variable_located, own_located, locate_by, locate_target, store}
+use Rattle.spl_meaning.specs.Operations.{passed}
+use Rattle.spl_meaning.specs.Pending.{most, most_of, formals_words, profile_formals, profile_result_words, link_words, result_words}
+use Rattle.spl_meaning.specs.Places.{Place}
+use Rattle.spl_meaning.specs.References.{Here, Setting}
 use Rattle.spl_meaning.specs.Serving.{served}
 use Rattle.spl_meaning.specs.States.{State, Outcome, done, leaves, spent, ends, strays, then_go, stopping}
-use Rattle.spl_meaning.specs.Statements.{is_intrinsic, keeps_code, intrinsic_value, alone_value, value_dropped, call_statement, assigned, assign, run}
+use Rattle.spl_meaning.specs.Statements.{is_intrinsic, intrinsic_value, value_dropped, call_statement, run}
 use Rattle.spl_meaning.specs.Values as run
 use Rattle.spl_meaning.specs.Values.{Callee, sense_of, value}
 use Rattle.spl_code.specs.Calls.{Scope}
 use Rattle.spl_code.specs.Code as made
 use Rattle.spl_code.specs.Code.{as_value, closing, named, index, variable, is_indexed, code}
-use Rattle.spl_code.specs.Operands.{at_place}
 use Rattle.spl_code.specs.Parts.{Part, pieces, piece, nothing, ◌⨟◌, wanted_place, with_wanted}
-use Rattle.spl_code.specs.Stores.{stored}
 use Rattle.spl_branch.specs.declared.pieces.Piece.{Piece}
 use Rattle.spl_branch.specs.declared.pieces.Piece.TheVariants.{Call, Begin}
 use Rattle.hp_instr.specs.declared.instruction.Instr.TheVariants as i
-use Rattle.spl_statement_code.specs.Assignments.{assigned_access}
 use Rattle.spl_statement_code.specs.Landings.{Context}
 use Rattle.spl_statement_code.specs.Statements.{statement, result_dropped, result_of}
 use Rattle.spl_follow.specs.Simulating.{Surroundings, Simulates, Performs}
@@ -44,21 +40,21 @@ use Rattle.spl_follow.proofs.StandLemmas.{closed_last}
 use Rattle.spl_endings.specs.Laws.{called}
 use Rattle.spl_endings.proofs.WantLemmas.{wanted_keeps}
 use Rattle.spl_endings.proofs.CallLemmas.{terminate_performs, quit_performs}
-use Rattle.spl_values.specs.Reached.{is_word_kind, is_reached, IsWhole}
+use Rattle.spl_values.specs.Reached.{IsWhole}
 use Rattle.spl_values.proofs.VariableLemmas.{both}
 use Rattle.spl_values.proofs.SumLemmas.{front_on}
-use Rattle.spl_values.proofs.WholeLemmas.{whole_behind, whole_last, then_same}
-use Rattle.spl_covered.specs.Covered.{has_reached, is_covered}
+use Rattle.spl_values.proofs.WholeLemmas.{whole_behind, whole_last}
+use Rattle.spl_covered.specs.Covered.{is_covered}
 use Rattle.spl_covered.specs.Laws.{read_with}
 use Rattle.spl_covered.proofs.CoverLemmas.{covered_width, covered_whole, covered_gives}
 use Rattle.spl_targets.proofs.SameLemmas.{stopping_same, same_performs}
 use Rattle.spl_intrinsics.specs.Laws.{is_answered}
 use Rattle.spl_intrinsics.specs.Calls.{asked, IsAsked}
-use Rattle.spl_intrinsics.proofs.AskLemmas.{asked_whole, drops_of}
-use Rattle.spl_intrinsics.proofs.PerformLemmas.{calls_perform, answers_assigned}
+use Rattle.spl_intrinsics.proofs.AskLemmas.{asked_whole}
+use Rattle.spl_intrinsics.proofs.PerformLemmas.{calls_perform}
 use Rattle.spl_arguments.specs.Covered.{are_covered_arguments, is_covered_argument}
 use Rattle.spl_arguments.proofs.ArgumentLemmas.{arguments_whole, arguments_give}
-use Rattle.spl_calls.specs.Covered.{entry_of, is_that, is_covered_question, is_covered_call, is_covered_value}
+use Rattle.spl_calls.specs.Covered.{entry_of, is_that, is_covered_question, is_covered_call}
 use Rattle.spl_calls.specs.Laws.{MayCall, CallsAreWhole, CallsPerform}
 
 -- ---- which intrinsic

@@ -1,9 +1,8 @@
 -- A program whose main body is covered follows the run of its units.
-use Rattle.std.proofs.Common.{◌≡◌, ℕ, zero, suc, ◌+◌, ◌-◌, ◌*◌, ◌≤◌, Bool, true, false, List, [], ◌∷◌, ◌++◌, length, Option, Some, None, refl, sym, ap, subst, ◌∙◌, arith, inl, ◌<◌}
-use Rattle.std.specs.Prelude.{◌==◌, ◌&&◌, ◌||◌, not, nat_eq, nat_le, slice_get, option_map, codes, if◌then◌else◌}
+use Rattle.std.proofs.Common.{◌≡◌, ℕ, zero, suc, ◌+◌, ◌-◌, ◌≤◌, Bool, true, false, List, [], ◌∷◌, ◌++◌, length, Option, Some, None, refl, sym, ap, subst, ◌∙◌, arith}
+use Rattle.std.specs.Prelude.{◌==◌, ◌||◌, not, nat_eq, slice_get, option_map, codes, if◌then◌else◌}
 use Rattle.std.specs.List.{list_all}
-use Rattle.std.proofs.lemmas.Bool.{and_parts, eqb-true, leb-true, not-true, false≢true}
-use Rattle.hp_word.specs.declared.endings.Ending.TheVariants.{Running, Terminated}
+use Rattle.std.proofs.lemmas.Bool.{and_parts, eqb-true, not-true, false≢true}
 use Rattle.hp_word.specs.declared.intrinsics.Intrinsic.TheVariants as gate
 use Rattle.hp_instr.specs.declared.instruction.Instr.TheVariants as i
 use Rattle.hp_program.specs.declared.program.Program.{Program}

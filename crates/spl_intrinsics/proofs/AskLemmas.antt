@@ -1,60 +1,45 @@
 -- Calls of intrinsics by their code: the words, the call behind them, and what is done with the answer.
-use Rattle.std.proofs.Common.{◌≡◌, ℕ, zero, suc, ◌+◌, ◌-◌, ◌≤◌, ◌<◌, Bool, true, false, List, [], ◌∷◌, ◌++◌, length, replicate, refl, sym, ap, subst, ◌∙◌, arith}
-use Rattle.std.specs.Prelude.{drop, take, Ok}
-use Rattle.std.proofs.lemmas.Bool.{false≢true}
+use Rattle.std.proofs.Common.{◌≡◌, ℕ, zero, suc, ◌+◌, ◌-◌, ◌≤◌, true, List, [], ◌∷◌, ◌++◌, length, replicate, refl, sym, ap, subst, ◌∙◌, arith}
+use Rattle.std.specs.Prelude.{drop, take}
 use Rattle.std.proofs.lemmas.List.{append-nil, length-drop, length-take-le, take-append-drop}
 use Rattle.hp_word.specs.declared.intrinsics.Intrinsic.{Intrinsic}
 use Rattle.hp_word.specs.declared.intrinsics.Intrinsic.TheVariants as which
 use Rattle.hp_word.specs.Intrinsics.{parameter_words, answer_words}
 use Rattle.hp_instr.specs.declared.instruction.Instr.TheVariants as i
-use Rattle.hp_instr.specs.Instructions.{op}
-use Rattle.hp_session.specs.State.{Machine, word}
-use Rattle.hp_stack_rows.specs.StackRows.{operated}
-use Rattle.hp_flat.specs.Step.{at_left}
-use Rattle.hp_yields.proofs.StackYields as rows
-use Rattle.spl_tree.specs.declared.expressions.Kind.{Kind}
-use Rattle.spl_tree.specs.declared.expressions.Kind.TheVariants as kind
-use Rattle.spl_tree.specs.declared.names_and_places.At.{At}
+use Rattle.hp_session.specs.State.{Machine}
 use Rattle.spl_branch.specs.declared.pieces.Piece.{Piece}
-use Rattle.spl_branch.specs.declared.pieces.Piece.TheVariants.{Call, Begin}
+use Rattle.spl_branch.specs.declared.pieces.Piece.TheVariants.{Call}
 use Rattle.spl_meaning.specs.Laws.{IsFront}
-use Rattle.spl_meaning.specs.Names.{intrinsic_named, intrinsic_profile}
+use Rattle.spl_meaning.specs.Names.{intrinsic_profile}
 use Rattle.spl_meaning.specs.Operations.{kept}
-use Rattle.spl_meaning.specs.Places.{Place}
-use Rattle.spl_meaning.specs.References.{Setting, address_of, variable_located, store}
+use Rattle.spl_meaning.specs.References.{Setting}
 use Rattle.spl_meaning.specs.Serving as run
-use Rattle.spl_meaning.specs.States.{Data, State, Begun, Outcome, done, leaves, spent, ends, strays, then_go, stopping}
-use Rattle.spl_meaning.specs.Statements.{value_dropped}
+use Rattle.spl_meaning.specs.States.{Data, State, Begun, Outcome, done, then_go}
 use Rattle.spl_code.specs.Calls.{result_room, result_taken}
-use Rattle.spl_code.specs.Code.{as_value}
 use Rattle.spl_code.specs.Instructions.{DEL, DDEL}
-use Rattle.spl_code.specs.Parts.{Part, Wanted, pieces, piece, nothing, ◌⨟◌, wanted_place, with_wanted}
+use Rattle.spl_code.specs.Parts.{Part, Wanted, pieces, nothing, ◌⨟◌, wanted_place, with_wanted}
 use Rattle.spl_statement_code.specs.Statements.{result_dropped}
 use Rattle.spl_frames.specs.Words.{AreWords}
-use Rattle.spl_follow.specs.Spots.{Spot, spot, pos, Point, on, Ground}
+use Rattle.spl_follow.specs.Spots.{Spot, pos, Point, on, Ground}
 use Rattle.spl_follow.specs.Leading.{Leads}
-use Rattle.spl_follow.specs.Matching.{Matched, Kept, Stand, IsValue, IsAnswer}
-use Rattle.spl_follow.specs.Following.{Rate, tally, tally_with, Follows, NoExit}
-use Rattle.spl_follow.specs.Doing.{Way, calling, doing}
+use Rattle.spl_follow.specs.Matching.{Stand, IsValue, IsAnswer}
+use Rattle.spl_follow.specs.Following.{tally_with, Follows, NoExit}
+use Rattle.spl_follow.specs.Doing.{calling}
 use Rattle.spl_follow.specs.Standing.{Sites, Stands, IsClosed}
-use Rattle.spl_follow.specs.Parts.{Ready, Completes, Leaving}
-use Rattle.spl_follow.specs.Simulating.{Surroundings, Simulates, Performs}
-use Rattle.spl_follow.proofs.FollowLemmas.{bind_follows, no_exit, widen}
+use Rattle.spl_follow.specs.Parts.{Ready}
+use Rattle.spl_follow.specs.Simulating.{Surroundings}
+use Rattle.spl_follow.proofs.FollowLemmas.{bind_follows}
 use Rattle.spl_follow.proofs.KeepLemmas.{kept_top, kept_stack}
-use Rattle.spl_follow.proofs.PartLemmas.{stand_in_order, statements_begin_noted}
-use Rattle.spl_follow.proofs.RowLemmas.{row_drops}
+use Rattle.spl_follow.proofs.PartLemmas.{stand_in_order}
 use Rattle.spl_follow.proofs.StackLemmas.{stand_last}
 use Rattle.spl_follow.proofs.StandLemmas.{closed_last}
-use Rattle.spl_follow.proofs.WayLemmas.{goes_none}
 use Rattle.spl_values.specs.Reached.{IsWhole}
-use Rattle.spl_values.proofs.GiveLemmas.{last_leads}
 use Rattle.spl_values.proofs.SumLemmas.{front_on}
-use Rattle.spl_endings.specs.Gates.{Served, GatesLead}
 use Rattle.spl_endings.proofs.WantLemmas.{wanted_there, wanted_keeps}
-use Rattle.spl_intrinsics.specs.Laws.{is_answered, Asks}
-use Rattle.spl_intrinsics.specs.Calls.{asked, IsAsked, CallsPerform}
+use Rattle.spl_intrinsics.specs.Laws.{Asks}
+use Rattle.spl_intrinsics.specs.Calls.{asked, IsAsked}
 use Rattle.spl_intrinsics.proofs.CallLemmas.{answers}
-use Rattle.spl_intrinsics.proofs.RoomLemmas.{Rooms, rooms_of, room_whole, room_and, behind_room}
+use Rattle.spl_intrinsics.proofs.RoomLemmas.{rooms_of, room_whole, room_and, behind_room}
 
 -- ---- the call behind its words
 

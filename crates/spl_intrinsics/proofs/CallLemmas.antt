@@ -1,6 +1,6 @@
 -- What the gate does with a call is what the run does: it strays, traps, or answers.
-use Rattle.std.proofs.Common.{◌≡◌, ℕ, zero, suc, ◌+◌, ◌-◌, ◌*◌, ◌<◌, ◌≤◌, Bool, true, false, List, [], ◌∷◌, ◌++◌, map, length, Option, None, Some, refl, sym, ap, subst, ◌∙◌, arith, inl}
-use Rattle.std.specs.Prelude.{Ok, Err, drop, take, slice_get, slice_index, nat_le, not, if◌then◌else◌}
+use Rattle.std.proofs.Common.{◌≡◌, ℕ, zero, suc, ◌+◌, ◌-◌, ◌*◌, ◌≤◌, Bool, true, false, List, [], ◌∷◌, ◌++◌, map, length, Option, None, Some, refl, sym, ap, subst, ◌∙◌, arith, inl}
+use Rattle.std.specs.Prelude.{Err, drop, take, slice_get, slice_index, nat_le, not, if◌then◌else◌}
 use Rattle.std.proofs.Math.ListN.{drop_of_length-le}
 use Rattle.std.proofs.Math.Seq.{drop-cons, drop-append_seam}
 use Rattle.std.proofs.lemmas.List.{append-nil, append_assoc, length-append}
@@ -17,17 +17,15 @@ use Rattle.hp_call_rows.specs.GateRows.{stack_byte, effect, ending_or, code_or, 
 use Rattle.hp_flat.specs.Step.{at_left, ended}
 use Rattle.hp_call_yields.proofs.GateYields.{intrinsic_done, intrinsic_out, intrinsic_full}
 use Rattle.spl_meaning.specs.References.{Setting}
-use Rattle.spl_meaning.specs.Runs.{AreBytes}
-use Rattle.spl_meaning.specs.Serving as run
-use Rattle.spl_meaning.specs.Serving.{byte_of, touched, all_below, all_data, with_bytes, with_print, lines_taken, carried_out, answered, effected}
-use Rattle.spl_meaning.specs.States.{Data, State, Begun, End, trapped, Outcome, done, spent, ends, strays, step_of, stepping, printed_size, all_printed}
+use Rattle.spl_meaning.specs.Serving.{byte_of, touched, all_below, all_data, with_bytes, with_print, lines_taken, carried_out, answered}
+use Rattle.spl_meaning.specs.States.{Data, State, Begun, trapped, ends, strays, step_of, stepping, printed_size, all_printed}
 use Rattle.spl_frames.specs.Words.{AreWords}
 use Rattle.spl_frames.proofs.Steady.{BytesOf}
 use Rattle.spl_frames.proofs.WordFacts.{IsWord, line_bytes, called_right}
-use Rattle.spl_follow.specs.Spots.{Spot, spot, pos, landed, Point, Ground, as_print, print_between}
+use Rattle.spl_follow.specs.Spots.{Spot, pos, landed, Point, Ground, as_print, print_between}
 use Rattle.spl_follow.specs.Leading.{Leads}
-use Rattle.spl_follow.specs.Matching.{Outer, outer, expected, Matches, Matched, Kept, Stand, Coded, Shows, IsAnswer}
-use Rattle.spl_follow.specs.Following.{Rate, Tally, tally, tally_with, Owes, Goes, Follows, NoExit}
+use Rattle.spl_follow.specs.Matching.{Outer, outer, expected, Matched, Stand, Coded, Shows, IsAnswer}
+use Rattle.spl_follow.specs.Following.{Rate, Tally, tally, tally_with, Goes, Follows, NoExit}
 use Rattle.spl_follow.specs.Doing.{Way, going, calling, procedure_called}
 use Rattle.spl_follow.proofs.FollowLemmas.{widen}
 use Rattle.spl_follow.proofs.KeepLemmas.{kept_on, kept_top, matched_length}
@@ -35,7 +33,7 @@ use Rattle.spl_follow.proofs.RowLemmas.{shown, stray_here, row_trap}
 use Rattle.spl_follow.proofs.StackLemmas.{replaced_length, beneath, stand_behind}
 use Rattle.spl_follow.proofs.WayLemmas.{goes_wider, lead_printing}
 use Rattle.spl_endings.specs.Gates.{Served}
-use Rattle.spl_intrinsics.specs.Laws.{is_answered, Asks, IntrinsicsAnswer}
+use Rattle.spl_intrinsics.specs.Laws.{Asks, IntrinsicsAnswer}
 use Rattle.spl_intrinsics.proofs.EffectLemmas.{Alike, calls_alike, calls_same, Answers, calls_answer, bounds_are, not_below, data_below, bytes_agree, data_parts}
 use Rattle.spl_intrinsics.proofs.StoreLemmas.{Standing, Puts, bytes_put}
 

@@ -1,7 +1,6 @@
 -- Calls of intrinsics as statements: the answer is deleted, or stored in a variable.
-use Rattle.std.proofs.Common.{◌≡◌, ℕ, ◌+◌, ◌-◌, ◌≤◌, Bool, true, false, List, [], ◌∷◌, ◌++◌, length, Ok, Some, slice_index, refl, sym, ap, subst, ◌∙◌, arith}
+use Rattle.std.proofs.Common.{◌≡◌, ℕ, ◌+◌, ◌-◌, ◌≤◌, true, false, List, [], ◌∷◌, length, Some, slice_index, refl, sym, ap, subst, ◌∙◌, arith}
 use Rattle.std.proofs.lemmas.Bool.{false≢true}
-use Rattle.std.proofs.lemmas.List.{append-nil}
 use Rattle.hp_word.specs.declared.arithmetic.Code.{Code}
 use Rattle.hp_word.specs.declared.intrinsics.Intrinsic.{Intrinsic}
 use Rattle.hp_word.specs.Intrinsics.{answer_words}
@@ -15,26 +14,24 @@ use Rattle.spl_tree.specs.declared.expressions.Kind.{Kind}
 use Rattle.spl_tree.specs.declared.expressions.Kind.TheVariants as kind
 use Rattle.spl_tree.specs.declared.names_and_places.At.{At}
 use Rattle.spl_branch.specs.declared.pieces.Piece.{Piece}
-use Rattle.spl_branch.specs.declared.pieces.Piece.TheVariants.{Call, Begin, Do}
+use Rattle.spl_branch.specs.declared.pieces.Piece.TheVariants.{Begin, Do}
 use Rattle.spl_meaning.specs.Names.{intrinsic_profile}
 use Rattle.spl_meaning.specs.Kinds.{width}
 use Rattle.spl_meaning.specs.Operations.{kept}
 use Rattle.spl_meaning.specs.Places.{Place, data_word, above_base, below_base, below_return}
-use Rattle.spl_meaning.specs.References.{its_own, Setting, Located, address_of, variable_located, store}
+use Rattle.spl_meaning.specs.References.{Setting, address_of, variable_located, store}
 use Rattle.spl_meaning.specs.Serving as run
 use Rattle.spl_meaning.specs.States.{Data, State, Outcome, done, then_go, stopping}
 use Rattle.spl_meaning.specs.Statements.{value_dropped}
-use Rattle.spl_code.specs.Instructions.{DEL, DDEL, STOR}
 use Rattle.spl_code.specs.Operands.{mode_of}
-use Rattle.spl_code.specs.Parts.{Part, Wanted, pieces, piece, nothing, ◌⨟◌, wanted_place}
-use Rattle.spl_code.specs.Stores.{stored}
+use Rattle.spl_code.specs.Parts.{Part, pieces, piece, nothing, ◌⨟◌}
 use Rattle.spl_statement_code.specs.Statements.{result_dropped}
 use Rattle.spl_follow.specs.Spots.{Spot, pos, Point, on, Ground}
 use Rattle.spl_follow.specs.Leading.{Leads}
-use Rattle.spl_follow.specs.Matching.{Matched, Coded, Arrives, IsAnswer}
+use Rattle.spl_follow.specs.Matching.{Matched, Coded, IsAnswer}
 use Rattle.spl_follow.specs.Following.{Rate, tally, tally_with, Follows, NoExit}
 use Rattle.spl_follow.specs.Doing.{doing}
-use Rattle.spl_follow.specs.Standing.{Sites, Stands, IsClosed}
+use Rattle.spl_follow.specs.Standing.{Sites, Stands}
 use Rattle.spl_follow.specs.Parts.{Completes, Leaving}
 use Rattle.spl_follow.specs.Simulating.{Surroundings, Performs}
 use Rattle.spl_follow.proofs.FollowLemmas.{bind_follows, no_exit, widen}
@@ -42,9 +39,8 @@ use Rattle.spl_follow.proofs.KeepLemmas.{kept_top, kept_stack}
 use Rattle.spl_follow.proofs.PartLemmas.{stand_in_order, statements_begin_noted}
 use Rattle.spl_follow.proofs.RowLemmas.{row_drops}
 use Rattle.spl_follow.proofs.StackLemmas.{stand_at}
-use Rattle.spl_follow.proofs.StandLemmas.{closed_last}
 use Rattle.spl_follow.proofs.WayLemmas.{goes_none}
-use Rattle.spl_values.specs.Reached.{is_word_kind, is_reached, IsWhole}
+use Rattle.spl_values.specs.Reached.{is_word_kind, is_reached}
 use Rattle.spl_values.proofs.GiveLemmas.{last_leads}
 use Rattle.spl_values.proofs.VariableLemmas.{place_found}
 use Rattle.spl_operands.specs.Operands.{Finds, Storing}

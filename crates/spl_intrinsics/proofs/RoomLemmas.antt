@@ -1,10 +1,9 @@
 -- The words on top of which a call is made: room for its answer, and then the words of its parameters.
-use Rattle.std.proofs.Common.{◌≡◌, ℕ, zero, suc, ◌+◌, ◌-◌, ◌≤◌, ◌<◌, List, [], ◌∷◌, ◌++◌, length, replicate, refl, sym, ap, subst, ◌∙◌, arith}
+use Rattle.std.proofs.Common.{◌≡◌, ℕ, zero, suc, ◌+◌, ◌-◌, ◌≤◌, List, [], ◌∷◌, ◌++◌, length, replicate, refl, ap, subst, arith}
 use Rattle.std.specs.Prelude.{drop}
-use Rattle.std.proofs.lemmas.List.{append-nil}
 use Rattle.hp_word.specs.declared.intrinsics.Intrinsic.{Intrinsic}
 use Rattle.hp_word.specs.declared.intrinsics.Intrinsic.TheVariants as which
-use Rattle.hp_word.specs.Intrinsics.{parameter_words, answer_words}
+use Rattle.hp_word.specs.Intrinsics.{answer_words}
 use Rattle.hp_instr.specs.declared.instruction.Instr.TheVariants as i
 use Rattle.hp_instr.specs.Instructions.{op}
 use Rattle.hp_session.specs.State.{Machine, Outcome as Row}

@@ -1,65 +1,52 @@
 -- Values that are stored in targets, along the tree: the code is whole, and performs the assignment.
-use Rattle.std.proofs.Common.{◌≡◌, ℕ, ◌+◌, ◌-◌, ◌≤◌, Bool, true, false, List, [], ◌∷◌, refl, sym, ap, subst, ◌∙◌, arith}
+use Rattle.std.proofs.Common.{◌≡◌, ℕ, ◌+◌, ◌≤◌, Bool, true, false, List, refl, sym, ap, subst, ◌∙◌, arith}
 use Rattle.std.specs.Prelude.{Option, Some, None, ◌&&◌, if◌then◌else◌, ◌||◌}
 use Rattle.std.proofs.lemmas.Bool.{false≢true}
 use Rattle.std.proofs.Math.Logic.{⊎_elim}
-use Rattle.std.proofs.lemmas.List.{append-nil}
 use Rattle.hp_instr.specs.declared.instruction.Instr.TheVariants as i
 use Rattle.spl_branch.specs.declared.pieces.Piece.{Piece}
-use Rattle.spl_branch.specs.declared.pieces.Piece.TheVariants.{Do, Begin}
+use Rattle.spl_branch.specs.declared.pieces.Piece.TheVariants.{Begin}
 use Rattle.spl_tree.specs.declared.expressions.Kind.{Kind}
 use Rattle.spl_tree.specs.declared.expressions.Kind.TheVariants as kind
 use Rattle.spl_tree.specs.declared.names_and_places.At.{At}
 use Rattle.spl_tree.specs.Trees as tree
 use Rattle.spl_tree.specs.Trees.{Tree}
 use Rattle.spl_tree.specs.StatementTrees as stat
-use Rattle.spl_tree.specs.StatementTrees.{Statement, Statements, Target}
+use Rattle.spl_tree.specs.StatementTrees.{Statement, Target}
 use Rattle.spl_meaning.specs.Names as n
 use Rattle.spl_meaning.specs.Names.{Sort}
 use Rattle.spl_meaning.specs.Operations.{kept}
-use Rattle.spl_meaning.specs.Laws.{IsFront}
-use Rattle.spl_meaning.specs.Pending.{most, waiting, statement_most, statements_most}
+use Rattle.spl_meaning.specs.Pending.{most, waiting, statement_most}
 use Rattle.spl_meaning.specs.Places.{Place, data_word, above_base, below_base, below_return}
 use Rattle.spl_meaning.specs.References.{Here, Setting, Access, its_own, address_of, variable_located, target_access, own_located, locate_by, locate_target, store}
 use Rattle.spl_meaning.specs.States.{State, then_go, stopping}
-use Rattle.spl_meaning.specs.Statements.{bears, bears_among, assign, is_intrinsic, is_intrinsic_alone, target_keeps_code, assigned, alone_value, run, run_all, run_from, run_arm}
-use Rattle.spl_meaning.specs.Stops.{stops}
+use Rattle.spl_meaning.specs.Statements.{assign, target_keeps_code, assigned, alone_value, run}
 use Rattle.spl_meaning.specs.Values.{Callee, value}
-use Rattle.spl_code.specs.Parts.{Part, Wanted, pieces, piece, nothing, ◌⨟◌}
+use Rattle.spl_code.specs.Parts.{Part, pieces, piece, nothing, ◌⨟◌}
 use Rattle.spl_code.specs.Operands.{at_place}
 use Rattle.spl_code.specs.Calls.{Scope}
 use Rattle.spl_code.specs.Code.{as_value, code}
 use Rattle.spl_code.specs.Stores.{stored}
 use Rattle.spl_statement_code.specs.Assignments.{assigned_access}
 use Rattle.spl_statement_code.specs.Landings.{Context}
-use Rattle.spl_statement_code.specs.Statements.{statement, listed, arms}
-use Rattle.spl_follow.specs.Standing.{IsClosed, due_after}
+use Rattle.spl_statement_code.specs.Statements.{statement}
+use Rattle.spl_follow.specs.Standing.{IsClosed}
 use Rattle.spl_follow.specs.Simulating.{Surroundings, Simulates, Performs}
-use Rattle.spl_follow.proofs.StandLemmas.{closed_any, closed_last, due_add}
-use Rattle.spl_control.proofs.SequenceLemmas.{idle_performs, nothing_performs, lists_perform}
-use Rattle.spl_values.specs.Reached.{is_word_kind, is_reached, IsWhole}
+use Rattle.spl_follow.proofs.StandLemmas.{closed_last}
+use Rattle.spl_values.specs.Reached.{is_reached, IsWhole}
 use Rattle.spl_operators.specs.Laws.{is_single}
 use Rattle.spl_covered.specs.Covered.{is_covered}
 use Rattle.spl_covered.specs.Laws.{read_with}
 use Rattle.spl_values.proofs.VariableLemmas.{both}
-use Rattle.spl_values.proofs.SumLemmas.{front_on}
-use Rattle.spl_values.proofs.WholeLemmas.{whole_pieces, then_same}
+use Rattle.spl_values.proofs.WholeLemmas.{then_same}
 use Rattle.spl_covered.proofs.OperatorLemmas.{either}
 use Rattle.spl_covered.proofs.CoverLemmas.{covered_width, covered_whole, covered_gives}
-use Rattle.spl_choices.specs.Laws.{Chooses}
-use Rattle.spl_choices.proofs.CaseLemmas.{no_arm, arm_keeps}
-use Rattle.spl_stores.specs.Covered.{is_stored_name, is_covered_store, is_covered_statement, are_covered}
-use Rattle.spl_calls.specs.Laws.{MayCall}
-use Rattle.spl_stores.specs.Laws.{CoveredStatementsAreWhole, CoveredStatementsPerform, CoveredListsPerform}
+use Rattle.spl_stores.specs.Covered.{is_stored_name, is_covered_store}
 use Rattle.spl_stores.proofs.StoreLemmas.{assignments}
 use Rattle.spl_targets.specs.Targets.{is_led_target}
 use Rattle.spl_targets.proofs.SameLemmas.{stopping_same, same_performs}
 use Rattle.spl_targets.proofs.ElementLemmas.{no_intrinsic}
 use Rattle.spl_targets.proofs.TargetLemmas.{led_targets_whole, led_targets}
-use Rattle.spl_stores.proofs.CaseLemmas.{cased_whole, first_arm, case_performs}
-use Rattle.spl_counts.specs.Laws.{leaving_at_most}
-use Rattle.spl_stores.proofs.ForLemmas.{for_parts, for_whole, for_performs}
-use Rattle.spl_stores.proofs.ChoiceLemmas.{if_whole, if_performs, else_whole, else_performs, loop_whole, while_performs, repeat_whole, until_performs}
 
 -- ---- targets
 

@@ -24,14 +24,12 @@ use Rattle.spl_follow.specs.Simulating.{Surroundings, Simulates, Performs}
 use Rattle.spl_follow.specs.Spots.{pos}
 use Rattle.spl_control.specs.Laws.{Settles}
 use Rattle.spl_values.specs.Reached.{IsWhole}
-use Rattle.spl_values.proofs.WholeLemmas.{then_same}
 use Rattle.spl_covered.specs.Covered.{is_covered}
 use Rattle.spl_covered.specs.Laws.{read_with}
 use Rattle.spl_covered.proofs.CoverLemmas.{covered_width, covered_whole, covered_gives}
 use Rattle.spl_choices.specs.Laws.{Chooses, chosen_before}
 use Rattle.spl_choices.proofs.PartLemmas.{begun_whole}
 use Rattle.spl_choices.proofs.CaseLemmas.{arm_before, cases, case_whole}
-use Rattle.spl_targets.proofs.SameLemmas.{one_same, stopping_same, same_performs}
 
 pub cased_whole : (c : Context) (st : Setting) (v : Tree) (ss : Statements) (at : At) (k : ℕ) → is_covered c.scope st v k ≡ true
     → ((end l : ℕ) (ws : List Wanted) → IsFront ws (arms c ss k end l ws).wants) → IsWhole (statement c (stat.Statement.case_of v ss at) k)
