@@ -52,7 +52,7 @@ use Rattle.spl_intrinsics.proofs.AskLemmas as ask
 -- ---- the answer is deleted
 
 -- DEL and DDEL behind an answer; the condition code stays
-answer_deleted : (g : Ground) (w : Rate) (sites : Sites) (st : Setting) (r q : Spot) (n k : ℕ) (ps : List Piece) (vs : List ℕ) (s : State) (m : Machine)
+pub answer_deleted : (g : Ground) (w : Rate) (sites : Sites) (st : Setting) (r q : Spot) (n k : ℕ) (ps : List Piece) (vs : List ℕ) (s : State) (m : Machine)
     (d0 : Data) (m0 : Machine) → Drops n ps → Stands g sites (on r) ps q → IsAnswer st r n k d0 m0 vs s m
     → Follows g w (pos q - pos r) 0 0 (tally s) m (Completes st q k d0 m0) NoExit (done tt s)
 answer_deleted g w sites st r q n k ps vs s m d0 m0 ask.Drops.none stands x =
