@@ -1,0 +1,30 @@
+-- The laws of this crate.
+use Rattle.std.specs.Prelude.{◌≡◌, ℕ, ◌+◌, ◌-◌, ◌≤◌, false, List, []}
+use Rattle.hp_instr.specs.declared.instruction.Instr.TheVariants as i
+use Rattle.hp_session.specs.State.{Machine}
+use Rattle.spl_meaning.specs.References.{Setting}
+use Rattle.spl_meaning.specs.Bodies.{Body}
+use Rattle.spl_meaning.specs.Runs.{enter_procedure}
+use Rattle.spl_meaning.specs.States.{State, Begun}
+use Rattle.spl_meaning.specs.Values.{Callee}
+use Rattle.spl_follow.specs.Spots.{Spot, next_word, pos, Point, Ground}
+use Rattle.spl_follow.specs.Leading.{Leads}
+use Rattle.spl_follow.specs.Doing.{body, calling}
+use Rattle.spl_follow.specs.Following.{Rate, tally_with, Follows, NoExit}
+use Rattle.spl_follow.specs.Standing.{Sites}
+use Rattle.spl_follow.specs.Calling.{Link, Calling, IsResult}
+use Rattle.spl_procedures.specs.Procedures.{ProcedureFramed, IsProcedure, AreSet, ProcedureStatementsFollow}
+
+-- A call of a procedure, from PCAL through the code at its entry and its statements to EXIT, is followed to the word behind it: its result
+-- stands there in place of the parameters. It is charged its own word and a step of the run, which pays for the code around the statements.
+abbrev pub ProceduresAreCalled : Type 0
+ProceduresAreCalled = (g : Ground) (w : Rate) (sites : Sites) (b : Body) (start first leave end : Spot) (call : Callee) (d : ℕ)
+    → ProcedureFramed g w sites b start first leave end → IsProcedure b → AreSet g w sites b → ProcedureStatementsFollow g w b call d first leave
+    → (st : Setting) (x : Link) (p : Point) (r : Spot) (k : ℕ) (vs : List ℕ) (s : State) (l : List Begun) (m : Machine)
+    → st.split ≡ false → x.by ≡ i.Control 0 0 → x.profile ≡ b.profile → Leads g p r (calling x.by (body start) r) → r ≡ next_word p.at
+    → Calling g st x p k vs s l m → s.left ≤ d
+    → Follows g w (pos r - pos p.at + w.step) 0 w.reach (tally_with l s) m (IsResult st r b.profile k s.now m) NoExit (enter_procedure call d b vs k s)
+
+-- where a body has neither cells nor initial values, none are to be set
+abbrev pub NoneAreSet : Type 0
+NoneAreSet = (g : Ground) (w : Rate) (sites : Sites) (b : Body) → b.cells ≡ [] → b.initials ≡ [] → AreSet g w sites b
