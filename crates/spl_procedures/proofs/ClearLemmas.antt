@@ -29,7 +29,7 @@ clear_from due (z ∷ a) b x y = clear_from (due_behind due z) a b x y
 pub clear_both : (a b : List Piece) → Clear a → Clear b → Clear (a ++ b)
 clear_both a b x y = clear_from false a b x y
 
-clear_constant : (c : ℕ) → Clear (constant c)
+pub clear_constant : (c : ℕ) → Clear (constant c)
 clear_constant c = by (nat_lt c 256) (nat_lt 65280 c) where
   by : (x y : Bool) → Clear (if x then LDI c ∷ [] else if y then LDNI (65536 - c) ∷ [] else LDI (c / 256) ∷ LSL 8 ∷ ORI (c % 256) ∷ [])
   by true y = refl
@@ -57,13 +57,13 @@ clear_zeroed n = clear_both (replicate (n / 255) (ADDS 255)) (last_zeros (n % 25
 
 -- ---- cells and initial values
 
-clear_base : (k : Kind) → Clear (base_pushed k)
+pub clear_base : (k : Kind) → Clear (base_pushed k)
 clear_base kind.Integer = refl
 clear_base kind.Logical = refl
 clear_base kind.Byte = refl
 clear_base kind.Double = refl
 
-clear_cell_from : (place : p.Place) (k : Kind) (low : ℤ) → Clear (cell_from place k low)
+pub clear_cell_from : (place : p.Place) (k : Kind) (low : ℤ) → Clear (cell_from place k low)
 clear_cell_from (p.data_word a) k low = clear_constant (cell_word k low a)
 clear_cell_from (p.above_base n) k low =
     clear_both (base_pushed k ++ constant (cell_word k low n)) (LADD ∷ [])
@@ -71,7 +71,7 @@ clear_cell_from (p.above_base n) k low =
 clear_cell_from (p.below_base n) k low = refl
 clear_cell_from (p.below_return n) k low = refl
 
-clear_viewed : (b : Bool) → Clear (viewed b)
+pub clear_viewed : (b : Bool) → Clear (viewed b)
 clear_viewed true = refl
 clear_viewed false = refl
 
@@ -85,7 +85,7 @@ pub clear_cells : (cs : List Cell) → Clear (cells_set cs)
 clear_cells [] = refl
 clear_cells (c ∷ cs) = clear_both (cell_set c) (cells_set cs) (clear_cell c) (clear_cells cs)
 
-clear_value : (k : Kind) (v : ℤ) → Clear (value_pushed k v)
+pub clear_value : (k : Kind) (v : ℤ) → Clear (value_pushed k v)
 clear_value kind.Integer v = clear_constant (word_of v)
 clear_value kind.Logical v = clear_constant (word_of v)
 clear_value kind.Byte v = clear_constant (word_of v % 256)
