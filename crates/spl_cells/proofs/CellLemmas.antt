@@ -3,7 +3,6 @@ use Rattle.std.proofs.Common.{◌≡◌, ℕ, ◌+◌, ◌-◌, ◌*◌, ◌%◌
 use Rattle.std.specs.Prelude.{Option, Some, None, is_some, ℤ}
 use Rattle.std.proofs.lemmas.Bool.{false≢true}
 use Rattle.std.proofs.lemmas.Int.{ints}
-use Rattle.hp_word.specs.declared.arithmetic.Code.{Code}
 use Rattle.hp_word.specs.Words.{word_of, word_result, logically_added}
 use Rattle.hp_word.proofs.WordLaws.{word_of-below}
 use Rattle.hp_instr.specs.Instructions.{op}
@@ -30,15 +29,14 @@ use Rattle.spl_body_code.specs.Cells.{LADD, base_pushed, cell_from, viewed, cell
 use Rattle.spl_body_code.proofs.CellLaws.{cells_move}
 use Rattle.spl_follow.specs.Spots.{Spot, pos, Point, on, Ground}
 use Rattle.spl_follow.specs.Leading.{Leads}
-use Rattle.spl_follow.specs.Matching.{Coded, IsValue}
+use Rattle.spl_follow.specs.Matching.{IsValue}
 use Rattle.spl_follow.specs.Following.{Rate, tally, Follows, NoExit}
 use Rattle.spl_follow.specs.Doing.{doing}
 use Rattle.spl_follow.specs.Standing.{Sites, Stands}
 use Rattle.spl_follow.specs.Yielding.{Yields}
 use Rattle.spl_follow.specs.Parts.{Ready, Gives, Completes}
-use Rattle.spl_follow.proofs.KeepLemmas.{kept_same, value_ready}
+use Rattle.spl_follow.proofs.KeepLemmas.{value_ready}
 use Rattle.spl_follow.proofs.PartLemmas.{stand_from_place, values_follow}
-use Rattle.spl_follow.proofs.WayLemmas.{goes_none}
 use Rattle.spl_values.proofs.ConstantLemmas.{constants_give}
 use Rattle.spl_values.proofs.GiveLemmas.{last_leads, row_behind}
 use Rattle.spl_values.proofs.SumLemmas.{lower_is, upper_is, two_there}
@@ -51,7 +49,7 @@ use Rattle.spl_procedures.specs.Procedures.{procedure_setting}
 use Rattle.spl_procedures.proofs.ClearLemmas.{clear_both, clear_constant, clear_base, clear_cell_from, clear_viewed, clear_cell}
 use Rattle.spl_cells.specs.Settable.{is_local, has_origin, is_cell_settable, cells_settable}
 use Rattle.spl_cells.proofs.PutLemmas.{stored_keeps, there, read_there, put_is, addresses as places_in, addresses_same}
-use Rattle.spl_cells.proofs.StepLemmas.{around, Fresh, fresh_ready, fresh_on, Stepped, steps_join, with_words, value_then, Local, local_is}
+use Rattle.spl_cells.proofs.StepLemmas.{none_follow, around, Fresh, fresh_ready, fresh_on, Stepped, steps_join, with_words, value_then, Local, local_is}
 
 -- ---- numbers
 
@@ -98,7 +96,8 @@ module _ (g : Ground) (w : Rate) (sites : Sites) (b : Body) where
         same kind.Double = omega (arith, low)
 
   -- the word of a cell whose array's data stand at a place
-  word_given : (p q : Spot) (from : Place) (t : Kind) (low : ℤ) (s : State) (m : Machine) → has_origin from ≡ true → Stands g sites (on p) (cell_from from t low) q
+  word_given : (p q : Spot) (from : Place) (t : Kind) (low : ℤ) (s : State) (m : Machine) → has_origin from ≡ true
+      → Stands g sites (on p) (cell_from from t low) q
       → Fresh g w sites b p s m
       → Gives g w st sites.marks as_value 1 (on p) q 0 s s.begun m (done (cell_word t low (address_of from s.now) ∷ []) s)
   word_given p q (data_word a) t low s m e stands f =
@@ -117,7 +116,8 @@ module _ (g : Ground) (w : Rate) (sites : Sites) (b : Body) where
       (base_given p front.0 t s m front.1 f)
       (λ vs s1 m1 x fewer. constant_pushed s.left front.0 back.0 1 7 u s1 m1 (cell_small t low n) (omega arith) front.2
       (value_ready st s.left (on p) front.0 0 8 1 7 s s.begun m vs s1 m1 (fresh_ready g w sites b p s m f) x fewer (omega arith))) in
-      row_behind g w st sites.marks (on p) back.0 q (doing g.segments (instr.Pair (op 0o61) (op 0)) q) 2 0 s s.begun m (v ∷ u ∷ []) (cell_word t low (s.now.base + n))
+      row_behind g w st sites.marks (on p) back.0 q (doing g.segments (instr.Pair (op 0o61) (op 0)) q) 2 0 s s.begun m (v ∷ u ∷ [])
+      (cell_word t low (s.now.base + n))
       (λ n1. operated 0o61 n1) (omega (arith, one, two)) (last_leads g sites (on back.0) (instr.Pair (op 0o61) (op 0)) q back.2) (λ n1. refl)
       (λ n1 x. subst (λ (y : ℕ). Yields 2 (y ∷ []) n1 (operated 0o61 n1)) (sum back.0 v u s m n1 x ∙ cells_move t low s.now.base n)
       (rows.logical_add n1 (two_there st back.0 0 s.now m v u s n1 x))) (cell_small t low (s.now.base + n)) words where
@@ -125,7 +125,8 @@ module _ (g : Ground) (w : Rate) (sites : Sites) (b : Body) where
             → (logically_added (word 1 n1) (word 0 n1)).value ≡ (v + u) % 65536
         sum r v u s m n1 x =
             added_is (word 1 n1) (word 0 n1)
-            ∙ ap (λ (y : ℕ). (y + word 0 n1) % 65536) (lower_is st r 0 s.now m v u s n1 x) ∙ ap (λ (y : ℕ). (v + y) % 65536) (upper_is st r 0 s.now m v u s n1 x)
+            ∙ ap (λ (y : ℕ). (y + word 0 n1) % 65536) (lower_is st r 0 s.now m v u s n1 x) ∙ ap (λ (y : ℕ). (v + y) % 65536)
+            (upper_is st r 0 s.now m v u s n1 x)
   word_given p q (below_base n) t low s m e stands f = absurd (false≢true e)
   word_given p q (below_return n) t low s m e stands f = absurd (false≢true e)
 
@@ -134,7 +135,8 @@ module _ (g : Ground) (w : Rate) (sites : Sites) (b : Body) where
       → Gives g w st sites.marks as_value 1 (on p) r 0 s s.begun m (done (v ∷ []) s)
       → Gives g w st sites.marks as_value 1 (on p) q 0 s s.begun m (done (twice as_bytes v ∷ []) s)
   viewed_given true p r q v s m before stands x =
-      row_behind g w st sites.marks (on p) r q (doing g.segments (instr.Shifted 2 1) q) 1 0 s s.begun m (v ∷ []) (2 * v % 65536) (λ n. shifting 2 1 (at_left n)) before
+      row_behind g w st sites.marks (on p) r q (doing g.segments (instr.Shifted 2 1) q) 1 0 s s.begun m (v ∷ []) (2 * v % 65536)
+      (λ n. shifting 2 1 (at_left n)) before
       (last_leads g sites (on r) (instr.Shifted 2 1) q stands) (λ n. refl) (λ n y. addresses.doubles st r 0 s.now m v s n y) (omega arith) x
   viewed_given false p r q v s m before stands x =
       subst (λ (z : Spot). Gives g w st sites.marks as_value 1 (on p) z 0 s s.begun m (done (v ∷ []) s)) (ap (λ (z : Point). z.at) stands) x
@@ -145,7 +147,8 @@ module _ (g : Ground) (w : Rate) (sites : Sites) (b : Body) where
   pub value_put : (t : Kind) (p q : Spot) (place : Place) (v : ℕ) (s : State) (m m1 : Machine) → width t ≡ 1 → Local b 1 place s.now
       → Leads g (on p) q (doing g.segments (storing t false false (mode_of 0 place)) q) → IsValue st p 1 0 s.now m (v ∷ []) s m1
       → s.now.top + 8 ≤ s.now.stack
-      → Follows g w (pos q - pos p) 0 w.reach (tally s) m1 (Completes st q 0 s.now m) NoExit (store (variable_located t (address_of place s.now)) (kept t (v ∷ [])) s)
+      → Follows g w (pos q - pos p) 0 w.reach (tally s) m1 (Completes st q 0 s.now m) NoExit
+      (store (variable_located t (address_of place s.now)) (kept t (v ∷ [])) s)
   value_put t p q place v s m m1 one local leads x room =
       store_follows g w p q st t (mode_of 0 place) false false 0 v s.now m s m1 (own_located t (Some place) None s) one leads
       (value_storing st p 0 v s.now m s m1 x (omega (arith, room))) (own_refers st t 0 1 place s (at_left m1) local.reached x.matches)
@@ -195,8 +198,7 @@ module _ (g : Ground) (w : Rate) (sites : Sites) (b : Body) where
   -- and all of them
   pub cells_follow : (cs : List Cell) → cells_settable b.words cs ≡ true → (p q : Spot) (s : State) (m : Machine) → Stands g sites (on p) (cells_set cs) q
       → Fresh g w sites b p s m → Stepped g w sites b p q (put_cells (places_in s.now) cs s.now.mem) s m
-  cells_follow [] e p q s m stands f =
-      (m, goes_none g w (pos q - pos p) 0 (tally s) m, record { at = f.at ∙ ap (λ (z : Point). z.at) stands; matches = f.matches; kept = kept_same (s.now.top + 0) s.now m.stack; coded = subst (λ (o : Option Code). Coded o m.regs.code) (sym f.silent) tt })
+  cells_follow [] e p q s m stands f = none_follow g w sites b p q s m stands f
   cells_follow (c ∷ cs) e p q s m stands f =
       let parts = both (is_cell_settable b.words c) (cells_settable b.words cs) e in
       let cut = stand_from_place g sites (cell_set c) (cells_set cs) p q (clear_cell c) stands in
@@ -207,4 +209,5 @@ module _ (g : Ground) (w : Rate) (sites : Sites) (b : Body) where
       let later = cells_follow cs parts.1 cut.0 q (with_words g w sites b s mem) one.0 cut.2
       (fresh_on g w sites b p cut.0 mem s m one f (λ x h. stored_keeps a v s.now.mem x h)) in
       steps_join g w sites b p cut.0 q mem (put_cells (places_in s.now) cs mem) s m cut.3 cut.4 one
-      (subst (λ (address : Place → ℕ). Stepped g w sites b cut.0 q (put_cells address cs mem) (with_words g w sites b s mem) one.0) (addresses_same s.now mem) later)
+      (subst (λ (address : Place → ℕ). Stepped g w sites b cut.0 q (put_cells address cs mem) (with_words g w sites b s mem) one.0) (addresses_same s.now mem)
+      later)

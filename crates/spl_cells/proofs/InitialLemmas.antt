@@ -4,7 +4,6 @@ use Rattle.std.specs.Prelude.{Option, Some, is_some, ℤ}
 use Rattle.std.proofs.lemmas.Bool.{false≢true}
 use Rattle.hp_word.specs.Words.{word_of, double_of}
 use Rattle.hp_word.specs.Bytes.{with_byte, high_word, low_word}
-use Rattle.hp_word.specs.declared.arithmetic.Code.{Code}
 use Rattle.hp_word.proofs.WordLaws.{word_of-below, double_of-below}
 use Rattle.hp_instr.specs.declared.instruction.Instr.TheVariants as instr
 use Rattle.hp_session.specs.State.{Machine}
@@ -21,14 +20,11 @@ use Rattle.spl_meaning.specs.States.{State, Outcome, done, then_go}
 use Rattle.spl_code.specs.Constants.{constant}
 use Rattle.spl_code.specs.Operands.{mode_of}
 use Rattle.spl_body_code.specs.Cells.{value_pushed, first_set, initial_set, initials_set}
-use Rattle.spl_follow.specs.Spots.{Spot, pos, Point, on, Ground}
-use Rattle.spl_follow.specs.Matching.{Coded}
+use Rattle.spl_follow.specs.Spots.{Spot, pos, on, Ground}
 use Rattle.spl_follow.specs.Following.{Rate, tally, Follows, NoExit}
 use Rattle.spl_follow.specs.Standing.{Sites, Stands}
 use Rattle.spl_follow.specs.Parts.{Completes}
-use Rattle.spl_follow.proofs.KeepLemmas.{kept_same}
 use Rattle.spl_follow.proofs.PartLemmas.{stand_from_place}
-use Rattle.spl_follow.proofs.WayLemmas.{goes_none}
 use Rattle.spl_values.proofs.GiveLemmas.{last_leads}
 use Rattle.spl_values.proofs.VariableLemmas.{both}
 use Rattle.spl_operands.proofs.OperandLemmas.{place_based}
@@ -40,7 +36,7 @@ use Rattle.spl_procedures.specs.Procedures.{procedure_setting}
 use Rattle.spl_procedures.proofs.ClearLemmas.{clear_value, clear_initial}
 use Rattle.spl_cells.specs.Settable.{is_local, values_settable, initials_settable}
 use Rattle.spl_cells.proofs.PutLemmas.{value_keeps, there, read_there, put_is, stored_other, stores_swap, addresses as places_in, addresses_same}
-use Rattle.spl_cells.proofs.StepLemmas.{around, Fresh, fresh_ready, fresh_on, Stepped, steps_join, with_words, value_then, Local, local_is}
+use Rattle.spl_cells.proofs.StepLemmas.{none_follow, around, Fresh, fresh_ready, fresh_on, Stepped, steps_join, with_words, value_then, Local, local_is}
 use Rattle.spl_cells.proofs.CellLemmas.{constant_pushed, value_put, word_is_stored, local_there}
 
 -- ---- what the run puts
@@ -59,7 +55,8 @@ module _ (s : State) where
       let whole : 2 * a ≡ 2 * a + 0 = omega arith in
       let once : word_of v % 256 % 256 % 256 ≡ word_of v % 256 = omega arith in
       let at : s.now.mem (2 * a / 2) ≡ Some old.0 = ap s.now.mem half ∙ old.1 in
-      read_there (2 * a / 2) old.0 s (λ w s1. done tt (placed_word false (2 * a / 2) (with_byte (2 * a) (word_of v % 256 % 256 % 256) w) s1)) (omega (arith, low, half)) at
+      read_there (2 * a / 2) old.0 s (λ w s1. done tt (placed_word false (2 * a / 2) (with_byte (2 * a) (word_of v % 256 % 256 % 256) w) s1))
+      (omega (arith, low, half)) at
       ∙ ap with_mem (put_is (2 * a / 2) (with_byte (2 * a) (word_of v % 256 % 256 % 256) old.0) old.0 s.now.mem at)
       ∙ ap (λ (i : ℕ). with_mem (stored (2 * a / 2) (with_byte (2 * a) i old.0) s.now.mem)) once
       ∙ ap (λ (i : ℕ). with_mem (stored (2 * a / 2) (with_byte (2 * a) (word_of v % 256) i) s.now.mem)) (sym (ap word_or_zero at))
@@ -79,7 +76,8 @@ module _ (s : State) where
       let differs : a ≡ c → ⊥ = λ e. omega (arith, e, same) in
       let first : a ≡ a + 2 * 0 = omega arith in
       let second : c ≡ a + 2 * 0 + 1 = omega (arith, same) in
-      read_there a old.0 s (λ _ s1. then_go (word_at false c s1) (λ _ s2. done tt (placed_word false c l (placed_word false a h s2)))) (omega (arith, low)) old.1
+      read_there a old.0 s (λ _ s1. then_go (word_at false c s1) (λ _ s2. done tt (placed_word false c l (placed_word false a h s2)))) (omega (arith, low))
+      old.1
       ∙ read_there c older.0 s (λ _ s2. done tt (placed_word false c l (placed_word false a h s2))) (omega (arith, low, same)) at
       ∙ ap (λ (mem : ℕ → Option ℕ). with_mem (put c l mem)) (put_is a h old.0 s.now.mem old.1)
       ∙ ap with_mem (put_is c l older.0 (stored a h s.now.mem) (stored_other a h s.now.mem c differs ∙ at))
@@ -109,35 +107,44 @@ module _ (g : Ground) (w : Rate) (sites : Sites) (b : Body) where
       → Stands g sites (on p) (first_set from k (v ∷ [])) q → Fresh g w sites b p s m
       → Stepped g w sites b p q (put_value k (address_of from s.now) 0 v s.now.mem) s m
   value_follows kind.Integer from v e p q s m stands f =
-      let cut = stand_from_place g sites (value_pushed kind.Integer v) (Do (storing kind.Integer false false (mode_of 0 from)) ∷ []) p q (clear_value kind.Integer v) stands in
+      let cut = stand_from_place g sites (value_pushed kind.Integer v) (Do (storing kind.Integer false false (mode_of 0 from)) ∷ []) p q
+      (clear_value kind.Integer v) stands in
       let local = local_is b 1 from s.now e f.locals in
       let is = local_there g w sites b 1 0 from p s m local (omega arith) f in
       let none : address_of from s.now + 0 ≡ address_of from s.now = omega arith in
-      single_follows kind.Integer (word_of v) from (put_value kind.Integer (address_of from s.now) 0 v s.now.mem) p cut.0 q s m refl (word_of-below v) local cut.3 cut.4 cut.1 cut.2 f
+      single_follows kind.Integer (word_of v) from (put_value kind.Integer (address_of from s.now) 0 v s.now.mem) p cut.0 q s m refl (word_of-below v) local
+      cut.3 cut.4 cut.1 cut.2 f
       (ap (λ (i : ℕ). word_stored false i (word_of v ∷ []) s) (sym none) ∙ word_is_stored g w sites b (address_of from s.now + 0) (word_of v) s is.0 is.1)
   value_follows kind.Logical from v e p q s m stands f =
-      let cut = stand_from_place g sites (value_pushed kind.Logical v) (Do (storing kind.Logical false false (mode_of 0 from)) ∷ []) p q (clear_value kind.Logical v) stands in
+      let cut = stand_from_place g sites (value_pushed kind.Logical v) (Do (storing kind.Logical false false (mode_of 0 from)) ∷ []) p q
+      (clear_value kind.Logical v) stands in
       let local = local_is b 1 from s.now e f.locals in
       let is = local_there g w sites b 1 0 from p s m local (omega arith) f in
       let none : address_of from s.now + 0 ≡ address_of from s.now = omega arith in
-      single_follows kind.Logical (word_of v) from (put_value kind.Logical (address_of from s.now) 0 v s.now.mem) p cut.0 q s m refl (word_of-below v) local cut.3 cut.4 cut.1 cut.2 f
+      single_follows kind.Logical (word_of v) from (put_value kind.Logical (address_of from s.now) 0 v s.now.mem) p cut.0 q s m refl (word_of-below v) local
+      cut.3 cut.4 cut.1 cut.2 f
       (ap (λ (i : ℕ). word_stored false i (word_of v ∷ []) s) (sym none) ∙ word_is_stored g w sites b (address_of from s.now + 0) (word_of v) s is.0 is.1)
   value_follows kind.Byte from v e p q s m stands f =
-      let cut = stand_from_place g sites (value_pushed kind.Byte v) (Do (storing kind.Byte false false (mode_of 0 from)) ∷ []) p q (clear_value kind.Byte v) stands in
+      let cut = stand_from_place g sites (value_pushed kind.Byte v) (Do (storing kind.Byte false false (mode_of 0 from)) ∷ []) p q (clear_value kind.Byte v)
+      stands in
       let local = local_is b 1 from s.now e f.locals in
       let is = local_there g w sites b 1 0 from p s m local (omega arith) f in
       let none : address_of from s.now + 0 ≡ address_of from s.now = omega arith in
-      single_follows kind.Byte (word_of v % 256) from (put_value kind.Byte (address_of from s.now) 0 v s.now.mem) p cut.0 q s m refl (omega arith) local cut.3 cut.4 cut.1 cut.2 f
+      single_follows kind.Byte (word_of v % 256) from (put_value kind.Byte (address_of from s.now) 0 v s.now.mem) p cut.0 q s m refl (omega arith) local cut.3
+      cut.4 cut.1 cut.2 f
       (byte_is_stored s (address_of from s.now) v (subst (λ (i : ℕ). i < s.now.stack) none is.0) (ap (λ (i : ℕ). is_some (s.now.mem i)) (sym none) ∙ is.1))
   value_follows kind.Double from v e p q s m stands f =
-      let cut = stand_from_place g sites (value_pushed kind.Double v) (Do (storing kind.Double false false (mode_of 0 from)) ∷ []) p q (clear_value kind.Double v) stands in
+      let cut = stand_from_place g sites (value_pushed kind.Double v) (Do (storing kind.Double false false (mode_of 0 from)) ∷ []) p q
+      (clear_value kind.Double v) stands in
       let local = local_is b 2 from s.now e f.locals in
       let first = local_there g w sites b 2 0 from p s m local (omega arith) f in
       let second = local_there g w sites b 2 1 from p s m local (omega arith) f in
       let none : address_of from s.now + 0 ≡ address_of from s.now = omega arith in
       let room = f.room in
-      value_then g w sites b p cut.0 q 2 (high_word (double_of v) ∷ low_word (double_of v) ∷ []) (put_value kind.Double (address_of from s.now) 0 v s.now.mem) s m cut.3 cut.4
-      ((doubles.constants_give (around g w sites b) s.left 0 8 (double_of v) (double_of-below v) (omega arith)).does 0 [] (on p) cut.0 s s.begun m cut.1 (record { rest = []; is = refl })
+      value_then g w sites b p cut.0 q 2 (high_word (double_of v) ∷ low_word (double_of v) ∷ []) (put_value kind.Double (address_of from s.now) 0 v s.now.mem)
+      s m cut.3 cut.4
+      ((doubles.constants_give (around g w sites b) s.left 0 8 (double_of v) (double_of-below v) (omega arith)).does 0 [] (on p) cut.0 s s.begun m cut.1
+      (record { rest = []; is = refl })
       (fresh_ready g w sites b p s m f))
       (λ m1 x. subst (λ (o : Outcome (Unit {0})). Follows g w (pos q - pos cut.0) 0 w.reach (tally s) m1 (Completes st q 0 s.now m) NoExit o)
       (double_is_stored s (address_of from s.now) v second.0 f.matches.lies.least (ap (λ (i : ℕ). is_some (s.now.mem i)) (sym none) ∙ first.1) second.1)
@@ -147,24 +154,11 @@ module _ (g : Ground) (w : Rate) (sites : Sites) (b : Body) where
       (own_finds kind.Double (mode_of 0 from) (address_of from s.now) (at_left m1) (place_based st s.now 0 2 from (at_left m1) local.reached x.matches)
       (place_low st s.now 0 2 from (at_left m1) local.reached x.matches))))
 
-  -- nothing is done
-  pub none_follow : (p q : Spot) (s : State) (m : Machine) → Stands g sites (on p) [] q → Fresh g w sites b p s m → Stepped g w sites b p q s.now.mem s m
-  none_follow p q s m stands f = (
-    m,
-    goes_none g w (pos q - pos p) 0 (tally s) m,
-    record {
-      at = f.at ∙ ap (λ (z : Point). z.at) stands;
-      matches = f.matches;
-      kept = kept_same (s.now.top + 0) s.now m.stack;
-      coded = subst (λ (o : Option Code). Coded o m.regs.code) (sym f.silent) tt;
-    },
-  )
-
   -- values of an item, of which there is one at most
   initial_follows : (k : Kind) (from : Place) (vs : List ℤ) → values_settable b.words from k vs ≡ true → (p q : Spot) (s : State) (m : Machine)
       → Stands g sites (on p) (first_set from k vs) q → Fresh g w sites b p s m
       → Stepped g w sites b p q (put_values k (address_of from s.now) 0 vs s.now.mem) s m
-  initial_follows k from [] e p q s m stands f = none_follow p q s m stands f
+  initial_follows k from [] e p q s m stands f = none_follow g w sites b p q s m stands f
   initial_follows k from (v ∷ []) e p q s m stands f = value_follows k from v e p q s m stands f
   initial_follows k from (v ∷ u ∷ vs) e p q s m stands f = absurd (false≢true e)
 
@@ -176,7 +170,7 @@ module _ (g : Ground) (w : Rate) (sites : Sites) (b : Body) where
   -- all of them
   pub initials_follow : (is : List Initial) → initials_settable b.words is ≡ true → (p q : Spot) (s : State) (m : Machine)
       → Stands g sites (on p) (initials_set is) q → Fresh g w sites b p s m → Stepped g w sites b p q (put_initials (places_in s.now) is s.now.mem) s m
-  initials_follow [] e p q s m stands f = none_follow p q s m stands f
+  initials_follow [] e p q s m stands f = none_follow g w sites b p q s m stands f
   initials_follow (i ∷ is) e p q s m stands f =
       let parts = both (values_settable b.words i.from i.kind i.values) (initials_settable b.words is) e in
       let cut = stand_from_place g sites (initial_set i) (initials_set is) p q (clear_initial i.from i.kind i.values) stands in
@@ -185,4 +179,5 @@ module _ (g : Ground) (w : Rate) (sites : Sites) (b : Body) where
       let later = initials_follow is parts.1 cut.0 q (with_words g w sites b s mem) one.0 cut.2
       (fresh_on g w sites b p cut.0 mem s m one f (λ x h. values_keep i.kind (address_of i.from s.now) 0 i.values s.now.mem x h)) in
       steps_join g w sites b p cut.0 q mem (put_initials (places_in s.now) is mem) s m cut.3 cut.4 one
-      (subst (λ (address : Place → ℕ). Stepped g w sites b cut.0 q (put_initials address is mem) (with_words g w sites b s mem) one.0) (addresses_same s.now mem) later)
+      (subst (λ (address : Place → ℕ). Stepped g w sites b cut.0 q (put_initials address is mem) (with_words g w sites b s mem) one.0)
+      (addresses_same s.now mem) later)

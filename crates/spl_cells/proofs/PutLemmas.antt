@@ -7,7 +7,8 @@ use Rattle.hp_word.specs.Words.{word_of, double_of}
 use Rattle.hp_word.specs.Bytes.{with_byte, high_word, low_word}
 use Rattle.spl_tree.specs.declared.expressions.Kind.{Kind}
 use Rattle.spl_tree.specs.declared.expressions.Kind.TheVariants as kind
-use Rattle.spl_meaning.specs.Places.{Place, data_word, above_base, below_base, below_return, Cell, put, changed, stored, put_value, put_cells, viewed, cell_word, word_or_zero}
+use Rattle.spl_meaning.specs.Places.{Place, data_word, above_base, below_base, below_return, Cell, put, changed, stored, put_value, put_cells, viewed}
+use Rattle.spl_meaning.specs.Places.{cell_word, word_or_zero}
 use Rattle.spl_meaning.specs.References.{address_of, word_at, data_word_read}
 use Rattle.spl_meaning.specs.States.{Data, State, Outcome, ends, trapped, then_go}
 
@@ -46,7 +47,8 @@ there (Some v) h = (v, refl)
 there None h = absurd (false≢true h)
 
 -- it is read
-pub read_there : {A : Type 0} (a v : ℕ) (s : State) (go : ℕ → State → Outcome A) → a < s.now.stack → s.now.mem a ≡ Some v → then_go (word_at false a s) go ≡ go v s
+pub read_there : {A : Type 0} (a v : ℕ) (s : State) (go : ℕ → State → Outcome A) → a < s.now.stack → s.now.mem a ≡ Some v
+    → then_go (word_at false a s) go ≡ go v s
 read_there a v s go low e =
     ap (λ (t : Bool). then_go (if t then data_word_read (s.now.mem a) s else ends (trapped Bounds) s) go) (lt-ltb a s.now.stack low)
     ∙ ap (λ (o : Option ℕ). then_go (data_word_read o s) go) e

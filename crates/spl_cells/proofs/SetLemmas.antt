@@ -25,7 +25,8 @@ settable_set g w sites b e p q stands s m at matches locals room silent =
     let later = initials_follow g w sites b b.initials parts.1 cut.0 q (with_words g w sites b s mem) cells.0 cut.2
     (fresh_on g w sites b p cut.0 mem s m cells f (λ x h. cells_keep (places_in s.now) b.cells s.now.mem x h)) in
     steps_join g w sites b p cut.0 q mem (put_initials (places_in s.now) b.initials mem) s m cut.3 cut.4 cells
-    (subst (λ (address : Place → ℕ). Stepped g w sites b cut.0 q (put_initials address b.initials mem) (with_words g w sites b s mem) cells.0) (addresses_same s.now mem) later)
+    (subst (λ (address : Place → ℕ). Stepped g w sites b cut.0 q (put_initials address b.initials mem) (with_words g w sites b s mem) cells.0)
+    (addresses_same s.now mem) later)
 
 -- what a call asks of the code that sets them
 pub settable_called : ProceduresAreCalled → SettableAreSet → SettableProceduresAreCalled

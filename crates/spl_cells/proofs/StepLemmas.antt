@@ -1,22 +1,23 @@
 -- One step of what sets a frame: a value that is pushed, and a store that takes it; and one step after another.
-use Rattle.std.proofs.Common.{◌≡◌, ℕ, ◌+◌, ◌-◌, ◌≤◌, ◌<◌, true, false, List, [], refl, arith}
+use Rattle.std.proofs.Common.{◌≡◌, ℕ, ◌+◌, ◌-◌, ◌≤◌, ◌<◌, true, false, List, [], sym, ap, subst, ◌∙◌, refl, arith}
 use Rattle.std.specs.Prelude.{Option, None, is_some, ◌&&◌, nat_lt, nat_le}
 use Rattle.std.proofs.lemmas.Bool.{ltb-true, leb-true, false≢true}
+use Rattle.hp_word.specs.declared.arithmetic.Code.{Code}
 use Rattle.hp_session.specs.State.{Machine}
 use Rattle.spl_meaning.specs.References.{Setting, address_of}
 use Rattle.spl_meaning.specs.Places.{Place, data_word, above_base, below_base, below_return}
 use Rattle.spl_meaning.specs.Bodies.{Body}
 use Rattle.spl_meaning.specs.States.{Data, State, done}
 use Rattle.spl_code.specs.Code.{as_value}
-use Rattle.spl_follow.specs.Spots.{Spot, spot, pos, on, Ground}
-use Rattle.spl_follow.specs.Matching.{Matched, IsValue}
+use Rattle.spl_follow.specs.Spots.{Spot, spot, pos, Point, on, Ground}
+use Rattle.spl_follow.specs.Matching.{Matched, Coded, IsValue}
 use Rattle.spl_follow.specs.Following.{Rate, tally, Follows, NoExit}
-use Rattle.spl_follow.specs.Standing.{Sites}
+use Rattle.spl_follow.specs.Standing.{Sites, Stands}
 use Rattle.spl_follow.specs.Parts.{Ready, Gives, Completes}
 use Rattle.spl_follow.specs.Simulating.{Surroundings}
 use Rattle.spl_follow.proofs.FollowLemmas.{then_follows}
-use Rattle.spl_follow.proofs.KeepLemmas.{arrives_after}
-use Rattle.spl_follow.proofs.WayLemmas.{goes_on}
+use Rattle.spl_follow.proofs.KeepLemmas.{kept_same, arrives_after}
+use Rattle.spl_follow.proofs.WayLemmas.{goes_none, goes_on}
 use Rattle.spl_values.specs.Reached.{is_reached}
 use Rattle.spl_values.proofs.VariableLemmas.{both}
 use Rattle.spl_procedures.specs.Procedures.{procedure_setting, HasLocals}
@@ -76,6 +77,19 @@ module _ (g : Ground) (w : Rate) (sites : Sites) (b : Body) where
     goes_on g w (pos r - pos p) 0 0 (pos q - pos r) 0 0 (pos q - pos p) 0 0 (tally s) m (tally (with_words s mem)) x.0 (tally (with_words s later)) y.0 x.1 y.1
         (omega (arith, before, after)) (omega arith),
     arrives_after whole q 0 0 s.now m (with_words s mem).now x.0 (with_words s later) y.0 (omega arith) x.2.kept y.2,
+  )
+
+  -- nothing is done
+  pub none_follow : (p q : Spot) (s : State) (m : Machine) → Stands g sites (on p) [] q → Fresh p s m → Stepped p q s.now.mem s m
+  none_follow p q s m stands f = (
+    m,
+    goes_none g w (pos q - pos p) 0 (tally s) m,
+    record {
+      at = f.at ∙ ap (λ (z : Point). z.at) stands;
+      matches = f.matches;
+      kept = kept_same (s.now.top + 0) s.now m.stack;
+      coded = subst (λ (o : Option Code). Coded o m.regs.code) (sym f.silent) tt;
+    },
   )
 
   -- ---- values

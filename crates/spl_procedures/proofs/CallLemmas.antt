@@ -136,7 +136,8 @@ module _ (g : Ground) (w : Rate) (sites : Sites) (b : Body) (start first out end
 
         lost : result_at b.profile.result (s.now.top + k) t ≡ strays t → Follows g w (pos end - pos out) 0 w.reach (tally t) n Done NoExit (result_read t)
         lost e =
-            subst (λ (o : Outcome (List ℕ)). Follows g w (pos end - pos out) 0 w.reach (tally t) n Done NoExit (then_go o (λ ws u. done ws (left_to s.now u)))) (sym e)
+            subst (λ (o : Outcome (List ℕ)). Follows g w (pos end - pos out) 0 w.reach (tally t) n Done NoExit
+            (then_go o (λ ws u. done ws (left_to s.now u)))) (sym e)
             (n, t.begun, goes_none g w (pos end - pos out) 0 (tally t) n, shows, inl refl)
 
         in_setting : Matched (procedure_setting setting.split b.profile) t.now n 0
@@ -144,7 +145,8 @@ module _ (g : Ground) (w : Rate) (sites : Sites) (b : Body) (start first out end
 
         cut : (q : Spot) × Stands g sites (on out) (mode_left setting.split) q × Stands g sites (on q) (EXIT (formals_words b.profile.formals % 256) ∷ []) end
             × (pos out ≤ pos q) × (pos q ≤ pos end)
-        cut = stand_from_place g sites (mode_left setting.split) (EXIT (formals_words b.profile.formals % 256) ∷ []) out end (clear_left setting.split) code.left
+        cut =
+            stand_from_place g sites (mode_left setting.split) (EXIT (formals_words b.profile.formals % 256) ∷ []) out end (clear_left setting.split) code.left
 
         -- the number of EXIT is that of the words of the parameters
         exits : Leads g (on cut.0) end (doing g.segments (i.Control 1 (length vs)) end)
@@ -175,7 +177,8 @@ module _ (g : Ground) (w : Rate) (sites : Sites) (b : Body) (start first out end
               record {
                 words = f.words;
                 value = refl;
-                stands = leave.left_value st whole g p.at k (length vs) b.profile s.now m c.at c.real c.matches t y.0 joined over' f.words f.count stand' f.small;
+                stands =
+                    leave.left_value st whole g p.at k (length vs) b.profile s.now m c.at c.real c.matches t y.0 joined over' f.words f.count stand' f.small;
               },
             )
 
@@ -274,8 +277,10 @@ module _ (g : Ground) (w : Rate) (sites : Sites) (b : Body) (start first out end
       let two = stands_le g sites (cells_set b.cells ++ initials_set b.initials) (on cuts.zeroed_to) cuts.set_to cuts.cells in
       let three = stands_le g sites (mode_entered setting.split) (on cuts.set_to) first cuts.mode in
       let matches =
-      comes_matches (procedure_setting false b.profile) (data_zeroed s.now k b vs) cuts.zeroed_to ((m.stack ++ marked) ++ replicate b.words 0) entered_outer 0 y.0 y.2
-      (frames.frame_matches st b k vs s.now m marked (marker_four (at_left m)) c.matches c.wide c.stand c.small entered_outer entered_expected (omega (arith, room))) in
+      comes_matches (procedure_setting false b.profile) (data_zeroed s.now k b vs) cuts.zeroed_to ((m.stack ++ marked) ++ replicate b.words 0) entered_outer 0
+      y.0 y.2
+      (frames.frame_matches st b k vs s.now m marked (marker_four (at_left m)) c.matches c.wide c.stand c.small entered_outer entered_expected
+      (omega (arith, room))) in
       let over =
       subst (λ (ys : List ℕ). Over s.now m.stack (s.now.top + k) (length m.stack) marked (data_zeroed s.now k b vs) ys) (sym y.2.words)
       (subst (λ (i : ℕ). Over s.now m.stack (s.now.top + k) i marked (data_zeroed s.now k b vs) ((m.stack ++ marked) ++ replicate b.words 0)) (sym long)
@@ -286,7 +291,8 @@ module _ (g : Ground) (w : Rate) (sites : Sites) (b : Body) (start first out end
       (zeros_follow g w (pos first - pos cuts.zeroed_to + (pos end - pos out)) 3 w.reach (3 + b.words) b.words (locals_of s.now.top k b)
       (framed (procedure_framed k b vs s.now) s) y.0 Done NoExit rest
       (record { ending = ap (λ (u : Outer). u.ending) y.2.same ∙ shows.ending; printed = ap (λ (u : Outer). u.printed) y.2.same ∙ shows.printed })
-      (λ j same. body_runs cuts (record (framed (procedure_framed k b vs s.now) s) { now = data_zeroed s.now k b vs; left = j }) y.0 y.2.at matches locals over room refl
+      (λ j same. body_runs cuts (record (framed (procedure_framed k b vs s.now) s) { now = data_zeroed s.now k b vs; left = j }) y.0 y.2.at matches locals
+      over room refl
       (omega (arith, fuel, same)))
       (omega arith))
       (omega (arith, one, two, three)) (omega arith) (omega arith)
@@ -379,8 +385,10 @@ pub procedures_follow : ProceduresAreCalled
 procedures_follow g w sites b start first out end call d code known sets statements st x p r k vs s l m whole by_pcal profile leads next c fuel =
     let by_name : Calling g st (record x { profile = b.profile }) p k vs s l m =
     subst (λ (z : Profile). Calling g st (record x { profile = z }) p k vs s l m) profile c in
-    subst (λ (z : Spot). Follows g w (pos z - pos p.at + w.step) 0 w.reach (tally_with l s) m (IsResult st z b.profile k s.now m) NoExit (run.enter_procedure call d b vs k s))
+    subst (λ (z : Spot). Follows g w (pos z - pos p.at + w.step) 0 w.reach (tally_with l s) m (IsResult st z b.profile k s.now m) NoExit
+    (run.enter_procedure call d b vs k s))
     (sym next)
-    (call_runs g w sites b start first out end call d code known sets statements st whole p k vs s l m x by_name fuel (cuts_of g sites b start first code.entered)
+    (call_runs g w sites b start first out end call d code known sets statements st whole p k vs s l m x by_name fuel
+    (cuts_of g sites b start first code.entered)
     (subst (λ (z : Spot). Leads g p z (calling (i.Control 0 0) (body start) z)) next
     (subst (λ (z : Instr). Leads g p r (calling z (body start) r)) by_pcal leads)))

@@ -1,5 +1,6 @@
 -- The code at a procedure's entry, step by step: the marker that PCAL pushes, the room, the zeros, and the mode; and the run's steps meanwhile.
-use Rattle.std.proofs.Common.{◌≡◌, ℕ, zero, suc, ◌+◌, ◌-◌, ◌*◌, ◌/◌, ◌%◌, ◌≤◌, Bool, true, false, List, [], ◌∷◌, ◌++◌, length, refl, sym, ap, subst, ◌∙◌, arith, inl}
+use Rattle.std.proofs.Common.{◌≡◌, ℕ, zero, suc, ◌+◌, ◌-◌, ◌*◌, ◌/◌, ◌%◌, ◌≤◌, Bool, true, false, List, [], ◌∷◌, ◌++◌, length, refl, sym, ap, subst}
+use Rattle.std.proofs.Common.{◌∙◌, arith, inl}
 use Rattle.std.specs.Prelude.{Option, replicate, ◌==◌, if◌then◌else◌, Ok}
 use Rattle.std.proofs.lemmas.Bool.{eqb-true}
 use Rattle.std.proofs.lemmas.List.{append-nil, append_assoc, length-append, length-replicate, replicate-append-replicate}
@@ -80,7 +81,8 @@ zeros_by_row g w p r n t m xs u leads c runs room =
     )
 
 -- what is left of a number of zeros
-last_there : (g : Ground) (w : Rate) (sites : Sites) (p q : Spot) (n : ℕ) (t : Tally) (m : Machine) (xs : List ℕ) (u : Outer) → Stands g sites (on p) (last_zeros n) q
+last_there : (g : Ground) (w : Rate) (sites : Sites) (p q : Spot) (n : ℕ) (t : Tally) (m : Machine) (xs : List ℕ) (u : Outer)
+    → Stands g sites (on p) (last_zeros n) q
     → Comes p xs u m → m.ending ≡ Running → length xs + n ≤ m.stack_limit → ComesThere g w p q t m (xs ++ replicate n 0) u
 last_there g w sites p q n t m xs u stands c runs room = by (n == 0) refl stands where
   by : (b : Bool) → (n == 0) ≡ b → Stands g sites (on p) (if b then [] else ADDS n ∷ []) q → ComesThere g w p q t m (xs ++ replicate n 0) u
@@ -131,7 +133,8 @@ zeros_there g w sites n p q t m xs u stands x runs room =
     (many_there g w sites 255 (n / 255) (n % 255) p q t m xs u stands x runs (omega (arith, room, whole)))
 
 -- the run's steps meanwhile: where they are spent, the machine is where it is
-pub zeros_follow : (g : Ground) (w : Rate) (c lag e lag' n a : ℕ) (s : State) (m : Machine) (P : List ℕ → State → Machine → Type 0) (J : Exit → State → Machine → Type 0)
+pub zeros_follow : (g : Ground) (w : Rate) (c lag e lag' n a : ℕ) (s : State) (m : Machine) (P : List ℕ → State → Machine → Type 0)
+    (J : Exit → State → Machine → Type 0)
     (go : State → Outcome (List ℕ)) → Shows Running s.now m
     → ((j : ℕ) → s.left ≡ n + j
     → Follows g w c lag e (tally (record s { left = j })) m P J (go (record s { now = record s.now { mem = zeros_put n a s.now.mem }; left = j })))
@@ -157,7 +160,8 @@ mode_changes g w p r q n split s m leads end at runs is =
     subst (λ (z : Spot). ComesThere g w p z (tally s) m m.stack (record (outer m) { split = split })) same (
       left,
       goes_wider g w (pos r - pos p) 0 w.reach (pos r - pos p) 0 0 (tally s) m (tally s) left
-          (lead g w (on p) r (doing g.segments (i.Immediate 0 n) r) s.begun s m left leads at runs refl (ap (λ (o : Row). going r o m) is) (no_print m left refl))
+          (lead g w (on p) r (doing g.segments (i.Immediate 0 n) r) s.begun s m left leads at runs refl (ap (λ (o : Row). going r o m) is)
+          (no_print m left refl))
           (omega arith) (omega arith),
       record { at = refl; words = refl; same = refl },
     )
@@ -185,11 +189,17 @@ mode_leaves g w sites false p q s m stands at whole runs =
 -- where there are none, nothing is set
 pub none_set : NoneAreSet
 none_set g w sites b no_cells no_initials p q stands s m at x locals room silent =
-    subst (λ (e : Data). Follows g w (pos q - pos p) 0 0 (tally s) m (Completes (procedure_setting false b.profile) q 0 s.now m) NoExit (done tt (record s { now = e })))
+    subst (λ (e : Data). Follows g w (pos q - pos p) 0 0 (tally s) m (Completes (procedure_setting false b.profile) q 0 s.now m) NoExit
+    (done tt (record s { now = e })))
     (sym same) (
       m,
       goes_none g w (pos q - pos p) 0 (tally s) m,
-      record { at = at ∙ ap (λ (z : Point). z.at) here; matches = x; kept = kept_same (s.now.top + 0) s.now m.stack; coded = subst (λ (c : Option Code). Coded c m.regs.code) (sym silent) tt },
+      record {
+        at = at ∙ ap (λ (z : Point). z.at) here;
+        matches = x;
+        kept = kept_same (s.now.top + 0) s.now m.stack;
+        coded = subst (λ (c : Option Code). Coded c m.regs.code) (sym silent) tt;
+      },
     ) where
       address : Place → ℕ
       address z = address_of z s.now

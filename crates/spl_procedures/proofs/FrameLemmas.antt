@@ -20,7 +20,8 @@ use Rattle.spl_follow.specs.Matching.{Outer, expected, Matches, Matched, Kept, S
 use Rattle.spl_follow.proofs.StackLemmas.{stand_at}
 use Rattle.spl_follow.proofs.KeepLemmas.{above_none}
 use Rattle.spl_procedures.specs.Procedures.{procedure_setting, HasLocals}
-use Rattle.spl_procedures.proofs.PutLemmas.{IsPut, words_cases, words_there, words_none, word_of_words, zeros_are_words, zeros_small, small_append, behind, before}
+use Rattle.spl_procedures.proofs.PutLemmas.{IsPut, words_cases, words_there, words_none, word_of_words, zeros_are_words, zeros_small, small_append}
+use Rattle.spl_procedures.proofs.PutLemmas.{behind, before}
 
 -- ---- above a caller
 

@@ -58,7 +58,8 @@ words_found st j (suc n) a s m x low = by (s.now.mem a) refl (words_found st j n
   first : (o : Option ℕ) → s.now.mem a ≡ o → words_at (suc n) a s ≡ then_go (data_word_read o s) others
   first o e =
       let inside = x.lies.within in
-      ap (λ (t : Bool). then_go (if t then data_word_read (s.now.mem a) s else ends (trapped Bounds) s) others) (lt-ltb a s.now.stack (omega (arith, low, inside)))
+      ap (λ (t : Bool). then_go (if t then data_word_read (s.now.mem a) s else ends (trapped Bounds) s) others)
+      (lt-ltb a s.now.stack (omega (arith, low, inside)))
       ∙ ap (λ (q : Option ℕ). then_go (data_word_read q s) others) e
 
   by : (o : Option ℕ) → s.now.mem a ≡ o → Found n (suc a) s m ⊎ (words_at n (suc a) s ≡ strays s) → Found (suc n) a s m ⊎ (words_at (suc n) a s ≡ strays s)

@@ -98,6 +98,8 @@ before xs ys a low = get_or_append_left xs ys 0 a low
 pub stand_each : (xs ws : List ℕ) (a : ℕ) → ((i : ℕ) → i < length ws → slice_index xs (a + i) ≡ slice_index ws i) → Stand xs a ws
 stand_each xs [] a same = tt
 stand_each xs (w ∷ ws) a same =
-    let here : a ≡ a + 0 = omega arith in
-    (ap (λ (b : ℕ). slice_index xs b) here ∙ same 0 (omega arith), stand_each xs ws (suc a)
-    (λ i l. let there : suc a + i ≡ a + suc i = omega arith in ap (λ (b : ℕ). slice_index xs b) there ∙ same (suc i) (omega (arith, l))))
+    let here : a ≡ a + 0 = omega arith in (
+      ap (λ (b : ℕ). slice_index xs b) here ∙ same 0 (omega arith),
+      stand_each xs ws (suc a)
+          (λ i l. let there : suc a + i ≡ a + suc i = omega arith in ap (λ (b : ℕ). slice_index xs b) there ∙ same (suc i) (omega (arith, l))),
+    )

@@ -1,9 +1,13 @@
 -- The laws of this crate.
-use Rattle.std.specs.Prelude.{◌≡◌, ℕ, ◌+◌, ◌-◌, ◌≤◌, false, List, []}
+use Rattle.std.specs.Prelude.{◌≡◌, ℕ, ◌+◌, ◌-◌, ◌≤◌, ◌<◌, false, List, []}
 use Rattle.hp_instr.specs.declared.instruction.Instr.TheVariants as i
 use Rattle.hp_session.specs.State.{Machine}
 use Rattle.spl_meaning.specs.References.{Setting}
-use Rattle.spl_meaning.specs.Bodies.{Body}
+use Rattle.spl_meaning.specs.Names.{Table, profile_of}
+use Rattle.spl_meaning.specs.Tables.{Routine}
+use Rattle.spl_meaning.specs.Places.{Place}
+use Rattle.spl_meaning.specs.Pending.{formals_words}
+use Rattle.spl_meaning.specs.Bodies.{Body, procedure_body}
 use Rattle.spl_meaning.specs.Runs.{enter_procedure}
 use Rattle.spl_meaning.specs.States.{State, Begun}
 use Rattle.spl_meaning.specs.Values.{Callee}
@@ -28,3 +32,8 @@ ProceduresAreCalled = (g : Ground) (w : Rate) (sites : Sites) (b : Body) (start 
 -- where a body has neither cells nor initial values, none are to be set
 abbrev pub NoneAreSet : Type 0
 NoneAreSet = (g : Ground) (w : Rate) (sites : Sites) (b : Body) → b.cells ≡ [] → b.initials ≡ [] → AreSet g w sites b
+
+-- what is asked of a procedure's body is so of the body of a routine whose parameters have fewer than 256 words
+abbrev pub RoutinesAreProcedures : Type 0
+RoutinesAreProcedures = (globals : Table Place) (own own_arrays : ℕ) (r : Routine) → formals_words (profile_of r.heading).formals < 256
+    → IsProcedure (procedure_body globals own own_arrays r)

@@ -3,4 +3,4 @@
 
 mod laws;
 
-pub use laws::{none_are_set, procedures_are_called};
+pub use laws::{none_are_set, procedures_are_called, routines_are_procedures};
