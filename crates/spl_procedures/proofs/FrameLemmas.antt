@@ -18,9 +18,9 @@ use Rattle.spl_frames.specs.Words.{AreWords}
 use Rattle.spl_frames.specs.Entries.{data_zeroed}
 use Rattle.spl_follow.specs.Matching.{Outer, expected, Matches, Matched, Kept, Stand}
 use Rattle.spl_follow.proofs.StackLemmas.{stand_at}
-use Rattle.spl_follow.proofs.KeepLemmas.{above_none}
+use Rattle.spl_follow.proofs.KeepLemmas.{above_none, small_join}
 use Rattle.spl_procedures.specs.Procedures.{procedure_setting, HasLocals}
-use Rattle.spl_procedures.proofs.PutLemmas.{IsPut, words_cases, words_there, words_none, word_of_words, zeros_are_words, zeros_small, small_append}
+use Rattle.spl_procedures.proofs.PutLemmas.{IsPut, words_cases, words_there, words_none, word_of_words, zeros_are_words, zeros_small}
 use Rattle.spl_procedures.proofs.PutLemmas.{behind, before}
 
 -- ---- above a caller
@@ -138,7 +138,7 @@ module _ (st : Setting) (b : Body) (k : ℕ) (vs : List ℕ) (d : Data) (m : Mac
       let few = i.few in
       let at = i.at in
       let low : i.i < result_words b.profile + formals_words b.profile.formals = omega (arith, few, params_length) in
-      let words : AreWords params = small_append (replicate (result_words b.profile) 0) vs (zeros_small (result_words b.profile)) small in (
+      let words : AreWords params = small_join (replicate (result_words b.profile) 0) vs (zeros_small (result_words b.profile)) small in (
         omega (arith, at, low),
         ap (λ (j : ℕ). slice_index stacked j) at ∙ caller_word (d.top + k + i.i) (omega (arith, low))
             ∙ stand_at m.stack params (d.top + k) i.i few stand ∙ i.is,

@@ -80,10 +80,6 @@ pub zeros_small : (n : ℕ) → AreWords (replicate n 0)
 zeros_small zero = tt
 zeros_small (suc n) = (omega arith, zeros_small n)
 
-pub small_append : (vs ws : List ℕ) → AreWords vs → AreWords ws → AreWords (vs ++ ws)
-small_append [] ws s t = t
-small_append (v ∷ vs) ws s t = (s.0, small_append vs ws s.1 t)
-
 -- ---- words on a stack
 
 -- what stands behind words, by its number
