@@ -1,5 +1,5 @@
 -- The procedures of a program that may be called: where the code of each stands, and how the calls in a body find it.
-use Rattle.std.specs.Prelude.{◌≡◌, ℕ, Bool, true, List, Some}
+use Rattle.std.specs.Prelude.{◌≡◌, ℕ, Bool, true, false, List, [], Option, Some, None}
 use Rattle.hp_instr.specs.declared.instruction.Instr.TheVariants as i
 use Rattle.spl_meaning.specs.Bodies.{Body, Named, body_named}
 use Rattle.spl_meaning.specs.Names.{Profile}
@@ -31,39 +31,49 @@ pub record CallsAlike (p q : Profile) : Type 0 where
   pub result : p.result ≡ q.result
   pub words : formals_words p.formals ≡ formals_words q.formals
 
--- The calls in a body's code find what they name: each intrinsic that is wanted is served, and each procedure that may be called is called by
--- PCAL, with a profile like its own, at its entry.
-pub record Finds (may : List ℕ → Bool) (entry : List ℕ → Spot) (profile : List ℕ → Profile) (c : Scope) (sites : Sites) (wants : List Wanted) : Type 0 where
-  pub gates : GatesLead sites wants
-  pub allowed : (x : List ℕ) (k : Link) → links_of may c wants (procedure x) ≡ Some k → may x ≡ true
-  pub by : (x : List ℕ) (k : Link) → links_of may c wants (procedure x) ≡ Some k → k.by ≡ i.Control 0 0
-  pub profiles : (x : List ℕ) (k : Link) → links_of may c wants (procedure x) ≡ Some k → CallsAlike k.profile (profile x)
-  pub leads : (x : List ℕ) (k : Link) → links_of may c wants (procedure x) ≡ Some k → sites.ways k.wanted k.index ≡ body (entry x)
+-- the profile of a procedure by its name, as its body has it
+abbrev pub profile_of_body : Option Body → Profile
+profile_of_body (Some b) = b.profile
+profile_of_body None = record { result = None; formals = []; split = false }
 
--- A procedure that may be called: which body it has, where that one's code stands, and that the machine follows its statements where calls in
--- it do what they mean.
-pub record Stood (g : Ground) (w : Rate) (may : List ℕ → Bool) (entry : List ℕ → Spot) (profile : List ℕ → Profile) (procedures : List Named) (x : List ℕ) : Type 0 where
+-- The calls in a body's code find what they name: each intrinsic that is wanted is served; and each procedure that may be called is called by PCAL,
+-- with a profile like its own, where it is known to be entered. `Known` says of a name and a place that this is where a procedure of that name is
+-- entered.
+pub record Finds (may : List ℕ → Bool) (Known : List ℕ → Spot → Type 0) (procedures : List Named) (c : Scope) (sites : Sites) (wants : List Wanted) : Type 0 where
+  pub gates : GatesLead sites wants
+  pub entry : (x : List ℕ) (k : Link) → links_of may c wants (procedure x) ≡ Some k → Spot
+  pub known : (x : List ℕ) (k : Link) (is : links_of may c wants (procedure x) ≡ Some k) → Known x (entry x k is)
+  pub leads : (x : List ℕ) (k : Link) (is : links_of may c wants (procedure x) ≡ Some k) → sites.ways k.wanted k.index ≡ body (entry x k is)
+  pub by : (x : List ℕ) (k : Link) → links_of may c wants (procedure x) ≡ Some k → k.by ≡ i.Control 0 0
+  pub profiles : (x : List ℕ) (k : Link) → links_of may c wants (procedure x) ≡ Some k → CallsAlike k.profile (profile_of_body (body_named procedures x))
+
+-- A procedure that may be called, and is entered at a place: which body it has, where that one's code stands, and that the machine follows its
+-- statements where calls in it do what they mean.
+pub record Stood (g : Ground) (w : Rate) (may : List ℕ → Bool) (Known : List ℕ → Spot → Type 0) (procedures : List Named) (x : List ℕ) (start : Spot) : Type 0 where
   pub its : Body
   pub is : body_named procedures x ≡ Some its
-  pub own : profile x ≡ its.profile
   pub scope : Scope
   pub sites : Sites
   pub wants : List Wanted
   pub exits : Exits
-  pub finds : Finds may entry profile scope sites wants
+  pub finds : Finds may Known procedures scope sites wants
   pub first : Spot
   pub leave : Spot
   pub end : Spot
-  pub framed : ProcedureFramed g w sites its (entry x) first leave end
-  pub known : IsProcedure its
+  pub framed : ProcedureFramed g w sites its start first leave end
+  pub what : IsProcedure its
   pub settable : are_settable its ≡ true
   pub follows : (call : Callee) (d : ℕ) → MayCall may scope (surrounded g w sites wants its.here.setting exits) d call
       → ProcedureStatementsFollow g w its call d first leave
 
 -- Where each procedure that may be called stands so, calls in a body that finds them do what they mean, whatever number of calls one within
--- another that is.
-abbrev pub CalleesFollow : Type 0
-CalleesFollow = (g : Ground) (w : Rate) (may : List ℕ → Bool) (entry : List ℕ → Spot) (profile : List ℕ → Profile) (procedures : List Named)
-    → ((x : List ℕ) → may x ≡ true → Stood g w may entry profile procedures x)
-    → (d : ℕ) (b : Body) (c : Scope) (sites : Sites) (wants : List Wanted) (st : Setting) (x : Exits) → Finds may entry profile c sites wants
+-- another that is. This is so whatever tells where procedures are entered.
+abbrev pub CallsFollowWhere : (List ℕ → Spot → Type 0) → Type 0
+CallsFollowWhere Known = (g : Ground) (w : Rate) (may : List ℕ → Bool) (procedures : List Named)
+    → ((x : List ℕ) (start : Spot) → may x ≡ true → Known x start → Stood g w may Known procedures x start)
+    → (d : ℕ) (b : Body) (c : Scope) (sites : Sites) (wants : List Wanted) (st : Setting) (x : Exits) → Finds may Known procedures c sites wants
     → MayCall may c (surrounded g w sites wants st x) d (calls procedures d b)
+
+-- one place for each name, say
+abbrev pub CalleesFollow : Type 0
+CalleesFollow = (entry : List ℕ → Spot) → CallsFollowWhere (λ x start. start ≡ entry x)
