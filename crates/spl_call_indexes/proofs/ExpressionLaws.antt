@@ -25,7 +25,7 @@ use Rattle.spl_code.specs.Operands.{loaded, address, cell_address, leads_to_doub
 use Rattle.spl_code.specs.Calls.{Scope, result_room, result_taken, called, procedure_called, subroutine_called}
 use Rattle.spl_code.specs.Code.{Aim, as_value, as_test, code, reference, index, arguments, argument, closing, condition, related, text_compared, variable, addressed, calling, named, is_indexed, connected, both_tested, either_tested, either_of, text_related, bytes_related, compared, operated}
 use Rattle.spl_call_indexes.specs.Indexes.{IsIndexedPart, EntriesBelow}
-use Rattle.spl_call_indexes.proofs.PartLaws.{Plain, plain_both, plain_if, indexed_pieces, indexed_then, indexed_fresh, indexed_if, indexed_want}
+use Rattle.spl_call_indexes.proofs.PartLaws.{Plain, plain_both, plain_if, indexed_pieces, indexed_then, indexed_fresh, indexed_if, indexed_want, front_same}
 
 -- ---- constants and strings
 
@@ -207,11 +207,13 @@ same_length : (n : ℕ) → n ≤ n
 same_length n = omega arith
 
 indexed_procedure : {n : ℕ} (x : List ℕ) (o : Option ℕ) → ((entry : ℕ) → o ≡ Some entry → entry < n) → IsIndexedPart n (procedure_called x o)
-indexed_procedure {n} x (Some entry) below = record { grows = λ l ws. same_length (length ws); calls = λ l ws. below_true entry n (below entry refl) }
+indexed_procedure {n} x (Some entry) below =
+    record { grows = λ l ws. same_length (length ws); keeps = λ l ws. front_same ws; calls = λ l ws. below_true entry n (below entry refl) }
 indexed_procedure x None below = indexed_want x false
 
 indexed_subroutine : {n : ℕ} (o : Option ℕ) → ((entry : ℕ) → o ≡ Some entry → entry < n) → IsIndexedPart n (subroutine_called o)
-indexed_subroutine {n} (Some entry) below = record { grows = λ l ws. same_length (length ws); calls = λ l ws. below_true entry n (below entry refl) }
+indexed_subroutine {n} (Some entry) below =
+    record { grows = λ l ws. same_length (length ws); keeps = λ l ws. front_same ws; calls = λ l ws. below_true entry n (below entry refl) }
 indexed_subroutine None below = indexed_pieces [] (λ m n. refl)
 
 indexed_called : {n : ℕ} (c : Scope) → EntriesBelow n c → (w : Who) → IsIndexedPart n (called c w)

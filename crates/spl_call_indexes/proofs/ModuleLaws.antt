@@ -201,7 +201,7 @@ indexed_inner_at : (es : List Entry) (j entry : ℕ) (o : Option Body) → IsInd
 indexed_inner_at es j entry None = indexed_pieces [] (λ m n. refl)
 indexed_inner_at es j entry (Some b) = indexed_inner_with es b entry (slice_get b.subroutines j)
 
-indexed_main_at : (es : List Entry) (o : Option Body) → IsIndexedPart (length es) (main_at es o)
+pub indexed_main_at : (es : List Entry) (o : Option Body) → IsIndexedPart (length es) (main_at es o)
 indexed_main_at es None = indexed_pieces [] (λ m n. refl)
 indexed_main_at es (Some b) = indexed_main b (length es) (body_statements es main b (length es)) (indexed_statements es main b (length es))
 
@@ -217,7 +217,7 @@ indexed_declared q g i j entry (decl.Declaration.label xs) = indexed_pieces [] (
 indexed_declared q g i j entry (decl.Declaration.forward h) = indexed_pieces [] (λ m n. refl)
 indexed_declared q g i j entry (decl.Declaration.external h) = indexed_pieces [] (λ m n. refl)
 
-indexed_declarations : (q : Placed) (g i j entry : ℕ) (ds : Declarations) → IsIndexedPart (length (module_entries q.unit g)) (declared_parts q g i j entry ds)
+pub indexed_declarations : (q : Placed) (g i j entry : ℕ) (ds : Declarations) → IsIndexedPart (length (module_entries q.unit g)) (declared_parts q g i j entry ds)
 indexed_declarations q g i j entry decl.none = indexed_pieces [] (λ m n. refl)
 indexed_declarations q g i j entry (decl.and d ds) =
     indexed_then (indexed_declared q g i j entry d) (indexed_declarations q g (routines_behind i d) (inner_behind j d) (entries_behind q g i entry d) ds)

@@ -1,9 +1,11 @@
 -- Parts whose calls have their indexes, put together.
-use Rattle.std.proofs.Common.{◌≡◌, ◌≤◌, ℕ, zero, suc, ◌+◌, ◌&&◌, nat_lt, Bool, true, false, if◌then◌else◌, List, [], ◌∷◌, ◌++◌, length, replicate, is_some, unwrap_or, position, Option, Some, None, refl, ap, ◌∙◌, arith}
+use Rattle.std.proofs.Common.{◌≡◌, ◌≤◌, ℕ, zero, suc, ◌+◌, ◌&&◌, nat_lt, Bool, true, false, if◌then◌else◌, List, [], ◌∷◌, ◌++◌, length, replicate, is_some, unwrap_or, position, Option, Some, None, refl, sym, ap, ◌∙◌, arith}
 use Rattle.std.specs.List.{list_all}
 use Rattle.std.proofs.lemmas.Bool.{lt-ltb, ltb-true, false≢true, and_from}
+use Rattle.std.proofs.lemmas.List.{append-nil, append_assoc}
 use Rattle.std.proofs.lemmas.List.Folds.{list_all-append}
 use Rattle.std.proofs.lemmas.List.Quantifiers.{position-Some}
+use Rattle.spl_meaning.specs.Laws.{IsFront}
 use Rattle.spl_branch.specs.declared.pieces.Piece.{Piece}
 use Rattle.spl_branch.specs.declared.pieces.Piece.TheVariants.{Do, Literal, Place, Branch, Mark, Call, Begin}
 use Rattle.spl_branch.specs.Pieces.{is_indexed}
@@ -66,12 +68,24 @@ same n = omega arith
 further : (a b c : ℕ) → a ≤ b → b ≤ c → a ≤ c
 further a b c first second = omega arith
 
+pub front_same : (ws : List Wanted) → IsFront ws ws
+front_same ws = record { rest = []; is = sym (append-nil ws) }
+
+front_on : (xs ys zs : List Wanted) → IsFront xs ys → IsFront ys zs → IsFront xs zs
+front_on xs ys zs a b = record {
+  rest = a.rest ++ b.rest;
+  is = b.is ∙ ap (λ (ws : List Wanted). ws ++ b.rest) a.is ∙ append_assoc xs a.rest b.rest;
+}
+
 pub indexed_pieces : {n : ℕ} (ps : List Piece) → Plain ps → IsIndexedPart n (pieces ps)
-indexed_pieces {n} ps plain = record { grows = λ l ws. same (length ws); calls = λ l ws. plain (length ws) n }
+indexed_pieces {n} ps plain = record { grows = λ l ws. same (length ws); keeps = λ l ws. front_same ws; calls = λ l ws. plain (length ws) n }
 
 pub indexed_then : {n : ℕ} {p q : Part} → IsIndexedPart n p → IsIndexedPart n q → IsIndexedPart n (p ⨟ q)
-indexed_then {n} {p} {q} a b = record { grows = grows; calls = calls }
+indexed_then {n} {p} {q} a b = record { grows = grows; keeps = keeps; calls = calls }
   where
+    keeps : (l : ℕ) (ws : List Wanted) → IsFront ws ((p ⨟ q) l ws).wants
+    keeps l ws = front_on ws (p l ws).wants ((p ⨟ q) l ws).wants (a.keeps l ws) (b.keeps (l + (p l ws).marks) (p l ws).wants)
+
     grows : (l : ℕ) (ws : List Wanted) → length ws ≤ length ((p ⨟ q) l ws).wants
     grows l ws = further (length ws) (length (p l ws).wants) (length ((p ⨟ q) l ws).wants) (a.grows l ws) (b.grows (l + (p l ws).marks) (p l ws).wants)
 
@@ -86,7 +100,7 @@ indexed_then {n} {p} {q} a b = record { grows = grows; calls = calls }
         (more m k n (b.grows (l + (p l ws).marks) (p l ws).wants) ps (a.calls l ws)) (b.calls (l + (p l ws).marks) (p l ws).wants)
 
 pub indexed_fresh : {n : ℕ} (f : ℕ → Part) → ((x : ℕ) → IsIndexedPart n (f x)) → IsIndexedPart n (with_fresh f)
-indexed_fresh f h = record { grows = λ l ws. (h l).grows (suc l) ws; calls = λ l ws. (h l).calls (suc l) ws }
+indexed_fresh f h = record { grows = λ l ws. (h l).grows (suc l) ws; keeps = λ l ws. (h l).keeps (suc l) ws; calls = λ l ws. (h l).calls (suc l) ws }
 
 pub indexed_if : {n : ℕ} (b : Bool) (p q : Part) → IsIndexedPart n p → IsIndexedPart n q → IsIndexedPart n (if b then p else q)
 indexed_if true p q a b = a
@@ -103,8 +117,16 @@ no_want = record { name = []; gate = false }
 
 -- of a name of another module or of the system
 pub indexed_want : {n : ℕ} (x : List ℕ) (gate : Bool) → IsIndexedPart n (call_wanted x gate)
-indexed_want {n} x gate = record { grows = λ l ws. grows ws (position (is_wanted x gate) ws); calls = λ l ws. calls ws (position (is_wanted x gate) ws) refl }
+indexed_want {n} x gate = record {
+  grows = λ l ws. grows ws (position (is_wanted x gate) ws);
+  keeps = λ l ws. keeps ws (position (is_wanted x gate) ws);
+  calls = λ l ws. calls ws (position (is_wanted x gate) ws) refl;
+}
   where
+    keeps : (ws : List Wanted) (o : Option ℕ) → IsFront ws (if is_some o then ws else ws ++ record { name = x; gate = gate } ∷ [])
+    keeps ws (Some i) = front_same ws
+    keeps ws None = record { rest = record { name = x; gate = gate } ∷ []; is = refl }
+
     wanted : Wanted
     wanted = record { name = x; gate = gate }
 

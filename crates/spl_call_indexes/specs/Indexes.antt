@@ -1,13 +1,15 @@
 -- Calls in parts of code: what a call wants is among the names wanted behind its part, and the entry that it calls is one of so many.
 use Rattle.std.specs.Prelude.{◌≡◌, ℕ, ◌<◌, ◌≤◌, true, List, length, Some}
 use Rattle.std.specs.List.{list_all}
+use Rattle.spl_meaning.specs.Laws.{IsFront}
 use Rattle.spl_branch.specs.Pieces.{is_indexed}
 use Rattle.spl_code.specs.Parts.{Part, Wanted}
 use Rattle.spl_code.specs.Calls.{Scope}
 
--- whatever stands before a part: no name that was wanted is lost, and each call has its index
+-- whatever stands before a part: the names that were wanted are the first of those wanted behind it, and each call has its index
 pub record IsIndexedPart (entries : ℕ) (part : Part) : Type 0 where
   pub grows : (l : ℕ) (ws : List Wanted) → length ws ≤ length (part l ws).wants
+  pub keeps : (l : ℕ) (ws : List Wanted) → IsFront ws (part l ws).wants
   pub calls : (l : ℕ) (ws : List Wanted) → list_all (is_indexed (length (part l ws).wants) entries) (part l ws).pieces ≡ true
 
 -- the entries that are called in a scope are among the first so many
