@@ -2,18 +2,21 @@
 -- 1. each label leads to its own mark                  (all_lead)
 -- 2. GO TO names a label of a list around it            (statement_lands, list_lands, arms_land)
 -- 3. so it is in main bodies of units                   (mains_land)
+-- 4. and in their procedures                             (routines_land)
 use Rattle.std.proofs.Common.{ℕ, suc, ◌≡◌, ◌+◌, Bool, true, false, if◌then◌else◌, List, [], ◌∷◌, ◌++◌, Option, Some, None, is_some, refl, sym, ap, ◌∙◌}
 use Rattle.std.proofs.lemmas.Bool.{and_from, eq-eqb, false≢true}
 use Rattle.spl_tree.specs.declared.names_and_places.At.{At}
-use Rattle.spl_tree.specs.DeclarationTrees.{declarations}
+use Rattle.spl_tree.specs.DeclarationTrees as decl
+use Rattle.spl_tree.specs.DeclarationTrees.{Declaration, Declarations, declarations}
 use Rattle.spl_tree.specs.StatementTrees as stat
 use Rattle.spl_tree.specs.StatementTrees.{Statement, Statements, statements}
-use Rattle.spl_meaning.specs.Names.{find, same_name, nothing_declared}
-use Rattle.spl_meaning.specs.Tables.{Source, Routine}
+use Rattle.spl_meaning.specs.Names.{Sort, Table, find, same_name, nothing_declared, parameters, formals_of}
+use Rattle.spl_meaning.specs.Stops.{declaration_stops}
+use Rattle.spl_meaning.specs.Tables.{Source, Routine, routine_in, routines_among, with_declaration}
 use Rattle.spl_meaning.specs.Bodies.{all_routines}
 use Rattle.spl_meaning.specs.ExpressionRules.{Scope}
 use Rattle.spl_meaning.specs.Faults.{unless}
-use Rattle.spl_meaning.specs.DeclarationRules.{Around, globals_faults, silent_faults, unit_faults, main_scope}
+use Rattle.spl_meaning.specs.DeclarationRules.{Around, Waiting, heading_faults, local_faults, procedure_scope, procedure_by, procedure_faults, global_faults, waiting_behind, globals_faults, silent_faults, unit_faults, main_scope}
 use Rattle.spl_meaning.specs.StatementRules.{has_name, condition_faults, single_value_faults, step_faults, counter_by, test_faults, sets_code, own_labels, list_labels, label_faults, statement_faults, statements_faults, arms_faults, body_faults}
 use Rattle.spl_meaning.specs.Sound.{all_faults, faults_behind}
 use Rattle.spl_places.specs.Programs.{Each}
@@ -25,7 +28,7 @@ use Rattle.spl_sound_labels.proofs.LabelLaws.{left_none, right_none, no_faults}
 use Rattle.spl_jumps.specs.Landed.{is_landing, is_landed, are_landed}
 use Rattle.spl_jumps.proofs.LabelLemmas.{same_letters}
 use Rattle.spl_jumps.proofs.LandedLemmas.{either_named}
-use Rattle.spl_sound_jumps.specs.Laws.{LandsInUnit, SoundBodiesLand, SoundMainsLand}
+use Rattle.spl_sound_jumps.specs.Laws.{LandsInUnit, LandsInRoutine, LandsInRoutines, SoundBodiesLand, SoundMainsLand, SoundRoutinesLand}
 
 -- ---- 1. labels
 
@@ -180,3 +183,58 @@ units_land before (u ∷ us) none =
 
 pub mains_land : SoundMainsLand
 mains_land us sound = units_land [] us (no_faults us (all_faults us) refl sound)
+
+-- ---- 4. procedures
+
+each_both : {A : Type 0} (P : A → Type 0) (xs ys : List A) → Each P xs → Each P ys → Each P (xs ++ ys)
+each_both P [] ys first second = second
+each_both P (x ∷ xs) ys first second = (first.0, each_both P xs ys first.1 second)
+
+-- the procedure that a declaration is
+own_lands : (a : Around) (sc : Scope) (others : List Routine) (waiting : Waiting) (table : Table Sort) (m : ℕ) (d : Declaration) (ds : Declarations)
+    → global_faults a sc others waiting table d ds ≡ [] → Each LandsInRoutine (routine_in table m d)
+own_lands a sc others waiting table m (decl.Declaration.procedure h items ss) ds none =
+    let globals = with_declaration nothing_declared table (decl.Declaration.procedure h items ss) in
+    let scope = procedure_scope globals h items in
+    let around : Around = record { names = find globals; in_procedure = true; split = h.split; subprogram = false } in
+    let lists = heading_faults h.split h ++ local_faults around scope (parameters (formals_of h)) items in
+    let body = body_faults scope (statements ss) in
+    let own = right_none (procedure_by table (find waiting h.name) h) (procedure_faults globals h items ss) none in
+    (bodies_land scope (statements ss) (right_none lists body own), tt)
+own_lands a sc others waiting table m (decl.Declaration.subroutine h s) ds none = tt
+own_lands a sc others waiting table m (decl.Declaration.data_items own k items) ds none = tt
+own_lands a sc others waiting table m (decl.Declaration.equate es) ds none = tt
+own_lands a sc others waiting table m (decl.Declaration.intrinsic xs) ds none = tt
+own_lands a sc others waiting table m (decl.Declaration.label xs) ds none = tt
+own_lands a sc others waiting table m (decl.Declaration.forward h) ds none = tt
+own_lands a sc others waiting table m (decl.Declaration.external h) ds none = tt
+
+among_land : (a : Around) (sc : Scope) (others : List Routine) (waiting : Waiting) (table : Table Sort) (m : ℕ) (ds : Declarations)
+    → globals_faults a sc others waiting table ds ≡ [] → Each LandsInRoutine (routines_among table m ds)
+among_land a sc others waiting table m decl.none none = tt
+among_land a sc others waiting table m (decl.and d ds) none =
+    let own = global_faults a sc others waiting table d ds in
+    let rest = globals_faults a sc others (waiting_behind waiting d) (with_declaration nothing_declared table d) ds in
+    each_both LandsInRoutine (routine_in table m d) (routines_among (with_declaration nothing_declared table d) (m + declaration_stops d) ds)
+    (own_lands a sc others waiting table m d ds (left_none own rest none))
+    (among_land a sc others (waiting_behind waiting d) (with_declaration nothing_declared table d) (m + declaration_stops d) ds (right_none own rest none))
+
+unit_routines_land : (others : List Routine) (u : Source) → unit_faults others u ≡ [] → LandsInRoutines u
+unit_routines_land others u none =
+    let around : Around = record { names = nothing_declared; in_procedure = false; split = false; subprogram = u.subprogram } in
+    let lists = globals_faults around (main_scope u) others [] [] (declarations u.tree.items) in
+    let body = body_faults (main_scope u) (statements u.tree.statements) in
+    let silent = if u.subprogram then silent_faults u.tree.at u.tree.statements else [] in
+    among_land around (main_scope u) others [] [] 0 (declarations u.tree.items) (left_none lists body (left_none (lists ++ body) silent none))
+
+units_routines_land : (before us : List Source) → faults_behind before us ≡ [] → Each LandsInRoutines us
+units_routines_land before [] none = tt
+units_routines_land before (u ∷ us) none =
+    let of_u = unit_faults (all_routines before ++ all_routines us) u in
+    let of_rest = faults_behind (before ++ u ∷ []) us in (
+      unit_routines_land (all_routines before ++ all_routines us) u (left_none of_u of_rest none),
+      units_routines_land (before ++ u ∷ []) us (right_none of_u of_rest none),
+    )
+
+pub routines_land : SoundRoutinesLand
+routines_land us sound = units_routines_land [] us (no_faults us (all_faults us) refl sound)

@@ -2,7 +2,7 @@
 use Rattle.std.specs.Prelude.{◌≡◌, ℕ, true, List, []}
 use Rattle.spl_tree.specs.StatementTrees.{Statements, statements}
 use Rattle.spl_meaning.specs.Names.{find}
-use Rattle.spl_meaning.specs.Tables.{Source}
+use Rattle.spl_meaning.specs.Tables.{Source, Routine, routines_of}
 use Rattle.spl_meaning.specs.ExpressionRules.{Scope}
 use Rattle.spl_meaning.specs.StatementRules.{list_labels, body_faults}
 use Rattle.spl_meaning.specs.Sound.{IsSound}
@@ -25,3 +25,14 @@ LandsInUnit u = Lands (statements u.tree.statements)
 -- units that break no rule
 abbrev pub SoundMainsLand : Type 0
 SoundMainsLand = (us : List Source) → IsSound us → Each LandsInUnit us
+
+-- the statements of a procedure, without those of its subroutines
+abbrev pub LandsInRoutine : Routine → Type 0
+LandsInRoutine r = Lands (statements r.statements)
+
+-- those of a unit's procedures
+abbrev pub LandsInRoutines : Source → Type 0
+LandsInRoutines u = Each LandsInRoutine (routines_of u)
+
+abbrev pub SoundRoutinesLand : Type 0
+SoundRoutinesLand = (us : List Source) → IsSound us → Each LandsInRoutines us
