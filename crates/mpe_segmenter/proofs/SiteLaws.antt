@@ -178,7 +178,7 @@ module _ (ps : List Part) (w : IsWhole ps) where
   own_site s p i h lt = ap (label_site (program_words ps) s) (own_at s p i h lt)
 
   -- the label of a name that is wanted
-  wanted_at : (s : ℕ) (p : Part) (v : Wanted) → slice_get ps s ≡ Some p → is_wanted v (table_of p.modules).wanted ≡ true
+  pub wanted_at : (s : ℕ) (p : Part) (v : Wanted) → slice_get ps s ≡ Some p → is_wanted v (table_of p.modules).wanted ≡ true
       → label_at (program_words ps) s (1 + (length (owns 0 p.modules) + want_at v (table_of p.modules).wanted)) ≡ wanted_label (tables_of ps) v
   unfolding good
   wanted_at s p v h there =

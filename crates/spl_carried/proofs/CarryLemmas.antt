@@ -1,12 +1,12 @@
 -- A program whose main body is covered follows the run of its units.
-use Rattle.std.proofs.Common.{◌≡◌, ℕ, zero, suc, ◌+◌, ◌-◌, ◌≤◌, Bool, true, false, List, [], ◌∷◌, ◌++◌, length, Option, Some, None, refl, sym, ap, subst, ◌∙◌, arith}
-use Rattle.std.specs.Prelude.{◌==◌, ◌||◌, not, nat_eq, slice_get, option_map, codes, if◌then◌else◌}
+use Rattle.std.proofs.Common.{◌≡◌, ℕ, ◌+◌, ◌≤◌, Bool, true, false, List, [], ◌∷◌, length, Option, Some, None, refl, sym, ap, subst, ◌∙◌, arith}
+use Rattle.std.specs.Prelude.{◌==◌, ◌||◌, not, nat_eq, option_map, codes, if◌then◌else◌}
 use Rattle.std.specs.List.{list_all}
 use Rattle.std.proofs.lemmas.Bool.{and_parts, eqb-true, not-true, false≢true}
 use Rattle.hp_word.specs.declared.intrinsics.Intrinsic.TheVariants as gate
 use Rattle.hp_instr.specs.declared.instruction.Instr.TheVariants as i
 use Rattle.hp_program.specs.declared.program.Program.{Program}
-use Rattle.hp_program.specs.Programs.{segments_of, words_of}
+use Rattle.hp_program.specs.Programs.{words_of}
 use Rattle.hp_program.specs.Valid.{label_of}
 use Rattle.hp_flat.specs.Views.{start_of}
 use Rattle.hp_steady.proofs.ProgramLaws.{words_near}
@@ -19,46 +19,31 @@ use Rattle.spl_meaning.specs.Bodies.{Body, Reached, reached_behind, main_body}
 use Rattle.spl_meaning.specs.Runs.{Seat}
 use Rattle.spl_branch.specs.declared.pieces.Piece.{Piece}
 use Rattle.spl_branch.specs.declared.modules.Module.{Module}
-use Rattle.spl_branch.specs.Modules.{Finished}
-use Rattle.spl_code.specs.Parts.{Wanted, wants_of, wanted_place, with_wanted}
+use Rattle.spl_code.specs.Parts.{Wanted, wanted_place, with_wanted}
 use Rattle.spl_body_code.specs.Frames.{granted}
 use Rattle.spl_statement_code.specs.Landings.{Landing, Context}
 use Rattle.spl_statement_code.specs.Statements.{listed}
 use Rattle.spl_scopes.specs.Entries.{main, Entry, module_entries}
 use Rattle.spl_scopes.specs.Scopes.{Placed, first_reached, placed_units, global_places, outer_body}
 use Rattle.spl_module_code.specs.Bodies.{is_called, seen_results, statements_scope}
-use Rattle.spl_module_code.specs.Modules.{holds_main, main_mark, module_written, IsModuleOf}
-use Rattle.mpe_segmenter.specs.Names.{Part, parts}
+use Rattle.spl_module_code.specs.Modules.{holds_main, main_mark, IsModuleOf}
+use Rattle.mpe_segmenter.specs.Names.{parts}
 use Rattle.mpe_segmenter.specs.Counts.{sizes}
 use Rattle.mpe_segmenter.specs.Programs.{program_words}
-use Rattle.mpe_segmenter.specs.Sites.{IsModule, module_entries as entries_of}
-use Rattle.mpe_segmenter.specs.Whole.{IsWhole}
-use Rattle.mpe_segmenter.proofs.FitLemmas.{fits_at}
-use Rattle.std.specs.Global.{Vec}
-use Rattle.std.proofs.lemmas.List.{append-nil, length-map}
-use Rattle.spl_branch.specs.declared.modules.Define.{Define}
-use Rattle.spl_branch.specs.declared.modules.Want.{Want}
-use Rattle.spl_branch.specs.Pieces.{is_indexed}
-use Rattle.spl_branch.specs.Modules.{define_of, sites as decoded}
+use Rattle.std.proofs.lemmas.List.{append-nil}
 use Rattle.spl_branch.specs.Stands.{at_left}
 use Rattle.spl_code.specs.Parts.{Written}
 use Rattle.spl_meaning.specs.Laws.{IsFront}
-use Rattle.spl_complete_codes.proofs.Complete.{complete}
 use Rattle.spl_follow.specs.Spots.{Spot, pos, on, Ground}
 use Rattle.spl_follow.specs.Standing.{Sites, Stands, due_after}
 use Rattle.spl_follow.specs.Following.{Rate}
 use Rattle.spl_follow.specs.Doing.{calling}
 use Rattle.spl_follow.specs.Simulating.{Surroundings}
 use Rattle.spl_stands.specs.Fitting.{placed}
-use Rattle.spl_sites.specs.Beginnings.{begins_well, is_of_kind}
-use Rattle.spl_sites.specs.Grounds.{ground_of, AllCallsLead}
-use Rattle.spl_sites.proofs.ProgramLemmas.{programs_stand}
-use Rattle.spl_ways.specs.Ways.{word_of, module_sites}
-use Rattle.spl_ways.proofs.WayLemmas.{calls_lead}
+use Rattle.spl_sites.specs.Beginnings.{begins_well}
+use Rattle.spl_sites.specs.Grounds.{ground_of}
+use Rattle.spl_ways.specs.Ways.{word_of}
 use Rattle.spl_ways.proofs.MainLemmas.{main_starts}
-use Rattle.mpe_segmenter.specs.Programs.{main_from}
-use Rattle.mpe_segmenter.specs.Sites.{Links}
-use Rattle.spl_module_code.specs.Modules.{AreModules}
 use Rattle.spl_endings.specs.Gates.{Served, GatesLead}
 use Rattle.spl_endings.proofs.WantLemmas.{wanted_there, wanted_keeps}
 use Rattle.spl_endings.proofs.GateLemmas.{last_ends}
@@ -76,13 +61,17 @@ use Rattle.spl_bounds.specs.Programs.{IsOf, ProgramsKeepBounds, DataWordsAreInit
 use Rattle.spl_followed.specs.Laws.{FollowedProgramsCarry}
 use Rattle.spl_carried.specs.Laws.{CoveredProgramsCarry}
 use Rattle.spl_carried.proofs.WholeLemmas.{whole_parts}
-use Rattle.spl_carried.proofs.MainLemmas.{IsIn, at_front, behind, in_all, MainThere, main_there, main_is, same_entry}
-use Rattle.spl_carried.proofs.GateLemmas.{module_gates_lead}
+use Rattle.spl_routines.specs.Among.{IsIn, at_front, behind}
+use Rattle.spl_routines.specs.Located.{MadeOf, Located, sites_at, wants_at}
+use Rattle.spl_routines.proofs.ListLemmas.{in_all, place_of}
+use Rattle.spl_routines.proofs.StandLemmas.{module_fits, module_stands, module_end}
+use Rattle.spl_routines.proofs.GateLemmas.{gates_are_served}
+use Rattle.spl_carried.proofs.MainLemmas.{MainThere, main_there, main_is, same_entry}
 use Rattle.spl_carried.proofs.PieceLemmas.{landing_place, way_out, main_context, MainPieces, main_pieces, MainStands, main_stands}
 use Rattle.spl_covered.specs.Laws.{read_with}
 use Rattle.spl_followed.specs.Mains.{main_setting}
 use Rattle.spl_carries.specs.Segments.{initial_words}
-use Rattle.spl_carries.specs.Carries.{words_in, weight, MaySit}
+use Rattle.spl_carries.specs.Carries.{weight, MaySit}
 use Rattle.spl_followed.specs.Followed.{Followed}
 use Rattle.spl_followed.specs.Mains.{FramedProgramsFollow}
 use Rattle.spl_carried.specs.Covered.{main_count, is_covered_body, is_covered_unit, is_covered_program}
@@ -139,44 +128,12 @@ of_main unit number offset marks e = by (holds_main unit number) refl e where
 outer_is : (p : Placed) → p.unit.subprogram ≡ false → outer_body p main ≡ Some (main_body (global_places p) p.unit)
 outer_is p whole = ap (λ (b : Bool). if b then None else Some (main_body (global_places p) p.unit)) whole
 
--- ---- words
-
--- a segment has no more words than all
-segment_words : (segments : List (List ℕ)) (seg : ℕ) → length (words_of segments seg) ≤ words_in segments
-segment_words [] seg = omega arith
-segment_words (s ∷ segments) zero = omega arith
-segment_words (s ∷ segments) (suc seg) = let rest = segment_words segments seg in omega (arith, rest)
-
-sizes_append : (front : List Module) (m : Module) (back : List Module) → sizes (front ++ m ∷ back) ≡ sizes front + (m.size + sizes back)
-sizes_append [] m back = omega arith
-sizes_append (x ∷ front) m back = let rest = sizes_append front m back in omega (arith, rest)
-
--- a module is no longer than a segment that has it
-module_fits : (ps : List Part) (w : IsWhole ps) (seg : ℕ) (front : List Module) (m : Module) (back : List Module) → IsModule ps seg front m back
-    → m.size ≤ 16383
-module_fits ps w seg front m back is =
-    let f = fits_at ps seg is.part w.fitting is.there in
-    let words = f.words in
-    let all = ap sizes is.among in
-    let here = sizes_append front m back in
-    omega (arith, words, all, here)
-
 -- ---- a program of modules
 
--- what is known of a program that is made of modules of units, and of the pieces of their code
-pub record MadeOf (us : List Source) (p : Program) (ms : List Module) : Type 0 where
-  pub are : AreModules us ms
-  pub whole : IsWhole (parts ms)
-  pub segments : segments_of p ≡ program_words (parts ms)
-  pub links : Links (parts ms) (segments_of p)
-  pub main : main_from 0 (parts ms) ≡ Some (p.main, p.entry)
-  pub kinds : (q : Placed) (g : ℕ) → list_all is_of_kind (module_written q g).pieces ≡ true
-  pub well : (q : Placed) (g : ℕ) → IsIn q (placed_units (first_reached us) us) → begins_well false (module_written q g).pieces ≡ true
-  pub lands : (q : Placed) → IsIn q (placed_units (first_reached us) us) → LandsInUnit q.unit
-
-module _ (us : List Source) (p : Program) (ms : List Module) (f : MadeOf us p ms) (seg : ℕ) (front : List Module) (m : Module) (back : List Module)
-    (is : IsModule (parts ms) seg front m back) (unit : Placed) (there : IsIn unit (placed_units (first_reached us) us)) (name : List ℕ)
-    (of : IsModuleOf unit name unit.unit.tree.segment m) (whole : unit.unit.subprogram ≡ false) (holds : holds_main unit unit.unit.tree.segment ≡ true)
+module _ (us : List Source) (p : Program) (ms : List Module) (f : MadeOf us p ms)
+    (lands : (q : Placed) → IsIn q (placed_units (first_reached us) us) → LandsInUnit q.unit) (unit : Placed)
+    (there : IsIn unit (placed_units (first_reached us) us)) (at : Located ms unit unit.unit.tree.segment) (whole : unit.unit.subprogram ≡ false)
+    (holds : holds_main unit unit.unit.tree.segment ≡ true)
     (covered : is_covered_body (module_entries unit.unit unit.unit.tree.segment) (main_body (global_places unit) unit.unit) ≡ true) where
   abbrev es : List Entry
   es = module_entries unit.unit unit.unit.tree.segment
@@ -184,17 +141,14 @@ module _ (us : List Source) (p : Program) (ms : List Module) (f : MadeOf us p ms
   abbrev body : Body
   body = main_body (global_places unit) unit.unit
 
-  abbrev finished : Finished of.code m
-  finished = of.finished (module_fits (parts ms) f.whole seg front m back is)
-
   abbrev ground : Ground
   ground = ground_of p (words_near p) ms
 
   abbrev sites : Sites
-  sites = module_sites (program_words (parts ms)) seg (sizes front) finished.marks (entries_of front m back)
+  sites = sites_at at
 
   abbrev wants : List Wanted
-  wants = wants_of of.code.wants.items
+  wants = wants_at at
 
   parts_of : MainPieces unit unit.unit.tree.segment body
   parts_of = main_pieces unit unit.unit.tree.segment body holds (outer_is unit whole)
@@ -207,39 +161,16 @@ module _ (us : List Source) (p : Program) (ms : List Module) (f : MadeOf us p ms
 
   -- its labels and jumps lead somewhere
   landed : are_landed context.landings (list_labels body.statements) body.statements 0 ≡ true
-  landed = f.lands unit there parts_of.mark
+  landed = lands unit there parts_of.mark
 
   abbrev index : ℕ
   index = wanted_place (codes "TERMINATE") true statements.wants
 
   abbrev start : Spot
-  start = placed seg (at_left (sizes front))
+  start = placed at.seg (at_left (sizes at.front))
 
   abbrev end : Spot
-  end = placed seg (at_left (sizes front + length m.words.items))
-
-  well : begins_well false of.code.pieces.items ≡ true
-  well = ap (λ (ps : List Piece). begins_well false ps) of.is.pieces ∙ f.well unit unit.unit.tree.segment there
-
-  kinds : list_all is_of_kind of.code.pieces.items ≡ true
-  kinds = ap (λ (ps : List Piece). list_all is_of_kind ps) of.is.pieces ∙ f.kinds unit unit.unit.tree.segment
-
-  indexed : list_all (is_indexed (length m.wants.items) (length m.defines.items)) of.code.pieces.items ≡ true
-  indexed =
-      ap (λ (k : ℕ). list_all (is_indexed k (length m.defines.items)) of.code.pieces.items) (ap (λ (w : Vec Want). length w.items) of.wants)
-      ∙ ap (λ (k : ℕ). list_all (is_indexed (length of.code.wants.items) k) of.code.pieces.items)
-      (ap (λ (ds : List Define). length ds) finished.defines ∙ length-map of.code.entries.items (define_of finished.marks))
-      ∙ (complete unit name unit.unit.tree.segment of.code of.is).calls
-
-  calls : AllCallsLead (segments_of p) seg (decoded (sizes front) finished.marks (entries_of front m back)) sites of.code.pieces.items
-  calls =
-      subst (λ (segments : List (List ℕ)). AllCallsLead segments seg (decoded (sizes front) finished.marks (entries_of front m back)) sites of.code.pieces.items)
-      (sym f.segments) (calls_lead (parts ms) f.whole seg front m back is finished.marks of.code.pieces.items kinds indexed)
-
-  module_stands : Stands ground sites (on start) of.code.pieces.items end
-  module_stands =
-      programs_stand p (words_near p) ms f.links seg front m back is of.code finished sites (λ l. refl) well kinds
-      (complete unit name unit.unit.tree.segment of.code of.is).pieces calls
+  end = placed at.seg (at_left (sizes at.front + length at.here.words.items))
 
   clear : due_after false statements.pieces ≡ false
   clear = list_clear context main_setting body.statements 0 covered (list_labels body.statements) landed parts_of.marks parts_of.wants
@@ -248,15 +179,13 @@ module _ (us : List Source) (p : Program) (ms : List Module) (f : MadeOf us p ms
   stands =
       main_stands ground sites parts_of.before (length es) body.depth' statements.pieces index start end
       (ap (λ (ps : List Piece). begins_well false ps) (sym parts_of.pieces) ∙ f.well unit unit.unit.tree.segment there) clear
-      (subst (λ (ps : List Piece). Stands ground sites (on start) ps end) (of.is.pieces ∙ parts_of.pieces) module_stands)
+      (subst (λ (ps : List Piece). Stands ground sites (on start) ps end) (at.of.is.pieces ∙ parts_of.pieces)
+      (module_stands us p (words_near p) ms f unit there unit.unit.tree.segment at))
 
   -- ---- rates
 
   far : pos end ≤ weight p
-  far =
-      let within = (f.links.lies seg front m back is).within in
-      let few = segment_words (segments_of p) seg in
-      omega (arith, within, few)
+  far = module_end us p (words_near p) ms f unit there unit.unit.tree.segment at
 
   abbrev rate : Rate
   rate = record {
@@ -269,12 +198,10 @@ module _ (us : List Source) (p : Program) (ms : List Module) (f : MadeOf us p ms
   -- ---- names
 
   last : wants ≡ with_wanted (codes "TERMINATE") true statements.wants
-  last = of.is.wants ∙ parts_of.last
+  last = at.of.is.wants ∙ parts_of.last
 
   gates : GatesLead sites wants
-  gates =
-      subst (λ (ws : List Want). GatesLead sites (wants_of ws)) (ap (λ (w : Vec Want). w.items) of.wants)
-      (module_gates_lead (parts ms) f.whole seg front m back is finished.marks)
+  gates = gates_are_served us p ms f unit unit.unit.tree.segment at
 
   wanted : IsFront statements.wants wants
   wanted = subst (λ (ws : List Wanted). IsFront statements.wants ws) (sym last) (wanted_keeps (codes "TERMINATE") true statements.wants)
@@ -329,7 +256,8 @@ module _ (us : List Source) (p : Program) (ms : List Module) (f : MadeOf us p ms
 -- ---- the program
 
 -- a program whose main body is covered follows the run of its units, from each seat
-module _ (us : List Source) (p : Program) (ms : List Module) (f : MadeOf us p ms) (covered : is_covered_program us ≡ true) where
+module _ (us : List Source) (p : Program) (ms : List Module) (f : MadeOf us p ms)
+    (lands : (q : Placed) → IsIn q (placed_units (first_reached us) us) → LandsInUnit q.unit) (covered : is_covered_program us ≡ true) where
   abbrev main_module : MainThere us ms p.main p.entry
   main_module = main_there us ms p.main p.entry f.are f.main
 
@@ -358,6 +286,19 @@ module _ (us : List Source) (p : Program) (ms : List Module) (f : MadeOf us p ms
       of_main main_unit main_unit.unit.tree.segment main_module.offset (in_segment.finished main_small).marks
       (main_mark_is main_unit.unit.tree.segment in_segment)
 
+  -- where that module stands
+  abbrev located : Located ms main_unit main_unit.unit.tree.segment
+  located = record {
+    name = main_module.of.name;
+    seg = p.main;
+    front = main_module.front;
+    here = main_module.here;
+    back = main_module.back;
+    is = main_module.is;
+    of = in_segment;
+    finished = in_segment.finished main_small;
+  }
+
   both_of : (main_count us ≡ 1) × (list_all is_covered_unit (placed_units (first_reached us) us) ≡ true)
   both_of =
       let two = and_parts (main_count us == 1) (list_all is_covered_unit (placed_units (first_reached us) us)) covered in
@@ -377,31 +318,20 @@ module _ (us : List Source) (p : Program) (ms : List Module) (f : MadeOf us p ms
 
   pub program_follows : FramedProgramsFollow → p.globals.items ≡ initial_words us → (seat : Seat) → MaySit us seat → Followed p us seat
   program_follows law globals seat sits =
-      let front = main_module.front in
-      let m = main_module.here in
-      let back = main_module.back in
-      let is = main_module.is in
       let there = main_module.of.there in
-      let name = main_module.of.name in
-      law p us seat (ground us p ms f p.main front m back is main_unit there name in_segment main_of.whole main_of.holds body_covered)
-      (rate us p ms f p.main front m back is main_unit there name in_segment main_of.whole main_of.holds body_covered)
-      (body us p ms f p.main front m back is main_unit there name in_segment main_of.whole main_of.holds body_covered)
-      ((sites us p ms f p.main front m back is main_unit there name in_segment main_of.whole main_of.holds body_covered).marks
+      law p us seat (ground us p ms f lands main_unit there located main_of.whole main_of.holds body_covered)
+      (rate us p ms f lands main_unit there located main_of.whole main_of.holds body_covered)
+      (body us p ms f lands main_unit there located main_of.whole main_of.holds body_covered)
+      ((sites us p ms f lands main_unit there located main_of.whole main_of.holds body_covered).marks
       (length (module_entries main_unit.unit main_unit.unit.tree.segment)))
-      (stands us p ms f p.main front m back is main_unit there name in_segment main_of.whole main_of.holds body_covered).first
-      (stands us p ms f p.main front m back is main_unit there name in_segment main_of.whole main_of.holds body_covered).leave
+      (stands us p ms f lands main_unit there located main_of.whole main_of.holds body_covered).first
+      (stands us p ms f lands main_unit there located main_of.whole main_of.holds body_covered).leave
       refl (omega arith) globals sits (main_is us main_unit both_of.0 there main_of.whole)
       (ap (λ (k : ℕ). word_of p.main k) starts)
-      (framed us p ms f p.main front m back is main_unit there name in_segment main_of.whole main_of.holds body_covered)
-      (followed us p ms f p.main front m back is main_unit there name in_segment main_of.whole main_of.holds body_covered)
+      (framed us p ms f lands main_unit there located main_of.whole main_of.holds body_covered)
+      (followed us p ms f lands main_unit there located main_of.whole main_of.holds body_covered)
 
 -- ---- all of it
-
--- an element has a place
-place_of : {A : Type 0} (x : A) (xs : List A) → IsIn x xs → (k : ℕ) × (slice_get xs k ≡ Some x)
-place_of x [] k = elim k [ ]
-place_of x (y ∷ xs) (at_front e) = (0, ap (λ z. Some z) (sym e))
-place_of x (y ∷ xs) (behind k) = let r = place_of x xs k in (suc r.0, r.1)
 
 -- what holds of each unit holds of each that is placed
 each_placed : (P : Source → Type 0) (at : Reached) (us : List Source) (q : Placed) → Each P us → IsIn q (placed_units at us) → P q.unit
@@ -411,8 +341,8 @@ each_placed P at (u ∷ us) q each (behind k) = each_placed P (reached_behind u 
 
 -- what is known of what modules of units make
 made_of : (us : List Source) (ms : List Module) (globals : List ℕ) (p : Program) → IsOf us ms globals p → first_fault ms ≡ None → CodesHaveKinds
-    → SoundCodesBeginWell → SoundMainsLand → MadeOf us p ms
-made_of us ms globals p is none kinds well lands = record {
+    → SoundCodesBeginWell → MadeOf us p ms
+made_of us ms globals p is none kinds well = record {
   are = is.are_modules;
   whole = whole_parts us ms is.are_modules none;
   segments = is.makes.segments;
@@ -420,7 +350,6 @@ made_of us ms globals p is none kinds well lands = record {
   main = is.makes.main;
   kinds = kinds;
   well = λ q g there. let at = place_of q (placed_units (first_reached us) us) there in well us is.spelled is.sound at.0 q at.1 g;
-  lands = λ q there. each_placed LandsInUnit (first_reached us) us q (lands us is.sound) there;
 }
 
 pub carried : CodesHaveKinds → SoundCodesBeginWell → SoundMainsLand → ProgramsKeepBounds → DataWordsAreInitial → FramedProgramsFollow
@@ -428,4 +357,5 @@ pub carried : CodesHaveKinds → SoundCodesBeginWell → SoundMainsLand → Prog
 carried kinds well lands bounds initial framed carry us ms globals p is numbers none laid covered =
     let words = is.makes.data_words ∙ (initial us globals laid).1 in
     carry p us (bounds us ms globals p is numbers) words
-    (program_follows us p ms (made_of us ms globals p is none kinds well lands) covered framed words)
+    (program_follows us p ms (made_of us ms globals p is none kinds well) (λ q there. each_placed LandsInUnit (first_reached us) us q (lands us is.sound) there)
+    covered framed words)

@@ -1,6 +1,5 @@
 -- In reading order.
 pub mod MainLemmas
 pub mod WholeLemmas
-pub mod GateLemmas
 pub mod PieceLemmas
 pub mod CarryLemmas

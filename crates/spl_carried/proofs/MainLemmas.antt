@@ -1,61 +1,20 @@
 -- Where the main body of a program is: among its units, among its modules, and among its segments.
-use Rattle.std.proofs.Common.{◌≡◌, ℕ, zero, suc, ◌+◌, Bool, true, false, List, [], ◌∷◌, ◌++◌, map, length, Option, Some, None, refl, sym, ap, subst, ◌∙◌, arith}
+use Rattle.std.proofs.Common.{◌≡◌, ℕ, suc, ◌+◌, Bool, true, false, List, [], ◌∷◌, ◌++◌, length, Option, Some, None, refl, sym, ap, subst, ◌∙◌, arith}
 use Rattle.std.specs.Prelude.{slice_get, is_some, option_map, unwrap_or, if◌then◌else◌}
-use Rattle.std.specs.Cmp.Lexicographic.{pointwise}
-use Rattle.std.specs.Prelude.{nat_eq}
-use Rattle.std.specs.List.{list_all}
-use Rattle.std.proofs.lemmas.Bool.{and_parts, false≢true}
+use Rattle.std.proofs.lemmas.Bool.{false≢true}
 use Rattle.spl_meaning.specs.Tables.{Source}
 use Rattle.spl_meaning.specs.Bodies.{Reached, reached_behind, main_body, program_from, program_of, data_words}
 use Rattle.spl_branch.specs.declared.modules.Module.{Module}
-use Rattle.mpe_segmenter.specs.Names.{segment_of, segment_names, modules_of, Part, part_from, parts}
+use Rattle.mpe_segmenter.specs.Names.{Part, parts}
 use Rattle.mpe_segmenter.specs.Entries.{own_count, owned, either}
 use Rattle.mpe_segmenter.specs.Programs.{main_at, main_from}
 use Rattle.mpe_segmenter.specs.Sites.{IsModule}
 use Rattle.spl_scopes.specs.Scopes.{Placed, first_reached, placed_units, global_places}
-use Rattle.spl_module_code.specs.Modules.{IsModuleOf, AreOfUnit, AreOf, AreModules, program_uses}
-use Rattle.spl_module_code.specs.Modules.{AreOfUnit as u}
-use Rattle.spl_module_code.specs.Modules.{AreOfUnit as u}
-use Rattle.spl_module_code.specs.Modules.{AreOf as a}
+use Rattle.spl_module_code.specs.Modules.{AreModules, program_uses}
+use Rattle.spl_routines.specs.Among.{IsIn, at_front, behind}
+use Rattle.spl_routines.proofs.ListLemmas.{in_middle}
+use Rattle.spl_routines.proofs.ModuleLemmas.{in_program, ModuleOf, modules_of_units}
 use Rattle.spl_carried.specs.Covered.{main_count}
-
--- ---- lists
-
--- an element of a list
-pub data IsIn {A : Type 0} (x : A) : List A → Type 0 where
-  at_front : {y : A} {xs : List A} → x ≡ y → IsIn x (y ∷ xs)
-  behind : {y : A} {xs : List A} → IsIn x xs → IsIn x (y ∷ xs)
-
-pub in_left : {A : Type 0} (x : A) (xs ys : List A) → IsIn x xs → IsIn x (xs ++ ys)
-in_left x [] ys k = elim k [ ]
-in_left x (y ∷ xs) ys (at_front e) = at_front e
-in_left x (y ∷ xs) ys (behind k) = behind (in_left x xs ys k)
-
-pub in_right : {A : Type 0} (x : A) (xs ys : List A) → IsIn x ys → IsIn x (xs ++ ys)
-in_right x [] ys k = k
-in_right x (y ∷ xs) ys k = behind (in_right x xs ys k)
-
-pub in_middle : {A : Type 0} (x : A) (xs ys : List A) → IsIn x (xs ++ x ∷ ys)
-in_middle x xs ys = in_right x xs (x ∷ ys) (at_front refl)
-
--- it is of the one part or of the other
-pub data InEither {A : Type 0} (x : A) (xs ys : List A) : Type 0 where
-  left : IsIn x xs → InEither x xs ys
-  right : IsIn x ys → InEither x xs ys
-
-pub in_parts : {A : Type 0} (x : A) (xs ys : List A) → IsIn x (xs ++ ys) → InEither x xs ys
-in_parts x [] ys k = right k
-in_parts x (y ∷ xs) ys (at_front e) = left (at_front e)
-in_parts x (y ∷ xs) ys (behind k) = by (in_parts x xs ys k) where
-  by : InEither x xs ys → InEither x (y ∷ xs) ys
-  by (left k) = left (behind k)
-  by (right k) = right k
-
--- what holds of all holds of it
-pub in_all : {A : Type 0} (p : A → Bool) (x : A) (xs : List A) → IsIn x xs → list_all p xs ≡ true → p x ≡ true
-in_all p x [] k h = elim k [ ]
-in_all p x (y ∷ xs) (at_front e) h = ap p e ∙ (and_parts (p y) (list_all p xs) h).0
-in_all p x (y ∷ xs) (behind k) h = in_all p x xs k (and_parts (p y) (list_all p xs) h).1
 
 -- ---- segments
 
@@ -144,58 +103,6 @@ part_with_main s (p ∷ ps) seg entry e = by (main_at 1 p.modules) refl e (λ f.
       record { number = suc r.number; part = r.part; is = omega (arith, is); there = r.there; main = r.main }
 
 -- ---- modules
-
--- the modules of a segment are modules of the program
-in_longer : (b : Bool) (x y : Module) (zs ms : List Module) → IsIn y (if b then x ∷ zs else zs) → (IsIn y zs → IsIn y ms) → IsIn y (x ∷ ms)
-in_longer true x y zs ms (at_front e) rest = at_front e
-in_longer true x y zs ms (behind k) rest = behind (rest k)
-in_longer false x y zs ms k rest = behind (rest k)
-
-in_modules : (name : List ℕ) (ms : List Module) (m : Module) → IsIn m (modules_of name ms) → IsIn m ms
-in_modules name [] m k = k
-in_modules name (x ∷ ms) m k = in_longer (pointwise nat_eq name (segment_of x)) x m (modules_of name ms) ms k (λ j. in_modules name ms m j)
-
--- a segment is that of its name
-part_is : (ms : List Module) (names : List (List ℕ)) (i : ℕ) (p : Part) → slice_get (map (part_from ms) names) i ≡ Some p
-    → (name : List ℕ) × (p ≡ part_from ms name)
-part_is ms [] i p e = cc
-part_is ms (name ∷ names) zero p e = let same : part_from ms name ≡ p = cc in (name, sym same)
-part_is ms (name ∷ names) (suc i) p e = part_is ms names i p e
-
-in_program : (ms : List Module) (i : ℕ) (p : Part) (m : Module) → slice_get (parts ms) i ≡ Some p → IsIn m p.modules → IsIn m ms
-in_program ms i p m there k =
-    let is = part_is ms (segment_names ms) i p there in
-    in_modules is.0 ms m (by p (part_from ms is.0) is.1 k) where
-      by : (p q : Part) → p ≡ q → IsIn m p.modules → IsIn m q.modules
-      by p q same k = subst (λ (x : Part). IsIn m x.modules) same k
-
--- whose code a module has
-pub record ModuleOf (ps : List Placed) (m : Module) : Type 0 where
-  pub unit : Placed
-  pub there : IsIn unit ps
-  pub name : List ℕ
-  pub number : ℕ
-  pub is : IsModuleOf unit name number m
-
-unit_module : (p : Placed) (taken : List ℕ) (names : List (List ℕ)) (ms : List Module) (m : Module) → AreOfUnit p taken names ms → IsIn m ms
-    → (name : List ℕ) × (g : ℕ) × IsModuleOf p name g m
-unit_module p taken [] ms m u.none k = elim k [ ]
-unit_module p taken (name ∷ names) (x ∷ ms) m (u.more {g = g} e is rest) (at_front same) = (name, g, subst (λ (y : Module). IsModuleOf p name g y) (sym same) is)
-unit_module p taken (name ∷ names) (x ∷ ms) m (u.more {g = g} e is rest) (behind k) = unit_module p (g ∷ taken) names ms m rest k
-unit_module p taken (name ∷ names) ms m (u.skip e rest) k = unit_module p taken names ms m rest k
-
-modules_of_units : (names : List (List ℕ)) (ps : List Placed) (ms : List Module) (m : Module) → AreOf names ps ms → IsIn m ms → ModuleOf ps m
-modules_of_units names [] ms m a.none k = absurd (none_in m k) where
-  none_in : (x : Module) → IsIn x [] → ⊥
-  none_in x k = elim k [ ]
-modules_of_units names (p ∷ ps) ms m (a.more {ms = xs} {ns = ns} one others) k = by (in_parts m xs ns k) (λ j. modules_of_units names ps ns m others j) where
-  by : InEither m xs ns → (IsIn m ns → ModuleOf ps m) → ModuleOf (p ∷ ps) m
-  by (left k) rest =
-      let r = unit_module p [] names xs m one k in
-      record { unit = p; there = at_front refl; name = r.0; number = r.1; is = r.2 }
-  by (right k) rest =
-      let r = rest k in
-      record { unit = r.unit; there = behind r.there; name = r.name; number = r.number; is = r.is }
 
 -- the main body of a program: its segment and entry, and its module there
 pub record MainThere (us : List Source) (ms : List Module) (seg entry : ℕ) : Type 0 where

@@ -1,69 +1,34 @@
 -- The pieces of a main body, among those of its module, and where each part of them stands.
-use Rattle.std.proofs.Common.{◌≡◌, ℕ, ◌+◌, ◌≤◌, Bool, true, false, List, [], ◌∷◌, ◌++◌, length, Option, Some, None, refl, sym, ap, subst, ◌∙◌, arith}
-use Rattle.std.specs.Prelude.{◌&&◌, not, nat_lt, min, codes, if◌then◌else◌}
-use Rattle.std.proofs.lemmas.Bool.{and_parts, false≢true}
+use Rattle.std.proofs.Common.{◌≡◌, ℕ, ◌+◌, ◌≤◌, Bool, true, false, List, [], ◌∷◌, ◌++◌, length, Option, Some, None, sym, ap, subst, ◌∙◌, arith}
+use Rattle.std.specs.Prelude.{codes, if◌then◌else◌}
 use Rattle.hp_instr.specs.declared.instruction.Instr.TheVariants as i
 use Rattle.spl_tree.specs.DeclarationTrees.{declarations}
 use Rattle.spl_meaning.specs.Names.{Table}
 use Rattle.spl_meaning.specs.Bodies.{Body}
 use Rattle.spl_meaning.specs.States.{Exit, to_label, back}
 use Rattle.spl_branch.specs.declared.pieces.Piece.{Piece}
-use Rattle.spl_branch.specs.declared.pieces.Piece.TheVariants.{Do, Literal, Place, Branch, Mark, Call, Begin}
-use Rattle.spl_code.specs.Constants.{constant}
+use Rattle.spl_branch.specs.declared.pieces.Piece.TheVariants.{Mark, Call}
 use Rattle.spl_code.specs.Parts.{Part, Wanted, Written, nothing, wanted_place, with_wanted}
-use Rattle.spl_body_code.specs.Frames.{ROOM, granted}
+use Rattle.spl_body_code.specs.Frames.{granted}
 use Rattle.spl_statement_code.specs.Landings.{Landing, Context}
 use Rattle.spl_statement_code.specs.Statements.{listed}
 use Rattle.spl_scopes.specs.Entries.{main, Entry, module_entries}
 use Rattle.spl_scopes.specs.Scopes.{Placed, outer_body}
-use Rattle.spl_module_code.specs.LabelsOfBodies.{labels_among, landed_from}
+use Rattle.spl_module_code.specs.LabelsOfBodies.{labels_among}
 use Rattle.spl_label_marks.proofs.LabelParts.{landed_part}
 use Rattle.spl_module_code.specs.Bodies.{context_of, main_part}
 use Rattle.spl_module_code.specs.Modules.{declared_parts, holds_main, main_at, marks_before, module_written}
 use Rattle.spl_follow.specs.Spots.{Spot, pos, Point, on, Ground}
 use Rattle.spl_follow.specs.Leading.{Leads}
 use Rattle.spl_follow.specs.Doing.{calling}
-use Rattle.spl_follow.specs.Standing.{Sites, Stands, due_after, due_behind}
+use Rattle.spl_follow.specs.Standing.{Sites, Stands, due_after}
 use Rattle.spl_follow.proofs.PartLemmas.{stand_from_place}
 use Rattle.spl_follow.proofs.StandLemmas.{due_add}
-use Rattle.spl_sites.specs.Beginnings.{is_beginning, begins_well}
-
--- ---- what is due
-
--- what is due behind a piece, where pieces begin well from there on
-well_first : (due : Bool) (x : Piece) (ps : List Piece) → begins_well due (x ∷ ps) ≡ true
-    → (due_behind due x ≡ is_beginning x) × (begins_well (is_beginning x) ps ≡ true)
-well_first due (Do by) ps e = (refl, (and_parts true (begins_well false ps) e).1)
-well_first due (Branch by l) ps e = (refl, (and_parts true (begins_well false ps) e).1)
-well_first due (Call by wanted index) ps e = (refl, (and_parts true (begins_well false ps) e).1)
-well_first due (Begin at) ps e = (refl, (and_parts (not due) (begins_well true ps) e).1)
-well_first due (Literal v) ps e = (refl, (and_parts (not due) (begins_well false ps) e).1)
-well_first due (Place l) ps e = (refl, (and_parts (not due) (begins_well false ps) e).1)
-well_first due (Mark l) ps e =
-    let two = and_parts (not due) (begins_well false ps) e in (none due two.0, two.1) where
-      none : (b : Bool) → not b ≡ true → b ≡ false
-      none false e = refl
-      none true e = absurd (false≢true e)
-
--- nothing is due at a mark, where pieces begin well
-pub clear_before : (due : Bool) (a b : List Piece) (l : ℕ) → begins_well due (a ++ Mark l ∷ b) ≡ true → due_after due a ≡ false
-clear_before due [] b l e = (well_first due (Mark l) b e).0
-clear_before due (x ∷ a) b l e =
-    let first = well_first due x (a ++ Mark l ∷ b) e in
-    ap (λ (d : Bool). due_after d a) first.0 ∙ clear_before (is_beginning x) a b l first.1
-
--- nor behind the code that grants room
-granted_clear : (need : ℕ) → due_after false (granted need) ≡ false
-granted_clear need = by (nat_lt 0 need && nat_lt need 256) where
-  by : (b : Bool) → due_after false (if b then ROOM need ∷ [] else constant (min need 65535) ++ ROOM 0 ∷ []) ≡ false
-  by true = refl
-  by false = due_add false (constant (min need 65535)) (ROOM 0 ∷ [])
+use Rattle.spl_sites.specs.Beginnings.{begins_well}
+use Rattle.spl_routines.specs.Routines.{labels_from}
+use Rattle.spl_routines.proofs.PieceLemmas.{clear_before, granted_clear}
 
 -- ---- the pieces of a main body
-
--- where the labels of a body lead that have the marks from one on
-abbrev pub labels_from : ℕ → Body → Table Landing
-labels_from mark b = landed_from mark (labels_among b.statements 0)
 
 -- what its statements are made with
 abbrev pub main_context : List Entry → Body → ℕ → Context

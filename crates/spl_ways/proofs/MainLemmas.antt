@@ -63,7 +63,7 @@ main_in (x ∷ front) m back base k is =
     ∙ ap (λ (b : ℕ). b + k) start
 
 -- the word of an own entry's label
-own_word : (ts : List Table) (p : Part) → Fits p → (i : ℕ) → i < length (owns 0 p.modules)
+pub own_word : (ts : List Table) (p : Part) → Fits p → (i : ℕ) → i < length (owns 0 p.modules)
     → label_of (part_words ts p) (1 + i) ≡ (get_or (owns 0 p.modules) i no_entry).offset
 unfolding label_bits
 own_word ts p f i lt =

@@ -143,7 +143,7 @@ module _ (ps : List Part) (w : IsWhole ps) (seg : ℕ) (front : List Module) (m 
     by true g = (Gate (gate_of v.name.text.items), (site_laws.links ps w).gates seg front m back is index v there g)
 
   -- the entry of a want is one of its segment's, so it leads where its label does
-  want_way : (index : ℕ) (v : Want) → slice_get m.wants.items index ≡ Some v
+  pub want_way : (index : ℕ) (v : Want) → slice_get m.wants.items index ≡ Some v
       → entry_way (program_words ps) seg (module_entries front m back true index)
       ≡ way_of (program_words ps) seg (label_at (program_words ps) seg (module_entries front m back true index))
   want_way index v there =

@@ -1,6 +1,7 @@
 -- The names of intrinsics lead to where these are served.
 use Prim.Native.String.{String}
-use Rattle.std.proofs.Common.{◌≡◌, ℕ, zero, suc, ◌+◌, Bool, true, false, List, [], ◌∷◌, map, codes, Option, Some, refl, ap, ◌∙◌}
+use Rattle.std.proofs.Common.{◌≡◌, ℕ, zero, suc, ◌+◌, Bool, true, false, List, [], ◌∷◌, map, codes, Option, Some, refl, ap, subst, ◌∙◌}
+use Rattle.std.specs.Global.{Vec}
 use Rattle.std.specs.Prelude.{slice_get, unwrap_or, if◌then◌else◌}
 use Rattle.hp_word.specs.declared.intrinsics.Intrinsic.{Intrinsic}
 use Rattle.hp_call_rows.specs.GateRows.{intrinsic}
@@ -8,7 +9,7 @@ use Rattle.spl_branch.specs.declared.modules.Want.{Want}
 use Rattle.spl_branch.specs.declared.modules.Module.{Module}
 use Rattle.spl_meaning.specs.Names.{same_name, intrinsics, intrinsic_among, intrinsic_named}
 use Rattle.spl_code.specs.Parts.{Wanted, wanted_of, wants_of}
-use Rattle.mpe_segmenter.specs.Names.{Part}
+use Rattle.mpe_segmenter.specs.Names.{Part, parts}
 use Rattle.mpe_segmenter.specs.Entries.{gate_from, gate_of}
 use Rattle.mpe_segmenter.specs.Counts.{sizes}
 use Rattle.mpe_segmenter.specs.Programs.{program_words}
@@ -18,6 +19,8 @@ use Rattle.spl_follow.specs.Doing.{Way, gate}
 use Rattle.spl_endings.specs.Gates.{GatesLead}
 use Rattle.spl_ways.specs.Ways.{module_sites}
 use Rattle.spl_ways.proofs.WayLemmas.{gate_leads}
+use Rattle.spl_routines.specs.Located.{sites_at}
+use Rattle.spl_routines.specs.Laws.{GatesAreServed}
 
 -- ---- entries of the gate
 
@@ -37,7 +40,7 @@ among_serve k (g ∷ gs) x n serve e = by (same_name x (codes g.0)) e (λ f. amo
   by false e rest = rest e
 
 -- the entry of an intrinsic's name serves it
-pub name_serves : (x : List ℕ) (n : Intrinsic) → intrinsic_named x ≡ Some n → intrinsic (gate_of x) ≡ Some n
+name_serves : (x : List ℕ) (n : Intrinsic) → intrinsic_named x ≡ Some n → intrinsic (gate_of x) ≡ Some n
 name_serves x n e = among_serve 1 intrinsics x n (refl, (refl, (refl, (refl, (refl, (refl, (refl, (refl, tt)))))))) e
 
 -- ---- wants
@@ -48,7 +51,7 @@ want_there [] index v e = cc
 want_there (w ∷ ws) zero v e = let same : wanted_of w ≡ v = cc in (w, refl, same)
 want_there (w ∷ ws) (suc index) v e = want_there ws index v e
 
-pub module_gates_lead : (ps : List Part) → IsWhole ps → (seg : ℕ) (front : List Module) (m : Module) (back : List Module) → IsModule ps seg front m back
+module_gates_lead : (ps : List Part) → IsWhole ps → (seg : ℕ) (front : List Module) (m : Module) (back : List Module) → IsModule ps seg front m back
     → (marks : ℕ → ℕ) → GatesLead (module_sites (program_words ps) seg (sizes front) marks (module_entries front m back)) (wants_of m.wants.items)
 module_gates_lead ps w seg front m back is marks index name n there named =
     let v = want_there m.wants.items index (record { name = name; gate = true }) there in
@@ -59,3 +62,9 @@ module_gates_lead ps w seg front m back is marks index name n there named =
       leads = ap (λ (o : Option Way). unwrap_or o (gate 0)) (gate_leads ps w seg front m back is index v.0 v.1 gated);
       serves = name_serves v.0.name.text.items n (ap (λ (x : List ℕ). intrinsic_named x) letters ∙ named);
     }
+
+-- of a module as it stands
+pub gates_are_served : GatesAreServed
+gates_are_served us p ms f q g at =
+    subst (λ (ws : List Want). GatesLead (sites_at at) (wants_of ws)) (ap (λ (w : Vec Want). w.items) at.of.wants)
+    (module_gates_lead (parts ms) f.whole at.seg at.front at.here at.back at.is at.finished.marks)

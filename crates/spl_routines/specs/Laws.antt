@@ -1,0 +1,25 @@
+-- The laws of this crate.
+use Rattle.std.specs.Prelude.{◌≡◌, ℕ, List, Some}
+use Rattle.std.specs.List.{slice_get}
+use Rattle.hp_program.specs.declared.program.Program.{Program}
+use Rattle.hp_steady.specs.Laws.{WordsAreNear}
+use Rattle.spl_meaning.specs.Tables.{Source}
+use Rattle.spl_meaning.specs.Bodies.{Named}
+use Rattle.spl_branch.specs.declared.modules.Module.{Module}
+use Rattle.spl_scopes.specs.Entries.{routine}
+use Rattle.spl_scopes.specs.Scopes.{Placed, first_reached, placed_units, routine_bodies, body_segment}
+use Rattle.spl_endings.specs.Gates.{GatesLead}
+use Rattle.spl_routines.specs.Among.{IsIn}
+use Rattle.spl_routines.specs.Located.{MadeOf, Located, sites_at, wants_at}
+use Rattle.spl_routines.specs.Routines.{RoutineStands}
+
+-- In a program of modules the code of each procedure stands in each module that has the code of its unit in its segment.
+abbrev pub RoutinesStand : Type 0
+RoutinesStand = (us : List Source) (p : Program) (near : WordsAreNear p) (ms : List Module) → MadeOf us p ms
+    → (q : Placed) → IsIn q (placed_units (first_reached us) us) → (i : ℕ) (b : Named) → slice_get (routine_bodies q) i ≡ Some b
+    → (at : Located ms q (body_segment q.unit (routine i))) → RoutineStands p near at i b
+
+-- In each module a name of an intrinsic that it wants leads to where that one is served.
+abbrev pub GatesAreServed : Type 0
+GatesAreServed = (us : List Source) (p : Program) (ms : List Module) → MadeOf us p ms → (q : Placed) (g : ℕ) (at : Located ms q g)
+    → GatesLead (sites_at at) (wants_at at)
