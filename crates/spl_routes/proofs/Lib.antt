@@ -1,0 +1,4 @@
+-- In reading order.
+pub mod FindLemmas
+pub mod WantLemmas
+pub mod NameLemmas

@@ -1,0 +1,4 @@
+-- In reading order.
+pub mod Found
+pub mod Unique
+pub mod Laws

@@ -1,0 +1,6 @@
+//! Where the calls of procedures lead.
+#![tactic(auto)]
+
+mod laws;
+
+pub use laws::{calls_find, names_mean};
