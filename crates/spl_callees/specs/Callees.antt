@@ -22,7 +22,7 @@ use Rattle.spl_procedures.specs.Procedures.{ProcedureFramed, IsProcedure, Proced
 use Rattle.spl_cells.specs.Settable.{are_settable}
 
 -- what the code of a body finds around it in a program
-abbrev pub surrounded : Ground → Rate → Sites → List Wanted → Setting → Exits → Surroundings
+abbrev pub surrounded : (ground : Ground) → Rate → Sites → List Wanted → Setting → Exits → Surroundings
 surrounded g w sites wants st x = record { ground = g; rate = w; sites = sites; wants = wants; setting = st; exits = x }
 
 -- A call with the one profile is one with the other: the same result, and parameters of as many words. A heading that is FORWARD or EXTERNAL may name

@@ -1,0 +1,3 @@
+-- In reading order.
+pub mod ProfileLemmas
+pub mod CallableLemmas

@@ -1,0 +1,139 @@
+-- Headings that are alike, names among some, and procedures at their numbers.
+use Rattle.std.proofs.Common.{◌≡◌, ℕ, zero, suc, ◌+◌, ◌≤◌, ◌<◌, ◌&&◌, Bool, true, false, List, [], ◌∷◌, Option, Some, None, refl, sym, ap, subst, ◌∙◌, arith}
+use Rattle.std.specs.Prelude.{◌||◌, ◌==◌, not, max, slice_get, if◌then◌else◌}
+use Rattle.std.proofs.lemmas.Bool.{and_parts, false≢true, eqb-true}
+use Rattle.spl_tree.specs.declared.expressions.Kind.{Kind}
+use Rattle.spl_tree.specs.declared.expressions.Kind.TheVariants as kind
+use Rattle.spl_meaning.specs.Bodies.{Body, Named, body_named, named_bodies, procedure_body}
+use Rattle.spl_meaning.specs.DeclarationRules.{kind_number, same_formals, same_profile}
+use Rattle.spl_meaning.specs.Names as n
+use Rattle.spl_meaning.specs.Names.{Names, Sort, Table, Formal, Profile, same_name, same_flag, profile_of}
+use Rattle.spl_meaning.specs.Pending.{value_words, by_value, formal_words, formals_words}
+use Rattle.spl_meaning.specs.Places.{Place, list_words, list_array_words}
+use Rattle.spl_meaning.specs.Tables.{Routine, routine_table}
+use Rattle.mpe_segmenter.proofs.PartLemmas.{equal_is}
+use Rattle.spl_scopes.specs.Entries.{routine, module_entries}
+use Rattle.spl_scopes.specs.Scopes.{Placed, body_segment}
+use Rattle.spl_callees.specs.Callees.{CallsAlike, profile_of_body}
+use Rattle.spl_procedures.specs.Laws.{RoutinesAreProcedures}
+use Rattle.spl_procedures.specs.Procedures.{IsProcedure}
+use Rattle.spl_callable.specs.Callable.{is_among, is_alike, are_alike, is_covered_procedure, are_covered_procedures, most_words}
+
+-- ---- headings
+
+-- a kind by its number
+kind_of_number : ℕ → Option Kind
+kind_of_number 1 = Some kind.Integer
+kind_of_number 2 = Some kind.Logical
+kind_of_number 3 = Some kind.Byte
+kind_of_number 4 = Some kind.Double
+kind_of_number n = None
+
+kind_is : (o : Option Kind) → kind_of_number (kind_number o) ≡ o
+unfolding kind_of_number
+kind_is None = refl
+kind_is (Some kind.Integer) = refl
+kind_is (Some kind.Logical) = refl
+kind_is (Some kind.Byte) = refl
+kind_is (Some kind.Double) = refl
+
+kinds_same : (o p : Option Kind) → (kind_number o == kind_number p) ≡ true → o ≡ p
+kinds_same o p e = sym (kind_is o) ∙ ap kind_of_number (eqb-true (kind_number o) (kind_number p) e) ∙ kind_is p
+
+flags_same : (a b : Bool) → same_flag a b ≡ true → a ≡ b
+flags_same true true e = refl
+flags_same false false e = refl
+flags_same true false e = absurd (false≢true e)
+flags_same false true e = absurd (false≢true e)
+
+formals_same : (fs gs : List Formal) → same_formals fs gs ≡ true → formals_words fs ≡ formals_words gs
+formals_same [] [] e = refl
+formals_same (f ∷ fs) (g ∷ gs) e =
+    let three = and_parts (kind_number f.kind == kind_number g.kind && same_flag f.array g.array && same_flag f.value g.value) (same_formals fs gs) e in
+    let two = and_parts (kind_number f.kind == kind_number g.kind && same_flag f.array g.array) (same_flag f.value g.value) three.0 in
+    let one = and_parts (kind_number f.kind == kind_number g.kind) (same_flag f.array g.array) two.0 in
+    let given : by_value f ≡ by_value g =
+    ap (λ (b : Bool). if b then false else f.value) (flags_same f.array g.array one.1)
+    ∙ ap (λ (b : Bool). if g.array then false else b) (flags_same f.value g.value two.1) in
+    let word : formal_words f ≡ formal_words g =
+    ap (λ (b : Bool). value_words b f.kind) given ∙ ap (λ (o : Option Kind). value_words (by_value g) o) (kinds_same f.kind g.kind one.0) in
+    let rest = formals_same fs gs three.1 in
+    omega (arith, word, rest)
+formals_same [] (g ∷ gs) e = absurd (false≢true e)
+formals_same (f ∷ fs) [] e = absurd (false≢true e)
+
+-- profiles alike are those of calls alike
+profiles_same : (p q : Profile) → same_profile p q ≡ true → CallsAlike p q
+profiles_same p q e =
+    let two = and_parts (kind_number p.result == kind_number q.result && same_flag p.split q.split) (same_formals p.formals q.formals) e in
+    let one = and_parts (kind_number p.result == kind_number q.result) (same_flag p.split q.split) two.0 in
+    record { result = kinds_same p.result q.result one.0; words = formals_same p.formals q.formals two.1 }
+
+-- a name that stands for a procedure, where it is alike
+pub sort_alike : (o : Option Sort) (b : Option Body) (p : Profile) → o ≡ Some (n.procedure p) → is_alike o b ≡ true → CallsAlike p (profile_of_body b)
+sort_alike o b p is alike = by b (sym (ap (λ (s : Option Sort). is_alike s b) is) ∙ alike) where
+  by : (b : Option Body) → is_alike (Some (n.procedure p)) b ≡ true → CallsAlike p (profile_of_body b)
+  by (Some its) e = profiles_same p its.profile e
+  by None e = absurd (false≢true e)
+
+-- ---- names
+
+-- what is alike of each of some names is of one of them
+pub name_alike : (xs : List (List ℕ)) (procedures : List Named) (names : Names) (x : List ℕ) → is_among xs x ≡ true → are_alike xs procedures names ≡ true
+    → is_alike (names x) (body_named procedures x) ≡ true
+name_alike [] procedures names x among alike = absurd (false≢true among)
+name_alike (y ∷ ys) procedures names x among alike =
+    by (same_name x y) refl among (λ rest. name_alike ys procedures names x rest two.1) where
+      two : (is_alike (names y) (body_named procedures y) ≡ true) × (are_alike ys procedures names ≡ true)
+      two = and_parts (is_alike (names y) (body_named procedures y)) (are_alike ys procedures names) alike
+
+      by : (b : Bool) → same_name x y ≡ b → (b || is_among ys x) ≡ true → (is_among ys x ≡ true → is_alike (names x) (body_named procedures x) ≡ true)
+          → is_alike (names x) (body_named procedures x) ≡ true
+      by true same e rest = subst (λ (z : List ℕ). is_alike (names z) (body_named procedures z) ≡ true) (sym (equal_is x y same)) two.0
+      by false same e rest = rest e
+
+-- ---- procedures of a unit
+
+-- the one at a number is covered, where its name is among these
+pub procedure_covered : (xs : List (List ℕ)) (procedures : List Named) (p : Placed) (k : ℕ) (bs : List Named) (i : ℕ) (b : Named)
+    → are_covered_procedures xs procedures p k bs ≡ true → slice_get bs i ≡ Some b → is_among xs b.name ≡ true
+    → is_covered_procedure xs procedures (module_entries p.unit (body_segment p.unit (routine (k + i)))) (k + i) b.body ≡ true
+procedure_covered xs procedures p k [] i b e there among = cc
+procedure_covered xs procedures p k (y ∷ bs) zero b e there among =
+    let same : y ≡ b = cc in
+    let two = and_parts (not (is_among xs y.name) || is_covered_procedure xs procedures (module_entries p.unit (body_segment p.unit (routine k))) k y.body)
+    (are_covered_procedures xs procedures p (suc k) bs) e in
+    let none : k ≡ k + 0 = omega arith in
+    subst (λ (j : ℕ). is_covered_procedure xs procedures (module_entries p.unit (body_segment p.unit (routine j))) j b.body ≡ true) none
+    (subst (λ (z : Named). is_covered_procedure xs procedures (module_entries p.unit (body_segment p.unit (routine k))) k z.body ≡ true) same
+    (by (is_among xs y.name) (is_covered_procedure xs procedures (module_entries p.unit (body_segment p.unit (routine k))) k y.body) two.0
+    (ap (λ (z : Named). is_among xs z.name) same ∙ among))) where
+      by : (a c : Bool) → (not a || c) ≡ true → a ≡ true → c ≡ true
+      by true c e f = e
+      by false c e f = absurd (false≢true f)
+procedure_covered xs procedures p k (y ∷ bs) (suc i) b e there among =
+    let two = and_parts (not (is_among xs y.name) || is_covered_procedure xs procedures (module_entries p.unit (body_segment p.unit (routine k))) k y.body)
+    (are_covered_procedures xs procedures p (suc k) bs) e in
+    let next : suc k + i ≡ k + suc i = omega arith in
+    subst (λ (j : ℕ). is_covered_procedure xs procedures (module_entries p.unit (body_segment p.unit (routine j))) j b.body ≡ true) next
+    (procedure_covered xs procedures p (suc k) bs i b two.1 there among)
+
+-- what is known of it, where its parameters have fewer than 256 words
+pub procedure_known : RoutinesAreProcedures → (globals : Table Place) (own own_arrays : ℕ) (rs : List Routine) (i : ℕ) (b : Named)
+    → slice_get (named_bodies globals own own_arrays rs) i ≡ Some b → formals_words b.body.profile.formals < 256 → IsProcedure b.body
+procedure_known law globals own own_arrays [] i b there few = cc
+procedure_known law globals own own_arrays (r ∷ rs) zero b there few =
+    let same : record { name = r.heading.name; body = procedure_body globals own own_arrays r } ≡ b = cc in
+    subst (λ (z : Named). IsProcedure z.body) same
+    (law globals own own_arrays r (subst (λ (z : Named). formals_words z.body.profile.formals < 256) (sym same) few))
+procedure_known law globals own own_arrays (r ∷ rs) (suc i) b there few =
+    procedure_known law globals (own + list_words true (routine_table r)) (own_arrays + list_array_words true (routine_table r)) rs i b there few
+
+-- its local words are no more than those of the procedure that has most
+pub words_most : (bs : List Named) (x : List ℕ) (b : Body) → body_named bs x ≡ Some b → b.words ≤ most_words bs
+words_most [] x b e = cc
+words_most (y ∷ bs) x b e = by (same_name x y.name) e (λ f. words_most bs x b f) where
+  by : (c : Bool) → (if c then Some y.body else body_named bs x) ≡ Some b → (body_named bs x ≡ Some b → b.words ≤ most_words bs)
+      → b.words ≤ max y.body.words (most_words bs)
+  by true f rest = let same : y.body ≡ b = cc in let words : y.body.words ≡ b.words = ap (λ (z : Body). z.words) same in omega (arith, words)
+  by false f rest = let few = rest f in omega (arith, few)
