@@ -72,7 +72,8 @@ index_there k (e ∷ es) x found is = by (is_callable e.callee) refl is (λ f. i
 abbrev marked : ℕ → Entry → Made
 marked k e = record { name = e.name; mark = k; callable = is_callable e.callee }
 
-made_is : (k : ℕ) (es : List Entry) (i : ℕ) (y : Made) → slice_get (made_from k es) i ≡ Some y → (e : Entry) × (slice_get es i ≡ Some e) × (y ≡ marked (k + i) e)
+made_is : (k : ℕ) (es : List Entry) (i : ℕ) (y : Made) → slice_get (made_from k es) i ≡ Some y
+    → (e : Entry) × (slice_get es i ≡ Some e) × (y ≡ marked (k + i) e)
 made_is k [] i y is = cc
 made_is k (e ∷ es) zero y is =
     let here : k ≡ k + 0 = omega arith in (e, refl, sym (one_there (marked k e) y is) ∙ ap (λ (n : ℕ). marked n e) here)
@@ -142,7 +143,8 @@ module _ (us : List Source) (p : Program) (near : WordsAreNear p) (ms : List Mod
       leads ∙ ap (λ (k : ℕ). body (word_of at.seg (sizes at.front + k))) e.offset ∙ ap (λ (k : ℕ). body ((sites_at at).marks k)) entry in
       let segment : g ≡ body_segment q.unit (routine i) =
       sym (ap (λ (k : ℕ). segment_of (slice_get (routines_of q.unit) k)) (sym place) ∙ ap segment_of r.there ∙ r.segment) in
-      let moved = subst (λ (h : ℕ). (z : Located ms q h) × (t : RoutineStands p near z i b.0) × (way ≡ body ((sites_at z).marks t.entry))) segment (at, s.0, there') in
+      let moved = subst (λ (h : ℕ). (z : Located ms q h) × (t : RoutineStands p near z i b.0) × (way ≡ body ((sites_at z).marks t.entry))) segment
+      (at, s.0, there') in
       record {
         unit = q;
         among = among;

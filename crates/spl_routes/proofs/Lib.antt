@@ -2,3 +2,4 @@
 pub mod FindLemmas
 pub mod WantLemmas
 pub mod NameLemmas
+pub mod LandLemmas

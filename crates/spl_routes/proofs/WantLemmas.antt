@@ -50,12 +50,15 @@ use Rattle.spl_routes.proofs.FindLemmas.{define_finds}
 
 -- ---- 1. definitions
 
--- what is called by a name is at its place
-called_there : (x : List ℕ) (os : List Own) (k : ℕ) → called_at x os ≡ Some k → (o : Own) × (slice_get os k ≡ Some o) × (is_called x o ≡ true)
+-- what is called by a name is at this place
+abbrev CalledOwn : List ℕ → List Own → ℕ → Type 0
+CalledOwn x os k = (o : Own) × (slice_get os k ≡ Some o) × (is_called x o ≡ true)
+
+called_there : (x : List ℕ) (os : List Own) (k : ℕ) → called_at x os ≡ Some k → CalledOwn x os k
 called_there x [] k is = cc
 called_there x (o ∷ os) k is = by (is_called x o) refl k is (λ j f. called_there x os j f) where
-  behind : (o' : Option ℕ) (j : ℕ) → called_at x os ≡ o' → option_map (λ i. 1 + i) o' ≡ Some j → ((i : ℕ) → called_at x os ≡ Some i → (y : Own) × (slice_get os i ≡ Some y) × (is_called x y ≡ true))
-      → (y : Own) × (slice_get (o ∷ os) j ≡ Some y) × (is_called x y ≡ true)
+  behind : (o' : Option ℕ) (j : ℕ) → called_at x os ≡ o' → option_map (λ i. 1 + i) o' ≡ Some j
+      → ((i : ℕ) → called_at x os ≡ Some i → CalledOwn x os i) → CalledOwn x (o ∷ os) j
   behind None j f g rest = cc
   behind (Some i) j f g rest =
       let r = rest i f in
@@ -64,7 +67,7 @@ called_there x (o ∷ os) k is = by (is_called x o) refl k is (λ j f. called_th
       (r.0, ap (λ (k : ℕ). slice_get (o ∷ os) k) (sym place) ∙ r.1, r.2)
 
   by : (b : Bool) → is_called x o ≡ b → (j : ℕ) → (if b then Some 0 else option_map (λ i. 1 + i) (called_at x os)) ≡ Some j
-      → ((i : ℕ) → called_at x os ≡ Some i → (y : Own) × (slice_get os i ≡ Some y) × (is_called x y ≡ true)) → (y : Own) × (slice_get (o ∷ os) j ≡ Some y) × (is_called x y ≡ true)
+      → ((i : ℕ) → called_at x os ≡ Some i → CalledOwn x os i) → CalledOwn x (o ∷ os) j
   by true here j f rest = (o, ap (λ (k : ℕ). slice_get (o ∷ os) k) (sym (one_there 0 j f)), here)
   by false here j f rest = behind (called_at x os) j refl f rest
 
@@ -82,10 +85,12 @@ pub record Home (base : ℕ) (ms : List Module) (o : Own) : Type 0 where
 home_of : (base : ℕ) (ms : List Module) (k : ℕ) (o : Own) → slice_get (owns base ms) k ≡ Some o → o.callable ≡ true → Home base ms o
 home_of base [] k o is called = cc
 home_of base (m ∷ ms) k o is called =
-    first (at_parts o (map (own_of base) m.defines.items ++ main_of base m.main) (owns (base + m.size) ms) k is) (λ j f. home_of (base + m.size) ms j o f called) where
+    first (at_parts o (map (own_of base) m.defines.items ++ main_of base m.main) (owns (base + m.size) ms) k is)
+    (λ j f. home_of (base + m.size) ms j o f called) where
       never : (c : Option ℕ) (j : ℕ) → slice_get (main_of base c) j ≡ Some o → ⊥
       never None j f = cc
-      never (Some offset) zero f = false≢true (ap (λ (x : Own). x.callable) (one_there (record { name = []; callable = false; offset = base + offset }) o f) ∙ called)
+      never (Some offset) zero f =
+          let same = one_there (record { name = []; callable = false; offset = base + offset }) o f in false≢true (ap (λ (x : Own). x.callable) same ∙ called)
       never (Some offset) (suc j) f = cc
 
       own : AtEither o (map (own_of base) m.defines.items) (main_of base m.main) k → Home base (m ∷ ms) o
@@ -144,7 +149,8 @@ module _ (ps : List Part) (w : IsWhole ps) where
     entry : (o : Option ℕ) → called_at v.name (owns 0 p.modules) ≡ o
         → entry_of (table_of p.modules) v ≡ 1 + unwrap_or o (length (owns 0 p.modules) + want_at v (table_of p.modules).wanted)
     entry o e =
-        ap (λ (b : Bool). 1 + unwrap_or (if b then None else called_at v.name (owns 0 p.modules)) (length (owns 0 p.modules) + want_at v (table_of p.modules).wanted)) gated
+        ap (λ (b : Bool). 1 + unwrap_or (if b then None else called_at v.name (owns 0 p.modules))
+        (length (owns 0 p.modules) + want_at v (table_of p.modules).wanted)) gated
         ∙ ap (λ (r : Option ℕ). 1 + unwrap_or r (length (owns 0 p.modules) + want_at v (table_of p.modules).wanted)) e
 
     by : (o : Option ℕ) → called_at v.name (owns 0 p.modules) ≡ o
@@ -189,7 +195,8 @@ module _ (ps : List Part) (w : IsWhole ps) where
           there = r.there;
           called = r.called;
           leads = ap (λ (l : Label). way_of (program_words ps) s l) label_is
-              ∙ ap (λ (b : Bool). if b then Some (gate (1 + r.place)) else Some (body (word_of r.number (label_of (words_of (program_words ps) r.number) (1 + r.place)))))
+              ∙ ap (λ (b : Bool). if b then Some (gate (1 + r.place))
+              else Some (body (word_of r.number (label_of (words_of (program_words ps) r.number) (1 + r.place)))))
               (ne_eqb r.number 255 (λ y. absurd (omega (arith, y, below, count))))
               ∙ ap (λ (n : ℕ). Some (body (word_of r.number n))) offset;
         }
@@ -246,8 +253,8 @@ module _ (us : List Source) (p : Program) (near : WordsAreNear p) (ms : List Mod
       ∙ ap (λ (b : ℕ). body (word_of seg (b + h.define.offset))) start)
 
   -- so does a name that a module wants
-  pub want_finds : (q : Placed) (g : ℕ) (at : Located ms q g) (x : List ℕ) (index : ℕ) → slice_get (wants_at at) index ≡ Some (record { name = x; gate = false })
-      → Finds us p near ms ((sites_at at).ways true index) x
+  pub want_finds : (q : Placed) (g : ℕ) (at : Located ms q g) (x : List ℕ) (index : ℕ)
+      → slice_get (wants_at at) index ≡ Some (record { name = x; gate = false }) → Finds us p near ms ((sites_at at).ways true index) x
   want_finds q g at x index is =
       let v = of_map written_of at.of.code.wants.items index (record { name = x; gate = false }) is in
       let there : slice_get at.here.wants.items index ≡ Some v.0 = ap (λ ws. slice_get ws.items index) at.of.wants ∙ v.1 in

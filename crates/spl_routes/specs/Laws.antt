@@ -5,9 +5,11 @@ use Rattle.hp_program.specs.declared.program.Program.{Program}
 use Rattle.hp_steady.specs.Laws.{WordsAreNear}
 use Rattle.spl_meaning.specs.Tables.{Source}
 use Rattle.spl_meaning.specs.Bodies.{Named, program_of, body_named}
+use Rattle.spl_meaning.specs.Sound.{IsSound}
 use Rattle.spl_branch.specs.declared.modules.Module.{Module}
 use Rattle.spl_scopes.specs.Entries.{module_entries, procedure_index}
 use Rattle.spl_scopes.specs.Scopes.{Placed, first_reached, placed_units, routine_bodies}
+use Rattle.spl_sound_jumps.specs.Laws.{Lands}
 use Rattle.spl_routines.specs.Among.{IsIn}
 use Rattle.spl_routines.specs.Located.{MadeOf, Located, sites_at, wants_at}
 use Rattle.spl_routes.specs.Found.{Finds}
@@ -24,6 +26,11 @@ abbrev pub WantsFind : Type 0
 WantsFind = (us : List Source) (p : Program) (near : WordsAreNear p) (ms : List Module) → MadeOf us p ms
     → (q : Placed) (g : ℕ) (at : Located ms q g) (x : List ℕ) (index : ℕ)
     → slice_get (wants_at at) index ≡ Some (record { name = x; gate = false }) → Finds us p near ms ((sites_at at).ways true index) x
+
+-- In units that break no rule labels and jumps of each procedure lead somewhere.
+abbrev pub RoutinesLand : Type 0
+RoutinesLand = (us : List Source) → IsSound us → (q : Placed) → IsIn q (placed_units (first_reached us) us) → (i : ℕ) (b : Named)
+    → slice_get (routine_bodies q) i ≡ Some b → Lands b.body.statements
 
 -- Where no two procedures have the same name, the procedure of a unit is the one of its name in the program.
 abbrev pub NamesMean : Type 0

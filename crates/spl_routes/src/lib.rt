@@ -3,4 +3,4 @@
 
 mod laws;
 
-pub use laws::{calls_find, names_mean};
+pub use laws::{calls_find, names_mean, routines_land};

@@ -81,7 +81,8 @@ own_entry main_segment g n entry (decl.Declaration.procedure h items ss) k e is 
   first = record { name = h.name; segment = h.segment; callee = procedure }
 
   by : (b : Bool) → nat_eq h.segment g ≡ b → (j : ℕ)
-      → slice_get (if b then first ∷ in_segment g (inner_entries h.segment (routine n) items) else in_segment g (inner_entries h.segment (routine n) items)) j ≡ Some e
+      → slice_get (if b then first ∷ in_segment g (inner_entries h.segment (routine n) items)
+      else in_segment g (inner_entries h.segment (routine n) items)) j ≡ Some e
       → (h.segment ≡ g) × (h.name ≡ e.name) × (n ≡ n) × (entry ≡ entry + j)
   by true here zero f = (eqb-true h.segment g here, ap (λ (x : Entry). x.name) (one_there first e f), refl, omega arith)
   by true here (suc j) f = absurd (inner j f)
@@ -103,7 +104,8 @@ pub of_entry : (q : Placed) (g n entry : ℕ) (ds : Declarations) (k : ℕ) (e :
 of_entry q g n entry decl.none k e is called = cc
 of_entry q g n entry (decl.and d ds) k e is called =
     by (at_parts e own rest k
-    (sym (ap (λ (es : List Entry). slice_get es k) (segment_append g (declared_entries q.unit.tree.segment n d) (entries_among q.unit.tree.segment (routines_behind n d) ds))) ∙ is))
+    (sym (ap (λ (es : List Entry). slice_get es k)
+    (segment_append g (declared_entries q.unit.tree.segment n d) (entries_among q.unit.tree.segment (routines_behind n d) ds))) ∙ is))
     (λ j f. of_entry q g (routines_behind n d) (entries_behind q g n entry d) ds j e f called) where
       own : List Entry
       own = in_segment g (declared_entries q.unit.tree.segment n d)
@@ -112,7 +114,8 @@ of_entry q g n entry (decl.and d ds) k e is called =
       rest = in_segment g (entries_among q.unit.tree.segment (routines_behind n d) ds)
 
       by : AtEither e own rest k
-          → ((j : ℕ) → slice_get rest j ≡ Some e → (i : ℕ) × ProcedureIn q g i (entries_behind q g n entry d + j) e.name (routines_behind n d) (entries_behind q g n entry d) ds)
+          → ((j : ℕ) → slice_get rest j ≡ Some e
+          → (i : ℕ) × ProcedureIn q g i (entries_behind q g n entry d + j) e.name (routines_behind n d) (entries_behind q g n entry d) ds)
           → (i : ℕ) × ProcedureIn q g i (entry + k) e.name n entry (decl.and d ds)
       by (before f) more = (n, inl (own_entry q.unit.tree.segment g n entry d k e f called))
       by (beyond j is f) more =
@@ -154,7 +157,8 @@ own_place g i k name n entry (decl.Declaration.forward h) is = absurd is
 own_place g i k name n entry (decl.Declaration.external h) is = absurd is
 
 pub entry_there : (q : Placed) (g i k : ℕ) (name : List ℕ) (n entry : ℕ) (ds : Declarations) → ProcedureIn q g i k name n entry ds
-    → (j : ℕ) × (k ≡ entry + j) × (slice_get (in_segment g (entries_among q.unit.tree.segment n ds)) j ≡ Some (record { name = name; segment = g; callee = procedure }))
+    → (j : ℕ) × (k ≡ entry + j)
+    × (slice_get (in_segment g (entries_among q.unit.tree.segment n ds)) j ≡ Some (record { name = name; segment = g; callee = procedure }))
 entry_there q g i k name n entry decl.none is = absurd is
 entry_there q g i k name n entry (decl.and d ds) (inl own) =
     let rest : List Entry = entries_among q.unit.tree.segment (routines_behind n d) ds in (
@@ -190,7 +194,8 @@ behind_count table m n (decl.Declaration.external h) = omega arith
 own_routine : (g n entry : ℕ) (table : Table Sort) (m : ℕ) (d : Declaration) (j : ℕ) (r : Routine) → slice_get (routine_in table m d) j ≡ Some r
     → r.heading.segment ≡ g → IsProcedure g (n + j) entry r.heading.name n entry d
 own_routine g n entry table m (decl.Declaration.procedure h items ss) zero r is segment =
-    let same : record { heading = h; items = items; statements = ss; globals = with_declaration nothing_declared table (decl.Declaration.procedure h items ss); before = m } ≡ r = cc in
+    let globals : Table Sort = with_declaration nothing_declared table (decl.Declaration.procedure h items ss) in
+    let same : record { heading = h; items = items; statements = ss; globals = globals; before = m } ≡ r = cc in
     (ap (λ (x : Routine). x.heading.segment) same ∙ segment, ap (λ (x : Routine). x.heading.name) same, omega arith, refl)
 own_routine g n entry table m (decl.Declaration.procedure h items ss) (suc j) r is segment = cc
 own_routine g n entry table m (decl.Declaration.subroutine h s) j r is segment = cc
@@ -206,7 +211,8 @@ pub of_routine : (q : Placed) (g n entry : ℕ) (table : Table Sort) (m : ℕ) (
 of_routine q g n entry table m decl.none j r is segment = cc
 of_routine q g n entry table m (decl.and d ds) j r is segment =
     by (at_parts r (routine_in table m d) others j is)
-    (λ i f. of_routine q g (routines_behind n d) (entries_behind q g n entry d) (with_declaration nothing_declared table d) (m + declaration_stops d) ds i r f segment) where
+    (λ i f. of_routine q g (routines_behind n d) (entries_behind q g n entry d) (with_declaration nothing_declared table d) (m + declaration_stops d) ds i r
+    f segment) where
       others : List Routine
       others = routines_among (with_declaration nothing_declared table d) (m + declaration_stops d) ds
 
@@ -234,10 +240,11 @@ routine_own : (table : Table Sort) (m g i k : ℕ) (name : List ℕ) (n entry : 
     → RoutineThere (routine_in table m d ++ others) g i n name
 routine_own table m g i k name n entry (decl.Declaration.procedure h items ss) others is =
     let number = is.2 in
+    let globals : Table Sort = with_declaration nothing_declared table (decl.Declaration.procedure h items ss) in
     record {
       place = 0;
       number = omega (arith, number);
-      is = record { heading = h; items = items; statements = ss; globals = with_declaration nothing_declared table (decl.Declaration.procedure h items ss); before = m };
+      is = record { heading = h; items = items; statements = ss; globals = globals; before = m };
       there = refl;
       named = is.1;
       segment = is.0;
@@ -257,7 +264,8 @@ routine_there q g i k name n entry table m (decl.and d ds) (inl own) =
     routine_own table m g i k name n entry d (routines_among (with_declaration nothing_declared table d) (m + declaration_stops d) ds) own
 routine_there q g i k name n entry table m (decl.and d ds) (inr later) =
     let others : List Routine = routines_among (with_declaration nothing_declared table d) (m + declaration_stops d) ds in
-    let r = routine_there q g i k name (routines_behind n d) (entries_behind q g n entry d) (with_declaration nothing_declared table d) (m + declaration_stops d) ds later in
+    let r = routine_there q g i k name (routines_behind n d) (entries_behind q g n entry d) (with_declaration nothing_declared table d)
+    (m + declaration_stops d) ds later in
     let number = r.number in
     let count = behind_count table m n d in
     record {

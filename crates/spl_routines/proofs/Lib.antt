@@ -6,5 +6,6 @@ pub mod PartLemmas
 pub mod PieceLemmas
 pub mod ModuleLemmas
 pub mod StandLemmas
+pub mod ThereLemmas
 pub mod RoutineLemmas
 pub mod GateLemmas

@@ -48,7 +48,8 @@ pub record ModuleOf (ps : List Placed) (m : Module) : Type 0 where
 unit_module : (p : Placed) (taken : List ℕ) (names : List (List ℕ)) (ms : List Module) (m : Module) → AreOfUnit p taken names ms → IsIn m ms
     → (name : List ℕ) × (g : ℕ) × IsModuleOf p name g m
 unit_module p taken [] ms m u.none k = elim k [ ]
-unit_module p taken (name ∷ names) (x ∷ ms) m (u.more {g = g} e is rest) (at_front same) = (name, g, subst (λ (y : Module). IsModuleOf p name g y) (sym same) is)
+unit_module p taken (name ∷ names) (x ∷ ms) m (u.more {g = g} e is rest) (at_front same) =
+    (name, g, subst (λ (y : Module). IsModuleOf p name g y) (sym same) is)
 unit_module p taken (name ∷ names) (x ∷ ms) m (u.more {g = g} e is rest) (behind k) = unit_module p (g ∷ taken) names ms m rest k
 unit_module p taken (name ∷ names) ms m (u.skip e rest) k = unit_module p taken names ms m rest k
 

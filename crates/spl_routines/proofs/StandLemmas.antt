@@ -144,8 +144,9 @@ module _ (us : List Source) (p : Program) (near : WordsAreNear p) (ms : List Mod
 
   calls : AllCallsLead (segments_of p) at.seg (decoded (sizes at.front) at.finished.marks (entries_of at.front at.here at.back)) (sites_at at) pieces
   calls =
-      subst (λ (segments : List (List ℕ)). AllCallsLead segments at.seg (decoded (sizes at.front) at.finished.marks (entries_of at.front at.here at.back)) (sites_at at) pieces)
-      (sym f.segments) (calls_lead (parts ms) f.whole at.seg at.front at.here at.back at.is at.finished.marks pieces kinds indexed)
+      subst (λ (segments : List (List ℕ)).
+      AllCallsLead segments at.seg (decoded (sizes at.front) at.finished.marks (entries_of at.front at.here at.back)) (sites_at at) pieces) (sym f.segments)
+      (calls_lead (parts ms) f.whole at.seg at.front at.here at.back at.is at.finished.marks pieces kinds indexed)
 
   pub module_stands : Stands ground (sites_at at) (on start) pieces end
   module_stands =

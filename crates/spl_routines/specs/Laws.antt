@@ -3,11 +3,13 @@ use Rattle.std.specs.Prelude.{◌≡◌, ℕ, List, Some}
 use Rattle.std.specs.List.{slice_get}
 use Rattle.hp_program.specs.declared.program.Program.{Program}
 use Rattle.hp_steady.specs.Laws.{WordsAreNear}
+use Rattle.spl_meaning.specs.Names.{find}
 use Rattle.spl_meaning.specs.Tables.{Source}
 use Rattle.spl_meaning.specs.Bodies.{Named}
 use Rattle.spl_branch.specs.declared.modules.Module.{Module}
 use Rattle.spl_scopes.specs.Entries.{routine}
 use Rattle.spl_scopes.specs.Scopes.{Placed, first_reached, placed_units, routine_bodies, body_segment}
+use Rattle.spl_module_code.specs.Modules.{numbered}
 use Rattle.spl_endings.specs.Gates.{GatesLead}
 use Rattle.spl_routines.specs.Among.{IsIn}
 use Rattle.spl_routines.specs.Located.{MadeOf, Located, sites_at, wants_at}
@@ -18,6 +20,13 @@ abbrev pub RoutinesStand : Type 0
 RoutinesStand = (us : List Source) (p : Program) (near : WordsAreNear p) (ms : List Module) → MadeOf us p ms
     → (q : Placed) → IsIn q (placed_units (first_reached us) us) → (i : ℕ) (b : Named) → slice_get (routine_bodies q) i ≡ Some b
     → (at : Located ms q (body_segment q.unit (routine i))) → RoutineStands p near at i b
+
+-- And there is such a module, where the procedure's segment is the first of its name in its unit.
+abbrev pub RoutinesAreThere : Type 0
+RoutinesAreThere = (us : List Source) (p : Program) (near : WordsAreNear p) (ms : List Module) → MadeOf us p ms
+    → (q : Placed) → IsIn q (placed_units (first_reached us) us) → (i : ℕ) (b : Named) → slice_get (routine_bodies q) i ≡ Some b
+    → (x : List ℕ) → find (numbered 0 q.unit.segments) x ≡ Some (body_segment q.unit (routine i))
+    → (at : Located ms q (body_segment q.unit (routine i))) × RoutineStands p near at i b
 
 -- In each module a name of an intrinsic that it wants leads to where that one is served.
 abbrev pub GatesAreServed : Type 0

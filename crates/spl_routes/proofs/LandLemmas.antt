@@ -1,0 +1,46 @@
+-- The procedures of units that break no rule, as bodies.
+use Rattle.std.proofs.Common.{◌≡◌, ℕ, zero, suc, ◌+◌, true, List, [], ◌∷◌, Option, Some, None, refl, sym, ap, subst}
+use Rattle.std.specs.Prelude.{slice_get}
+use Rattle.spl_tree.specs.StatementTrees.{Statements, statements}
+use Rattle.spl_meaning.specs.Names.{Table}
+use Rattle.spl_meaning.specs.Tables.{Source, Routine, routines_of, routine_table}
+use Rattle.spl_meaning.specs.Places.{Place, list_words, list_array_words}
+use Rattle.spl_meaning.specs.Bodies.{Named, Reached, reached_behind, named_bodies}
+use Rattle.spl_places.specs.Programs.{Each}
+use Rattle.spl_scopes.specs.Scopes.{Placed, first_reached, placed_units, global_places}
+use Rattle.spl_sound_jumps.specs.Laws.{Lands, LandsInRoutine, LandsInRoutines, SoundRoutinesLand}
+use Rattle.spl_routines.specs.Among.{IsIn, at_front, behind}
+use Rattle.spl_routines.proofs.ListLemmas.{one_there}
+use Rattle.spl_routes.specs.Laws.{RoutinesLand}
+
+-- what holds of each holds of the one at a place
+each_at : {A : Type 0} (P : A → Type 0) (xs : List A) (i : ℕ) (x : A) → Each P xs → slice_get xs i ≡ Some x → P x
+each_at P [] i x each is = cc
+each_at P (y ∷ xs) zero x each is = subst P (one_there y x is) each.0
+each_at P (y ∷ xs) (suc i) x each is = each_at P xs i x each.1 is
+
+-- what holds of each unit holds of each that is placed
+each_placed : (P : Source → Type 0) (at : Reached) (us : List Source) (q : Placed) → Each P us → IsIn q (placed_units at us) → P q.unit
+each_placed P at [] q each k = elim k [ ]
+each_placed P at (u ∷ us) q each (at_front e) = subst (λ (r : Placed). P r.unit) (sym e) each.0
+each_placed P at (u ∷ us) q each (behind k) = each_placed P (reached_behind u at) us q each.1 k
+
+-- the statements of a procedure's body
+statements_of : (globals : Table Place) (own arrays : ℕ) (rs : List Routine) (i : ℕ) (b : Named) → slice_get (named_bodies globals own arrays rs) i ≡ Some b
+    → (r : Routine) × (slice_get rs i ≡ Some r) × (statements r.statements ≡ b.body.statements)
+statements_of globals own arrays [] i b is = cc
+statements_of globals own arrays (x ∷ rs) zero b is = (x, refl, same) where
+  in_body : Option Named → Statements
+  in_body None = statements x.statements
+  in_body (Some y) = y.body.statements
+
+  same : statements x.statements ≡ b.body.statements
+  same = ap (λ (o : Option Named). in_body o) is
+statements_of globals own arrays (x ∷ rs) (suc i) b is =
+    statements_of globals (own + list_words true (routine_table x)) (arrays + list_array_words true (routine_table x)) rs i b is
+
+pub bodies_land : SoundRoutinesLand → RoutinesLand
+bodies_land law us sound q among i b there =
+    let unit = each_placed LandsInRoutines (first_reached us) us q (law us sound) among in
+    let r = statements_of (global_places q) q.at.own q.at.own_arrays (routines_of q.unit) i b there in
+    subst Lands r.2 (each_at LandsInRoutine (routines_of q.unit) i r.0 unit r.1)
