@@ -1,5 +1,5 @@
 -- Assignments of what an intrinsic answers, along the tree.
-use Rattle.std.proofs.Common.{◌≡◌, ℕ, ◌+◌, ◌-◌, ◌≤◌, Bool, true, false, List, refl, sym, ap, subst, ◌∙◌, arith}
+use Rattle.std.proofs.Common.{◌≡◌, ℕ, ◌+◌, ◌≤◌, Bool, true, false, List, refl, sym, ap, subst, ◌∙◌, arith}
 use Rattle.std.specs.Prelude.{Option, Some, None, ◌&&◌, ◌==◌, if◌then◌else◌}
 use Rattle.std.proofs.lemmas.Bool.{false≢true, eqb-true}
 use Rattle.hp_word.specs.declared.intrinsics.Intrinsic.{Intrinsic}
@@ -39,14 +39,15 @@ use Rattle.spl_follow.specs.Simulating.{Surroundings, Performs}
 use Rattle.spl_values.specs.Reached.{is_word_kind, is_reached, IsWhole}
 use Rattle.spl_values.proofs.VariableLemmas.{both}
 use Rattle.spl_values.proofs.WholeLemmas.{whole_behind, whole_first, then_same}
-use Rattle.spl_covered.specs.Laws.{read_with}
+use Rattle.spl_links.specs.Links.{MayCall}
+use Rattle.spl_names.specs.Names.{read_with}
 use Rattle.spl_targets.proofs.SameLemmas.{stopping_same, same_performs}
 use Rattle.spl_intrinsics.specs.Laws.{is_answered}
 use Rattle.spl_intrinsics.specs.Calls.{asked}
 use Rattle.spl_intrinsics.proofs.AskLemmas.{asked_whole}
 use Rattle.spl_intrinsics.proofs.PerformLemmas.{answers_assigned}
 use Rattle.spl_calls.specs.Covered.{is_covered_question, is_covered_value, is_answered_name}
-use Rattle.spl_calls.specs.Laws.{MayCall, AnswersAreWhole, AnswersPerform}
+use Rattle.spl_calls.specs.Laws.{AnswersAreWhole, AnswersPerform}
 use Rattle.spl_calls.proofs.CallLemmas.{IsQuestion, question_case, question_asked, question_whole, begun_whole, call_most}
 
 -- ---- which are covered
@@ -98,29 +99,29 @@ variable_case st k (Some (n.subroutine p)) pl e = absurd (false≢true e)
 variable_case st k (Some n.unknown) pl e = absurd (false≢true e)
 
 -- a call that answers one word
-record IsAnswering (c : Scope) (st : Setting) (x : List ℕ) (o : Option Sort) (es : Trees) (k : ℕ) : Type 0 where
+record IsAnswering (may : List ℕ → Bool) (c : Scope) (st : Setting) (x : List ℕ) (o : Option Sort) (es : Trees) (k : ℕ) : Type 0 where
   gate' : Intrinsic
   is : o ≡ Some (n.intrinsic gate')
   one : answer_words gate' ≡ 1
-  question : IsQuestion c st x gate' es k
+  question : IsQuestion may c st x gate' es k
 
-answering_case : (c : Scope) (st : Setting) (x : List ℕ) (o : Option Sort) (es : Trees) (k : ℕ) → is_covered_value c st x o es k ≡ true → IsAnswering c st x o es k
-answering_case c st x (Some (n.intrinsic j)) es k e =
-    let two = both (answer_words j == 1) (is_covered_question c st x j es k) e in
-    record { gate' = j; is = refl; one = eqb-true (answer_words j) 1 two.0; question = question_case c st x j es k two.1 }
-answering_case c st x None es k e = absurd (false≢true e)
-answering_case c st x (Some (n.equate v)) es k e = absurd (false≢true e)
-answering_case c st x (Some (n.simple t own)) es k e = absurd (false≢true e)
-answering_case c st x (Some (n.array t own low high)) es k e = absurd (false≢true e)
-answering_case c st x (Some (n.view t own base)) es k e = absurd (false≢true e)
-answering_case c st x (Some (n.pointer t own)) es k e = absurd (false≢true e)
-answering_case c st x (Some (n.value t)) es k e = absurd (false≢true e)
-answering_case c st x (Some (n.by_reference t)) es k e = absurd (false≢true e)
-answering_case c st x (Some (n.array_parameter t)) es k e = absurd (false≢true e)
-answering_case c st x (Some n.label) es k e = absurd (false≢true e)
-answering_case c st x (Some (n.procedure p)) es k e = absurd (false≢true e)
-answering_case c st x (Some (n.subroutine p)) es k e = absurd (false≢true e)
-answering_case c st x (Some n.unknown) es k e = absurd (false≢true e)
+answering_case : (may : List ℕ → Bool) (c : Scope) (st : Setting) (x : List ℕ) (o : Option Sort) (es : Trees) (k : ℕ) → is_covered_value may c st x o es k ≡ true → IsAnswering may c st x o es k
+answering_case may c st x (Some (n.intrinsic j)) es k e =
+    let two = both (answer_words j == 1) (is_covered_question may c st x j es k) e in
+    record { gate' = j; is = refl; one = eqb-true (answer_words j) 1 two.0; question = question_case may c st x j es k two.1 }
+answering_case may c st x None es k e = absurd (false≢true e)
+answering_case may c st x (Some (n.equate v)) es k e = absurd (false≢true e)
+answering_case may c st x (Some (n.simple t own)) es k e = absurd (false≢true e)
+answering_case may c st x (Some (n.array t own low high)) es k e = absurd (false≢true e)
+answering_case may c st x (Some (n.view t own base)) es k e = absurd (false≢true e)
+answering_case may c st x (Some (n.pointer t own)) es k e = absurd (false≢true e)
+answering_case may c st x (Some (n.value t)) es k e = absurd (false≢true e)
+answering_case may c st x (Some (n.by_reference t)) es k e = absurd (false≢true e)
+answering_case may c st x (Some (n.array_parameter t)) es k e = absurd (false≢true e)
+answering_case may c st x (Some n.label) es k e = absurd (false≢true e)
+answering_case may c st x (Some (n.procedure p)) es k e = absurd (false≢true e)
+answering_case may c st x (Some (n.subroutine p)) es k e = absurd (false≢true e)
+answering_case may c st x (Some n.unknown) es k e = absurd (false≢true e)
 
 -- what answers one word answers
 one_answers : (j : Intrinsic) → answer_words j ≡ 1 → is_answered j ≡ true
@@ -139,12 +140,12 @@ one_answers gate.Quit e = absurd (omega (arith, e))
 abbrev named_target : List ℕ → At → Target
 named_target y there = stat.Target.plain (tree.Tree.named y tree.Trees.none there)
 
-answer_code : (c : Context) (st : Setting) (y : List ℕ) (there : At) (x : List ℕ) (es : Trees) (here at : At) (k : ℕ)
-    (r : IsVariable st k (c.scope.names y) (c.scope.places y)) (a : IsAnswering c.scope st x (c.scope.names x) es k)
+answer_code : (may : List ℕ → Bool) (c : Context) (st : Setting) (y : List ℕ) (there : At) (x : List ℕ) (es : Trees) (here at : At) (k : ℕ)
+    (r : IsVariable st k (c.scope.names y) (c.scope.places y)) (a : IsAnswering may c.scope st x (c.scope.names x) es k)
     → statement c (stat.Statement.assign (named_target y there) (tree.Tree.named x es here) at) k
     ≡ piece (Begin at) ⨟ (nothing ⨟ (asked a.gate' x (made.arguments c.scope (intrinsic_profile a.gate').formals es (k + result_words (intrinsic_profile a.gate'))) ⨟ nothing)
     ⨟ pieces (stored (its_own r.type) false k r.place))
-answer_code c st y there x es here at k r a =
+answer_code may c st y there x es here at k r a =
     ap (λ (o : Option Sort). piece (Begin at) ⨟ (nothing ⨟ (made.named c.scope x (sense_of x o) (λ p. made.arguments c.scope p.formals es (k + result_words p))
     (index c.scope es false k ⨟ variable c.scope x (is_indexed es) k) ⨟ closing as_value)
     ⨟ pieces (at_place (c.scope.places y) (λ place. stored (assigned_access (c.scope.names y)) false k place)))) a.is
@@ -165,12 +166,12 @@ stored_closed st kind.Double k place e r = absurd (false≢true e)
 
 -- ---- the meaning
 
-answer_is : (c : Scope) (results : List ℕ → Option (Kind × Place)) (st : Setting) (call : Callee) (y : List ℕ) (there : At) (x : List ℕ) (es : Trees) (here : At) (k : ℕ)
-    (r : IsVariable st k (c.names y) (c.places y)) (a : IsAnswering c st x (c.names x) es k) → (u : State)
+answer_is : (may : List ℕ → Bool) (c : Scope) (results : List ℕ → Option (Kind × Place)) (st : Setting) (call : Callee) (y : List ℕ) (there : At) (x : List ℕ) (es : Trees) (here : At) (k : ℕ)
+    (r : IsVariable st k (c.names y) (c.places y)) (a : IsAnswering may c st x (c.names x) es k) → (u : State)
     → assign (read_with c results st) call (named_target y there) (tree.Tree.named x es here) k u
     ≡ then_go (then_go (run.arguments (read_with c results st) call (intrinsic_profile a.gate').formals es (k + result_words (intrinsic_profile a.gate')) u) (λ ws t. served a.gate' ws t))
     (λ vs v. store (variable_located r.type (address_of r.place v.now)) (kept r.type vs) v)
-answer_is c results st call y there x es here k r a u =
+answer_is may c results st call y there x es here k r a u =
     ap (λ (o : Option Sort). if is_intrinsic o && keeps_code (h.names y)
     then assigned h call (named_target y there) (λ j s1. intrinsic_value h call (sense_of x o) es j s1) k u
     else assigned h call (named_target y there) (λ j s1. value h call (tree.Tree.named x es here) j s1) k u) a.is
@@ -188,30 +189,30 @@ answer_is c results st call y there x es here k r a u =
 
 -- ---- along the tree
 
-named_whole : (c : Context) (st : Setting) (y : List ℕ) (there : At) (x : List ℕ) (es : Trees) (here at : At) (k : ℕ)
-    → (is_answered_name st k (c.scope.names y) (c.scope.places y) && is_covered_value c.scope st x (c.scope.names x) es k) ≡ true
+named_whole : (may : List ℕ → Bool) (c : Context) (st : Setting) (y : List ℕ) (there : At) (x : List ℕ) (es : Trees) (here at : At) (k : ℕ)
+    → (is_answered_name st k (c.scope.names y) (c.scope.places y) && is_covered_value may c.scope st x (c.scope.names x) es k) ≡ true
     → IsWhole (statement c (stat.Statement.assign (named_target y there) (tree.Tree.named x es here) at) k)
-named_whole c st y there x es here at k e =
-    let two = both (is_answered_name st k (c.scope.names y) (c.scope.places y)) (is_covered_value c.scope st x (c.scope.names x) es k) e in
+named_whole may c st y there x es here at k e =
+    let two = both (is_answered_name st k (c.scope.names y) (c.scope.places y)) (is_covered_value may c.scope st x (c.scope.names x) es k) e in
     let r = variable_case st k (c.scope.names y) (c.scope.places y) two.0 in
-    let a = answering_case c.scope st x (c.scope.names x) es k two.1 in
+    let a = answering_case may c.scope st x (c.scope.names x) es k two.1 in
     let args = made.arguments c.scope (intrinsic_profile a.gate').formals es (k + result_words (intrinsic_profile a.gate')) in
-    subst (λ (p : Part). IsWhole p) (sym (answer_code c st y there x es here at k r a))
+    subst (λ (p : Part). IsWhole p) (sym (answer_code may c st y there x es here at k r a))
     (begun_whole at (nothing ⨟ (asked a.gate' x args ⨟ nothing) ⨟ pieces (stored (its_own r.type) false k r.place))
     (whole_behind (nothing ⨟ (asked a.gate' x args ⨟ nothing)) (stored (its_own r.type) false k r.place)
-    (whole_first (asked a.gate' x args ⨟ nothing) (asked_whole a.gate' x args (question_whole c.scope st a.gate' x es k (one_answers a.gate' a.one) a.question)))
+    (whole_first (asked a.gate' x args ⨟ nothing) (asked_whole a.gate' x args (question_whole may c.scope st a.gate' x es k (one_answers a.gate' a.one) a.question)))
     (stored_closed st r.type k r.place r.word r.reached)))
 
-named_performs : (c : Context) (results : List ℕ → Option (Kind × Place)) (z : Surroundings) (call : Callee) (d number : ℕ) (y : List ℕ) (there : At)
+named_performs : (may : List ℕ → Bool) (c : Context) (results : List ℕ → Option (Kind × Place)) (z : Surroundings) (call : Callee) (d number : ℕ) (y : List ℕ) (there : At)
     (x : List ℕ) (es : Trees) (here at : At) (k need : ℕ)
-    → (is_answered_name z.setting k (c.scope.names y) (c.scope.places y) && is_covered_value c.scope z.setting x (c.scope.names x) es k) ≡ true
-    → most c.scope.names (tree.Tree.named x es here) + 8 ≤ need → MayCall z
+    → (is_answered_name z.setting k (c.scope.names y) (c.scope.places y) && is_covered_value may c.scope z.setting x (c.scope.names x) es k) ≡ true
+    → most c.scope.names (tree.Tree.named x es here) + 8 ≤ need → MayCall may c.scope z d call
     → Performs z d k need (statement c (stat.Statement.assign (named_target y there) (tree.Tree.named x es here) at) k)
     (λ s. run (read_with c.scope results z.setting) call d number (stat.Statement.assign (named_target y there) (tree.Tree.named x es here) at) k s)
-named_performs c results z call d number y there x es here at k need e enough may =
-    let two = both (is_answered_name z.setting k (c.scope.names y) (c.scope.places y)) (is_covered_value c.scope z.setting x (c.scope.names x) es k) e in
+named_performs may c results z call d number y there x es here at k need e enough links =
+    let two = both (is_answered_name z.setting k (c.scope.names y) (c.scope.places y)) (is_covered_value may c.scope z.setting x (c.scope.names x) es k) e in
     let r = variable_case z.setting k (c.scope.names y) (c.scope.places y) two.0 in
-    let a = answering_case c.scope z.setting x (c.scope.names x) es k two.1 in
+    let a = answering_case may c.scope z.setting x (c.scope.names x) es k two.1 in
     let h = read_with c.scope results z.setting in
     let formals = (intrinsic_profile a.gate').formals in
     let w = result_words (intrinsic_profile a.gate') in
@@ -222,68 +223,68 @@ named_performs c results z call d number y there x es here at k need e enough ma
     (λ s. run h call d number (stat.Statement.assign (named_target y there) (tree.Tree.named x es here) at) k s)
     (λ s. stopping number at s (λ u. then_go (then_go (run.arguments h call formals es (k + w) u) (λ ws t. served a.gate' ws t))
     (λ vs v. store (variable_located r.type (address_of r.place v.now)) (kept r.type vs) v)))
-    (answer_code c z.setting y there x es here at k r a)
+    (answer_code may c z.setting y there x es here at k r a)
     (λ s. stopping_same number at s (λ u. assign h call (named_target y there) (tree.Tree.named x es here) k u)
     (λ u. then_go (then_go (run.arguments h call formals es (k + w) u) (λ ws t. served a.gate' ws t))
     (λ vs v. store (variable_located r.type (address_of r.place v.now)) (kept r.type vs) v))
-    (answer_is c.scope results z.setting call y there x es here k r a))
+    (answer_is may c.scope results z.setting call y there x es here k r a))
     (answers_assigned z d k need number at a.gate' x args (λ s. run.arguments h call formals es (k + w) s) r.type r.place
-    (question_asked c.scope results z call d a.gate' x es k need (one_answers a.gate' a.one) a.question may (omega (arith, enough, most_is)))
+    (question_asked may c.scope results z call d a.gate' x es k need (one_answers a.gate' a.one) a.question links (omega (arith, enough, most_is)))
     a.one r.word r.reached)
 
 pub answers_whole : AnswersAreWhole
-answers_whole c st (stat.Target.plain (tree.Tree.named y tree.Trees.none there)) (tree.Tree.named x es here) at k e = named_whole c st y there x es here at k e
-answers_whole c st (stat.Target.plain (tree.Tree.named y tree.Trees.none there)) (tree.Tree.number v) at k e = absurd (false≢true e)
-answers_whole c st (stat.Target.plain (tree.Tree.named y tree.Trees.none there)) (tree.Tree.wide v) at k e = absurd (false≢true e)
-answers_whole c st (stat.Target.plain (tree.Tree.named y tree.Trees.none there)) (tree.Tree.text bytes) at k e = absurd (false≢true e)
-answers_whole c st (stat.Target.plain (tree.Tree.named y tree.Trees.none there)) (tree.Tree.truth b) at k e = absurd (false≢true e)
-answers_whole c st (stat.Target.plain (tree.Tree.named y tree.Trees.none there)) (tree.Tree.address x es at') at k e = absurd (false≢true e)
-answers_whole c st (stat.Target.plain (tree.Tree.named y tree.Trees.none there)) (tree.Tree.unary o a at') at k e = absurd (false≢true e)
-answers_whole c st (stat.Target.plain (tree.Tree.named y tree.Trees.none there)) (tree.Tree.binary o a b at') at k e = absurd (false≢true e)
-answers_whole c st (stat.Target.plain (tree.Tree.named y tree.Trees.none there)) (tree.Tree.shift o a by at') at k e = absurd (false≢true e)
-answers_whole c st (stat.Target.plain (tree.Tree.named y tree.Trees.none there)) (tree.Tree.field a start size at') at k e = absurd (false≢true e)
-answers_whole c st (stat.Target.plain (tree.Tree.named y tree.Trees.none there)) (tree.Tree.transfer t a at') at k e = absurd (false≢true e)
-answers_whole c st (stat.Target.plain (tree.Tree.named y tree.Trees.none there)) (tree.Tree.bytes o a b count at') at k e = absurd (false≢true e)
-answers_whole c st (stat.Target.plain (tree.Tree.named y (tree.Trees.and j js) there)) v at k e = absurd (false≢true e)
-answers_whole c st (stat.Target.plain (tree.Tree.number i)) v at k e = absurd (false≢true e)
-answers_whole c st (stat.Target.plain (tree.Tree.wide i)) v at k e = absurd (false≢true e)
-answers_whole c st (stat.Target.plain (tree.Tree.text bytes)) v at k e = absurd (false≢true e)
-answers_whole c st (stat.Target.plain (tree.Tree.truth b)) v at k e = absurd (false≢true e)
-answers_whole c st (stat.Target.plain (tree.Tree.address x es at')) v at k e = absurd (false≢true e)
-answers_whole c st (stat.Target.plain (tree.Tree.unary o a at')) v at k e = absurd (false≢true e)
-answers_whole c st (stat.Target.plain (tree.Tree.binary o a b at')) v at k e = absurd (false≢true e)
-answers_whole c st (stat.Target.plain (tree.Tree.shift o a by at')) v at k e = absurd (false≢true e)
-answers_whole c st (stat.Target.plain (tree.Tree.field a start size at')) v at k e = absurd (false≢true e)
-answers_whole c st (stat.Target.plain (tree.Tree.transfer t a at')) v at k e = absurd (false≢true e)
-answers_whole c st (stat.Target.plain (tree.Tree.bytes o a b count at')) v at k e = absurd (false≢true e)
-answers_whole c st (stat.Target.field r start size) v at k e = absurd (false≢true e)
-answers_whole c st (stat.Target.address y there) v at k e = absurd (false≢true e)
+answers_whole may c st (stat.Target.plain (tree.Tree.named y tree.Trees.none there)) (tree.Tree.named x es here) at k e = named_whole may c st y there x es here at k e
+answers_whole may c st (stat.Target.plain (tree.Tree.named y tree.Trees.none there)) (tree.Tree.number v) at k e = absurd (false≢true e)
+answers_whole may c st (stat.Target.plain (tree.Tree.named y tree.Trees.none there)) (tree.Tree.wide v) at k e = absurd (false≢true e)
+answers_whole may c st (stat.Target.plain (tree.Tree.named y tree.Trees.none there)) (tree.Tree.text bytes) at k e = absurd (false≢true e)
+answers_whole may c st (stat.Target.plain (tree.Tree.named y tree.Trees.none there)) (tree.Tree.truth b) at k e = absurd (false≢true e)
+answers_whole may c st (stat.Target.plain (tree.Tree.named y tree.Trees.none there)) (tree.Tree.address x es at') at k e = absurd (false≢true e)
+answers_whole may c st (stat.Target.plain (tree.Tree.named y tree.Trees.none there)) (tree.Tree.unary o a at') at k e = absurd (false≢true e)
+answers_whole may c st (stat.Target.plain (tree.Tree.named y tree.Trees.none there)) (tree.Tree.binary o a b at') at k e = absurd (false≢true e)
+answers_whole may c st (stat.Target.plain (tree.Tree.named y tree.Trees.none there)) (tree.Tree.shift o a by at') at k e = absurd (false≢true e)
+answers_whole may c st (stat.Target.plain (tree.Tree.named y tree.Trees.none there)) (tree.Tree.field a start size at') at k e = absurd (false≢true e)
+answers_whole may c st (stat.Target.plain (tree.Tree.named y tree.Trees.none there)) (tree.Tree.transfer t a at') at k e = absurd (false≢true e)
+answers_whole may c st (stat.Target.plain (tree.Tree.named y tree.Trees.none there)) (tree.Tree.bytes o a b count at') at k e = absurd (false≢true e)
+answers_whole may c st (stat.Target.plain (tree.Tree.named y (tree.Trees.and j js) there)) v at k e = absurd (false≢true e)
+answers_whole may c st (stat.Target.plain (tree.Tree.number i)) v at k e = absurd (false≢true e)
+answers_whole may c st (stat.Target.plain (tree.Tree.wide i)) v at k e = absurd (false≢true e)
+answers_whole may c st (stat.Target.plain (tree.Tree.text bytes)) v at k e = absurd (false≢true e)
+answers_whole may c st (stat.Target.plain (tree.Tree.truth b)) v at k e = absurd (false≢true e)
+answers_whole may c st (stat.Target.plain (tree.Tree.address x es at')) v at k e = absurd (false≢true e)
+answers_whole may c st (stat.Target.plain (tree.Tree.unary o a at')) v at k e = absurd (false≢true e)
+answers_whole may c st (stat.Target.plain (tree.Tree.binary o a b at')) v at k e = absurd (false≢true e)
+answers_whole may c st (stat.Target.plain (tree.Tree.shift o a by at')) v at k e = absurd (false≢true e)
+answers_whole may c st (stat.Target.plain (tree.Tree.field a start size at')) v at k e = absurd (false≢true e)
+answers_whole may c st (stat.Target.plain (tree.Tree.transfer t a at')) v at k e = absurd (false≢true e)
+answers_whole may c st (stat.Target.plain (tree.Tree.bytes o a b count at')) v at k e = absurd (false≢true e)
+answers_whole may c st (stat.Target.field r start size) v at k e = absurd (false≢true e)
+answers_whole may c st (stat.Target.address y there) v at k e = absurd (false≢true e)
 
 pub answers_perform : AnswersPerform
-answers_perform c results z call d number (stat.Target.plain (tree.Tree.named y tree.Trees.none there)) (tree.Tree.named x es here) at k need e enough may =
-    named_performs c results z call d number y there x es here at k need e (omega (arith, enough)) may
-answers_perform c results z call d number (stat.Target.plain (tree.Tree.named y tree.Trees.none there)) (tree.Tree.number v) at k need e enough may = absurd (false≢true e)
-answers_perform c results z call d number (stat.Target.plain (tree.Tree.named y tree.Trees.none there)) (tree.Tree.wide v) at k need e enough may = absurd (false≢true e)
-answers_perform c results z call d number (stat.Target.plain (tree.Tree.named y tree.Trees.none there)) (tree.Tree.text bytes) at k need e enough may = absurd (false≢true e)
-answers_perform c results z call d number (stat.Target.plain (tree.Tree.named y tree.Trees.none there)) (tree.Tree.truth b) at k need e enough may = absurd (false≢true e)
-answers_perform c results z call d number (stat.Target.plain (tree.Tree.named y tree.Trees.none there)) (tree.Tree.address x es at') at k need e enough may = absurd (false≢true e)
-answers_perform c results z call d number (stat.Target.plain (tree.Tree.named y tree.Trees.none there)) (tree.Tree.unary o a at') at k need e enough may = absurd (false≢true e)
-answers_perform c results z call d number (stat.Target.plain (tree.Tree.named y tree.Trees.none there)) (tree.Tree.binary o a b at') at k need e enough may = absurd (false≢true e)
-answers_perform c results z call d number (stat.Target.plain (tree.Tree.named y tree.Trees.none there)) (tree.Tree.shift o a by at') at k need e enough may = absurd (false≢true e)
-answers_perform c results z call d number (stat.Target.plain (tree.Tree.named y tree.Trees.none there)) (tree.Tree.field a start size at') at k need e enough may = absurd (false≢true e)
-answers_perform c results z call d number (stat.Target.plain (tree.Tree.named y tree.Trees.none there)) (tree.Tree.transfer t a at') at k need e enough may = absurd (false≢true e)
-answers_perform c results z call d number (stat.Target.plain (tree.Tree.named y tree.Trees.none there)) (tree.Tree.bytes o a b count at') at k need e enough may = absurd (false≢true e)
-answers_perform c results z call d number (stat.Target.plain (tree.Tree.named y (tree.Trees.and j js) there)) v at k need e enough may = absurd (false≢true e)
-answers_perform c results z call d number (stat.Target.plain (tree.Tree.number i)) v at k need e enough may = absurd (false≢true e)
-answers_perform c results z call d number (stat.Target.plain (tree.Tree.wide i)) v at k need e enough may = absurd (false≢true e)
-answers_perform c results z call d number (stat.Target.plain (tree.Tree.text bytes)) v at k need e enough may = absurd (false≢true e)
-answers_perform c results z call d number (stat.Target.plain (tree.Tree.truth b)) v at k need e enough may = absurd (false≢true e)
-answers_perform c results z call d number (stat.Target.plain (tree.Tree.address x es at')) v at k need e enough may = absurd (false≢true e)
-answers_perform c results z call d number (stat.Target.plain (tree.Tree.unary o a at')) v at k need e enough may = absurd (false≢true e)
-answers_perform c results z call d number (stat.Target.plain (tree.Tree.binary o a b at')) v at k need e enough may = absurd (false≢true e)
-answers_perform c results z call d number (stat.Target.plain (tree.Tree.shift o a by at')) v at k need e enough may = absurd (false≢true e)
-answers_perform c results z call d number (stat.Target.plain (tree.Tree.field a start size at')) v at k need e enough may = absurd (false≢true e)
-answers_perform c results z call d number (stat.Target.plain (tree.Tree.transfer t a at')) v at k need e enough may = absurd (false≢true e)
-answers_perform c results z call d number (stat.Target.plain (tree.Tree.bytes o a b count at')) v at k need e enough may = absurd (false≢true e)
-answers_perform c results z call d number (stat.Target.field r start size) v at k need e enough may = absurd (false≢true e)
-answers_perform c results z call d number (stat.Target.address y there) v at k need e enough may = absurd (false≢true e)
+answers_perform may c results z call d number (stat.Target.plain (tree.Tree.named y tree.Trees.none there)) (tree.Tree.named x es here) at k need e enough links =
+    named_performs may c results z call d number y there x es here at k need e (omega (arith, enough)) links
+answers_perform may c results z call d number (stat.Target.plain (tree.Tree.named y tree.Trees.none there)) (tree.Tree.number v) at k need e enough links = absurd (false≢true e)
+answers_perform may c results z call d number (stat.Target.plain (tree.Tree.named y tree.Trees.none there)) (tree.Tree.wide v) at k need e enough links = absurd (false≢true e)
+answers_perform may c results z call d number (stat.Target.plain (tree.Tree.named y tree.Trees.none there)) (tree.Tree.text bytes) at k need e enough links = absurd (false≢true e)
+answers_perform may c results z call d number (stat.Target.plain (tree.Tree.named y tree.Trees.none there)) (tree.Tree.truth b) at k need e enough links = absurd (false≢true e)
+answers_perform may c results z call d number (stat.Target.plain (tree.Tree.named y tree.Trees.none there)) (tree.Tree.address x es at') at k need e enough links = absurd (false≢true e)
+answers_perform may c results z call d number (stat.Target.plain (tree.Tree.named y tree.Trees.none there)) (tree.Tree.unary o a at') at k need e enough links = absurd (false≢true e)
+answers_perform may c results z call d number (stat.Target.plain (tree.Tree.named y tree.Trees.none there)) (tree.Tree.binary o a b at') at k need e enough links = absurd (false≢true e)
+answers_perform may c results z call d number (stat.Target.plain (tree.Tree.named y tree.Trees.none there)) (tree.Tree.shift o a by at') at k need e enough links = absurd (false≢true e)
+answers_perform may c results z call d number (stat.Target.plain (tree.Tree.named y tree.Trees.none there)) (tree.Tree.field a start size at') at k need e enough links = absurd (false≢true e)
+answers_perform may c results z call d number (stat.Target.plain (tree.Tree.named y tree.Trees.none there)) (tree.Tree.transfer t a at') at k need e enough links = absurd (false≢true e)
+answers_perform may c results z call d number (stat.Target.plain (tree.Tree.named y tree.Trees.none there)) (tree.Tree.bytes o a b count at') at k need e enough links = absurd (false≢true e)
+answers_perform may c results z call d number (stat.Target.plain (tree.Tree.named y (tree.Trees.and j js) there)) v at k need e enough links = absurd (false≢true e)
+answers_perform may c results z call d number (stat.Target.plain (tree.Tree.number i)) v at k need e enough links = absurd (false≢true e)
+answers_perform may c results z call d number (stat.Target.plain (tree.Tree.wide i)) v at k need e enough links = absurd (false≢true e)
+answers_perform may c results z call d number (stat.Target.plain (tree.Tree.text bytes)) v at k need e enough links = absurd (false≢true e)
+answers_perform may c results z call d number (stat.Target.plain (tree.Tree.truth b)) v at k need e enough links = absurd (false≢true e)
+answers_perform may c results z call d number (stat.Target.plain (tree.Tree.address x es at')) v at k need e enough links = absurd (false≢true e)
+answers_perform may c results z call d number (stat.Target.plain (tree.Tree.unary o a at')) v at k need e enough links = absurd (false≢true e)
+answers_perform may c results z call d number (stat.Target.plain (tree.Tree.binary o a b at')) v at k need e enough links = absurd (false≢true e)
+answers_perform may c results z call d number (stat.Target.plain (tree.Tree.shift o a by at')) v at k need e enough links = absurd (false≢true e)
+answers_perform may c results z call d number (stat.Target.plain (tree.Tree.field a start size at')) v at k need e enough links = absurd (false≢true e)
+answers_perform may c results z call d number (stat.Target.plain (tree.Tree.transfer t a at')) v at k need e enough links = absurd (false≢true e)
+answers_perform may c results z call d number (stat.Target.plain (tree.Tree.bytes o a b count at')) v at k need e enough links = absurd (false≢true e)
+answers_perform may c results z call d number (stat.Target.field r start size) v at k need e enough links = absurd (false≢true e)
+answers_perform may c results z call d number (stat.Target.address y there) v at k need e enough links = absurd (false≢true e)

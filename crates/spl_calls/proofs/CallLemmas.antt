@@ -17,7 +17,7 @@ use Rattle.spl_meaning.specs.Names as n
 use Rattle.spl_meaning.specs.Names.{Sort, Formal, intrinsic_named, intrinsic_profile}
 use Rattle.spl_meaning.specs.Kinds.{callable}
 use Rattle.spl_meaning.specs.Operations.{passed}
-use Rattle.spl_meaning.specs.Pending.{most, most_of, formals_words, profile_formals, profile_result_words, link_words, result_words}
+use Rattle.spl_meaning.specs.Pending.{most, most_of, statement_most, formals_words, profile_formals, profile_result_words, link_words, result_words}
 use Rattle.spl_meaning.specs.Places.{Place}
 use Rattle.spl_meaning.specs.References.{Here, Setting}
 use Rattle.spl_meaning.specs.Serving.{served}
@@ -44,18 +44,16 @@ use Rattle.spl_values.specs.Reached.{IsWhole}
 use Rattle.spl_values.proofs.VariableLemmas.{both}
 use Rattle.spl_values.proofs.SumLemmas.{front_on}
 use Rattle.spl_values.proofs.WholeLemmas.{whole_behind, whole_last}
-use Rattle.spl_covered.specs.Covered.{is_covered}
-use Rattle.spl_covered.specs.Laws.{read_with}
-use Rattle.spl_covered.proofs.CoverLemmas.{covered_width, covered_whole, covered_gives}
+use Rattle.spl_covered.specs.Covered.{is_covered, is_wide, is_covered_reference, is_passed, are_covered_arguments}
+use Rattle.spl_links.specs.Links.{MayCall}
+use Rattle.spl_names.specs.Names.{read_with}
+use Rattle.spl_covered.proofs.CoverLemmas.{covered_width, covered_whole, covered_gives, arguments_whole, arguments_give}
 use Rattle.spl_targets.proofs.SameLemmas.{stopping_same, same_performs}
 use Rattle.spl_intrinsics.specs.Laws.{is_answered}
 use Rattle.spl_intrinsics.specs.Calls.{asked, IsAsked}
 use Rattle.spl_intrinsics.proofs.AskLemmas.{asked_whole}
 use Rattle.spl_intrinsics.proofs.PerformLemmas.{calls_perform}
-use Rattle.spl_arguments.specs.Covered.{are_covered_arguments, is_covered_argument}
-use Rattle.spl_arguments.proofs.ArgumentLemmas.{arguments_whole, arguments_give}
-use Rattle.spl_calls.specs.Covered.{entry_of, is_that, is_covered_question, is_covered_call}
-use Rattle.spl_calls.specs.Laws.{MayCall, CallsAreWhole, CallsPerform}
+use Rattle.spl_calls.specs.Covered.{entry_of, is_that, is_covered_question, is_asked_call}
 
 -- ---- which intrinsic
 
@@ -79,93 +77,93 @@ not_true false e = refl
 not_true true e = absurd (false≢true e)
 
 -- what a covered call is
-pub record IsQuestion (c : Scope) (st : Setting) (x : List ℕ) (n : Intrinsic) (es : Trees) (k : ℕ) : Type 0 where
+pub record IsQuestion (may : List ℕ → Bool) (c : Scope) (st : Setting) (x : List ℕ) (n : Intrinsic) (es : Trees) (k : ℕ) : Type 0 where
   pub whole : st.split ≡ false
   pub named : intrinsic_named x ≡ Some n
-  pub arguments : are_covered_arguments c st (intrinsic_profile n).formals es (k + result_words (intrinsic_profile n)) ≡ true
+  pub arguments : are_covered_arguments may c st (intrinsic_profile n).formals es (k + result_words (intrinsic_profile n)) ≡ true
 
-pub question_case : (c : Scope) (st : Setting) (x : List ℕ) (n : Intrinsic) (es : Trees) (k : ℕ) → is_covered_question c st x n es k ≡ true
-    → IsQuestion c st x n es k
-question_case c st x n es k e =
-    let two = both (not st.split) (is_that n (intrinsic_named x) && are_covered_arguments c st (intrinsic_profile n).formals es (k + result_words (intrinsic_profile n))) e in
-    let more = both (is_that n (intrinsic_named x)) (are_covered_arguments c st (intrinsic_profile n).formals es (k + result_words (intrinsic_profile n))) two.1 in
+pub question_case : (may : List ℕ → Bool) (c : Scope) (st : Setting) (x : List ℕ) (n : Intrinsic) (es : Trees) (k : ℕ) → is_covered_question may c st x n es k ≡ true
+    → IsQuestion may c st x n es k
+question_case may c st x n es k e =
+    let two = both (not st.split) (is_that n (intrinsic_named x) && are_covered_arguments may c st (intrinsic_profile n).formals es (k + result_words (intrinsic_profile n))) e in
+    let more = both (is_that n (intrinsic_named x)) (are_covered_arguments may c st (intrinsic_profile n).formals es (k + result_words (intrinsic_profile n))) two.1 in
     record { whole = not_true st.split two.0; named = that_is n (intrinsic_named x) more.0; arguments = more.1 }
 
 -- by what its name stands for
-pub record IsCall (c : Scope) (st : Setting) (x : List ℕ) (o : Option Sort) (es : Trees) (k : ℕ) : Type 0 where
+pub record IsCall (may : List ℕ → Bool) (c : Scope) (st : Setting) (x : List ℕ) (o : Option Sort) (es : Trees) (k : ℕ) : Type 0 where
   pub intrinsic' : Intrinsic
   pub is : o ≡ Some (n.intrinsic intrinsic')
-  pub question : IsQuestion c st x intrinsic' es k
+  pub question : IsQuestion may c st x intrinsic' es k
 
-pub call_case : (c : Scope) (st : Setting) (x : List ℕ) (o : Option Sort) (es : Trees) (k : ℕ) → is_covered_call c st x o es k ≡ true → IsCall c st x o es k
-call_case c st x (Some (n.intrinsic j)) es k e = record { intrinsic' = j; is = refl; question = question_case c st x j es k e }
-call_case c st x None es k e = absurd (false≢true e)
-call_case c st x (Some (n.equate v)) es k e = absurd (false≢true e)
-call_case c st x (Some (n.simple t own)) es k e = absurd (false≢true e)
-call_case c st x (Some (n.array t own low high)) es k e = absurd (false≢true e)
-call_case c st x (Some (n.view t own base)) es k e = absurd (false≢true e)
-call_case c st x (Some (n.pointer t own)) es k e = absurd (false≢true e)
-call_case c st x (Some (n.value t)) es k e = absurd (false≢true e)
-call_case c st x (Some (n.by_reference t)) es k e = absurd (false≢true e)
-call_case c st x (Some (n.array_parameter t)) es k e = absurd (false≢true e)
-call_case c st x (Some n.label) es k e = absurd (false≢true e)
-call_case c st x (Some (n.procedure p)) es k e = absurd (false≢true e)
-call_case c st x (Some (n.subroutine p)) es k e = absurd (false≢true e)
-call_case c st x (Some n.unknown) es k e = absurd (false≢true e)
+pub call_case : (may : List ℕ → Bool) (c : Scope) (st : Setting) (x : List ℕ) (o : Option Sort) (es : Trees) (k : ℕ) → is_asked_call may c st x o es k ≡ true → IsCall may c st x o es k
+call_case may c st x (Some (n.intrinsic j)) es k e = record { intrinsic' = j; is = refl; question = question_case may c st x j es k e }
+call_case may c st x None es k e = absurd (false≢true e)
+call_case may c st x (Some (n.equate v)) es k e = absurd (false≢true e)
+call_case may c st x (Some (n.simple t own)) es k e = absurd (false≢true e)
+call_case may c st x (Some (n.array t own low high)) es k e = absurd (false≢true e)
+call_case may c st x (Some (n.view t own base)) es k e = absurd (false≢true e)
+call_case may c st x (Some (n.pointer t own)) es k e = absurd (false≢true e)
+call_case may c st x (Some (n.value t)) es k e = absurd (false≢true e)
+call_case may c st x (Some (n.by_reference t)) es k e = absurd (false≢true e)
+call_case may c st x (Some (n.array_parameter t)) es k e = absurd (false≢true e)
+call_case may c st x (Some n.label) es k e = absurd (false≢true e)
+call_case may c st x (Some (n.procedure p)) es k e = absurd (false≢true e)
+call_case may c st x (Some (n.subroutine p)) es k e = absurd (false≢true e)
+call_case may c st x (Some n.unknown) es k e = absurd (false≢true e)
 
 -- ---- what a call is given
 
 -- a call's arguments, behind the room for its answer
-asked_is : (c : Scope) (results : List ℕ → Option (Kind × Place)) (z : Surroundings) (call : Callee) (d : ℕ) (n : Intrinsic) (x : List ℕ) (f : Formal)
-    (fs : List Formal) (es : Trees) (k w need : ℕ) → is_answered n ≡ true → intrinsic_named x ≡ Some n → z.setting.split ≡ false → MayCall z
-    → are_covered_arguments c z.setting (f ∷ fs) es (k + w) ≡ true → formals_words (f ∷ fs) ≡ parameter_words n → w ≡ answer_words n
+asked_is : (may : List ℕ → Bool) (c : Scope) (results : List ℕ → Option (Kind × Place)) (z : Surroundings) (call : Callee) (d : ℕ) (n : Intrinsic) (x : List ℕ) (f : Formal)
+    (fs : List Formal) (es : Trees) (k w need : ℕ) → is_answered n ≡ true → intrinsic_named x ≡ Some n → z.setting.split ≡ false → MayCall may c z d call
+    → are_covered_arguments may c z.setting (f ∷ fs) es (k + w) ≡ true → formals_words (f ∷ fs) ≡ parameter_words n → w ≡ answer_words n
     → max (most_of c.names (f ∷ fs) w es) (w + formals_words (f ∷ fs) + 0) + 8 ≤ need
     → IsAsked z d k need n x (made.arguments c (f ∷ fs) es (k + w)) (λ s. run.arguments (read_with c results z.setting) call (f ∷ fs) es (k + w) s)
-asked_is c results z call d n x f fs es k w need answered its whole may covered words answer enough = record {
+asked_is may c results z call d n x f fs es k w need answered its whole links covered words answer enough = record {
   answered = answered;
-  gates = may.gates;
+  gates = links.gates;
   named = its;
   whole = whole;
-  closed = arguments_whole c z.setting f fs es (k + w) covered;
+  closed = arguments_whole may c z.setting f fs es (k + w) covered;
   more = need - answer_words n;
   enough = omega (arith, enough, answer);
   room = omega (arith, enough, answer, words);
   simulates =
       subst (λ (j : ℕ). Simulates z d as_value (parameter_words n) (k + j) (need - answer_words n) (made.arguments c (f ∷ fs) es (k + w)) (λ s. run.arguments h call (f ∷ fs) es (k + w) s)) answer
       (subst (λ (j : ℕ). Simulates z d as_value j (k + w) (need - answer_words n) (made.arguments c (f ∷ fs) es (k + w)) (λ s. run.arguments h call (f ∷ fs) es (k + w) s)) words
-      (arguments_give c results z call d f fs es (k + w) w (need - answer_words n) covered (omega (arith, enough, answer)) (omega (arith, enough, answer))));
+      (arguments_give may c results z call d f fs es (k + w) w (need - answer_words n) links covered (omega (arith, enough, answer)) (omega (arith, enough, answer))));
 }
   where
     h : Here
     h = read_with c results z.setting
 
 -- of each intrinsic that answers
-pub question_asked : (c : Scope) (results : List ℕ → Option (Kind × Place)) (z : Surroundings) (call : Callee) (d : ℕ) (n : Intrinsic) (x : List ℕ) (es : Trees)
-    (k need : ℕ) → is_answered n ≡ true → IsQuestion c z.setting x n es k → MayCall z
+pub question_asked : (may : List ℕ → Bool) (c : Scope) (results : List ℕ → Option (Kind × Place)) (z : Surroundings) (call : Callee) (d : ℕ) (n : Intrinsic) (x : List ℕ) (es : Trees)
+    (k need : ℕ) → is_answered n ≡ true → IsQuestion may c z.setting x n es k → MayCall may c z d call
     → max (most_of c.names (intrinsic_profile n).formals (result_words (intrinsic_profile n)) es)
     (result_words (intrinsic_profile n) + formals_words (intrinsic_profile n).formals + 0) + 8 ≤ need
     → IsAsked z d k need n x (made.arguments c (intrinsic_profile n).formals es (k + result_words (intrinsic_profile n)))
     (λ s. run.arguments (read_with c results z.setting) call (intrinsic_profile n).formals es (k + result_words (intrinsic_profile n)) s)
-question_asked c results z call d gate.Print x es k need a q may enough = asked_is c results z call d gate.Print x _ _ es k 0 need refl q.named q.whole may q.arguments refl refl enough
-question_asked c results z call d gate.Read x es k need a q may enough = asked_is c results z call d gate.Read x _ _ es k 1 need refl q.named q.whole may q.arguments refl refl enough
-question_asked c results z call d gate.Ascii x es k need a q may enough = asked_is c results z call d gate.Ascii x _ _ es k 1 need refl q.named q.whole may q.arguments refl refl enough
-question_asked c results z call d gate.Dascii x es k need a q may enough = asked_is c results z call d gate.Dascii x _ _ es k 1 need refl q.named q.whole may q.arguments refl refl enough
-question_asked c results z call d gate.Binary x es k need a q may enough = asked_is c results z call d gate.Binary x _ _ es k 1 need refl q.named q.whole may q.arguments refl refl enough
-question_asked c results z call d gate.Dbinary x es k need a q may enough = asked_is c results z call d gate.Dbinary x _ _ es k 2 need refl q.named q.whole may q.arguments refl refl enough
-question_asked c results z call d gate.Terminate x es k need a q may enough = absurd (false≢true a)
-question_asked c results z call d gate.Quit x es k need a q may enough = absurd (false≢true a)
+question_asked may c results z call d gate.Print x es k need a q links enough = asked_is may c results z call d gate.Print x _ _ es k 0 need refl q.named q.whole links q.arguments refl refl enough
+question_asked may c results z call d gate.Read x es k need a q links enough = asked_is may c results z call d gate.Read x _ _ es k 1 need refl q.named q.whole links q.arguments refl refl enough
+question_asked may c results z call d gate.Ascii x es k need a q links enough = asked_is may c results z call d gate.Ascii x _ _ es k 1 need refl q.named q.whole links q.arguments refl refl enough
+question_asked may c results z call d gate.Dascii x es k need a q links enough = asked_is may c results z call d gate.Dascii x _ _ es k 1 need refl q.named q.whole links q.arguments refl refl enough
+question_asked may c results z call d gate.Binary x es k need a q links enough = asked_is may c results z call d gate.Binary x _ _ es k 1 need refl q.named q.whole links q.arguments refl refl enough
+question_asked may c results z call d gate.Dbinary x es k need a q links enough = asked_is may c results z call d gate.Dbinary x _ _ es k 2 need refl q.named q.whole links q.arguments refl refl enough
+question_asked may c results z call d gate.Terminate x es k need a q links enough = absurd (false≢true a)
+question_asked may c results z call d gate.Quit x es k need a q links enough = absurd (false≢true a)
 
 -- its arguments' code is whole
-pub question_whole : (c : Scope) (st : Setting) (n : Intrinsic) (x : List ℕ) (es : Trees) (k : ℕ) → is_answered n ≡ true → IsQuestion c st x n es k
+pub question_whole : (may : List ℕ → Bool) (c : Scope) (st : Setting) (n : Intrinsic) (x : List ℕ) (es : Trees) (k : ℕ) → is_answered n ≡ true → IsQuestion may c st x n es k
     → IsWhole (made.arguments c (intrinsic_profile n).formals es (k + result_words (intrinsic_profile n)))
-question_whole c st gate.Print x es k a q = arguments_whole c st _ _ es (k + 0) q.arguments
-question_whole c st gate.Read x es k a q = arguments_whole c st _ _ es (k + 1) q.arguments
-question_whole c st gate.Ascii x es k a q = arguments_whole c st _ _ es (k + 1) q.arguments
-question_whole c st gate.Dascii x es k a q = arguments_whole c st _ _ es (k + 1) q.arguments
-question_whole c st gate.Binary x es k a q = arguments_whole c st _ _ es (k + 1) q.arguments
-question_whole c st gate.Dbinary x es k a q = arguments_whole c st _ _ es (k + 2) q.arguments
-question_whole c st gate.Terminate x es k a q = absurd (false≢true a)
-question_whole c st gate.Quit x es k a q = absurd (false≢true a)
+question_whole may c st gate.Print x es k a q = arguments_whole may c st _ _ es (k + 0) q.arguments
+question_whole may c st gate.Read x es k a q = arguments_whole may c st _ _ es (k + 1) q.arguments
+question_whole may c st gate.Ascii x es k a q = arguments_whole may c st _ _ es (k + 1) q.arguments
+question_whole may c st gate.Dascii x es k a q = arguments_whole may c st _ _ es (k + 1) q.arguments
+question_whole may c st gate.Binary x es k a q = arguments_whole may c st _ _ es (k + 1) q.arguments
+question_whole may c st gate.Dbinary x es k a q = arguments_whole may c st _ _ es (k + 2) q.arguments
+question_whole may c st gate.Terminate x es k a q = absurd (false≢true a)
+question_whole may c st gate.Quit x es k a q = absurd (false≢true a)
 
 -- ---- code
 
@@ -249,33 +247,34 @@ pub begun_whole : (at : At) (a : Part) → IsWhole a → IsWhole (piece (Begin a
 begun_whole at a x = record { closed = λ l ws. x.closed (l + 0) ws; keeps = λ l ws. x.keeps (l + 0) ws }
 
 -- the other argument of a QUIT is none
-quit_value : (c : Scope) (st : Setting) (es : Trees) (k : ℕ) → are_covered_arguments c st (intrinsic_profile gate.Quit).formals es (k + 0) ≡ true
-    → (e : Tree) × (es ≡ tree.Trees.and e tree.Trees.none) × (is_covered c st e (k + 0) ≡ true)
-quit_value c st (tree.Trees.and e tree.Trees.none) k h =
-    let two = both (is_covered_argument c st true (Some kind.Integer) e (k + 0)) true h in (e, refl, two.0)
-quit_value c st (tree.Trees.and e (tree.Trees.and u es)) k h = absurd (false≢true (both (is_covered_argument c st true (Some kind.Integer) e (k + 0)) false h).1)
-quit_value c st tree.Trees.none k h = absurd (false≢true h)
+quit_value : (may : List ℕ → Bool) (c : Scope) (st : Setting) (es : Trees) (k : ℕ) → are_covered_arguments may c st (intrinsic_profile gate.Quit).formals es (k + 0) ≡ true
+    → (e : Tree) × (es ≡ tree.Trees.and e tree.Trees.none) × (is_covered may c st e (k + 0) ≡ true)
+quit_value may c st (tree.Trees.and e tree.Trees.none) k h =
+    let two = both (is_passed true (Some kind.Integer) (is_covered may c st e (k + 0)) (is_wide may c st e (k + 0)) (is_covered_reference may c st e (k + 0))) true h in (e, refl, two.0)
+quit_value may c st (tree.Trees.and e (tree.Trees.and u es)) k h = absurd (false≢true (both (is_passed true (Some kind.Integer) (is_covered may c st e (k + 0)) (is_wide may c st e (k + 0)) (is_covered_reference may c st e (k + 0))) false h).1)
+quit_value may c st tree.Trees.none k h = absurd (false≢true h)
 
-no_value : (c : Scope) (st : Setting) (es : Trees) (k : ℕ) → are_covered_arguments c st (intrinsic_profile gate.Terminate).formals es (k + 0) ≡ true
+no_value : (may : List ℕ → Bool) (c : Scope) (st : Setting) (es : Trees) (k : ℕ) → are_covered_arguments may c st (intrinsic_profile gate.Terminate).formals es (k + 0) ≡ true
     → es ≡ tree.Trees.none
-no_value c st tree.Trees.none k h = refl
-no_value c st (tree.Trees.and e es) k h = absurd (false≢true h)
+no_value may c st tree.Trees.none k h = refl
+no_value may c st (tree.Trees.and e es) k h = absurd (false≢true h)
 
-pub call_whole : CallsAreWhole
-call_whole c st x es at k e = by r.intrinsic' r.is r.question where
-  r : IsCall c.scope st x (c.scope.names x) es k
-  r = call_case c.scope st x (c.scope.names x) es k e
+pub call_whole : (may : List ℕ → Bool) (c : Context) (st : Setting) (x : List ℕ) (es : Trees) (at : At) (k : ℕ)
+    → is_asked_call may c.scope st x (c.scope.names x) es k ≡ true → IsWhole (statement c (stat.Statement.call x es at) k)
+call_whole may c st x es at k e = by r.intrinsic' r.is r.question where
+  r : IsCall may c.scope st x (c.scope.names x) es k
+  r = call_case may c.scope st x (c.scope.names x) es k e
 
-  answered : (j : Intrinsic) → is_answered j ≡ true → c.scope.names x ≡ Some (n.intrinsic j) → IsQuestion c.scope st x j es k
+  answered : (j : Intrinsic) → is_answered j ≡ true → c.scope.names x ≡ Some (n.intrinsic j) → IsQuestion may c.scope st x j es k
       → IsWhole (statement c (stat.Statement.call x es at) k)
   answered j a is q =
       subst (λ (p : Part). IsWhole p) (sym (call_code c x es at k (Some (n.intrinsic j)) is))
       (begun_whole at (asked j x (made.arguments c.scope (intrinsic_profile j).formals es (k + result_words (intrinsic_profile j))) ⨟ nothing
       ⨟ pieces (result_dropped (intrinsic_profile j).result))
       (dropped_whole j (asked j x (made.arguments c.scope (intrinsic_profile j).formals es (k + result_words (intrinsic_profile j))) ⨟ nothing)
-      (asked_whole j x (made.arguments c.scope (intrinsic_profile j).formals es (k + result_words (intrinsic_profile j))) (question_whole c.scope st j x es k a q))))
+      (asked_whole j x (made.arguments c.scope (intrinsic_profile j).formals es (k + result_words (intrinsic_profile j))) (question_whole may c.scope st j x es k a q))))
 
-  by : (j : Intrinsic) → c.scope.names x ≡ Some (n.intrinsic j) → IsQuestion c.scope st x j es k → IsWhole (statement c (stat.Statement.call x es at) k)
+  by : (j : Intrinsic) → c.scope.names x ≡ Some (n.intrinsic j) → IsQuestion may c.scope st x j es k → IsWhole (statement c (stat.Statement.call x es at) k)
   by gate.Print is q = answered gate.Print refl is q
   by gate.Read is q = answered gate.Read refl is q
   by gate.Ascii is q = answered gate.Ascii refl is q
@@ -283,22 +282,26 @@ call_whole c st x es at k e = by r.intrinsic' r.is r.question where
   by gate.Binary is q = answered gate.Binary refl is q
   by gate.Dbinary is q = answered gate.Dbinary refl is q
   by gate.Terminate is q =
-      subst (λ (us : Trees). IsWhole (statement c (stat.Statement.call x us at) k)) (sym (no_value c.scope st es k q.arguments))
+      subst (λ (us : Trees). IsWhole (statement c (stat.Statement.call x us at) k)) (sym (no_value may c.scope st es k q.arguments))
       (subst (λ (a : Part). IsWhole a) (sym (call_code c x tree.Trees.none at k (Some (n.intrinsic gate.Terminate)) is)) (terminate_whole at x))
   by gate.Quit is q =
-      let v = quit_value c.scope st es k q.arguments in
+      let v = quit_value may c.scope st es k q.arguments in
       subst (λ (us : Trees). IsWhole (statement c (stat.Statement.call x us at) k)) (sym v.1)
       (subst (λ (a : Part). IsWhole a) (sym (call_code c x (tree.Trees.and v.0 tree.Trees.none) at k (Some (n.intrinsic gate.Quit)) is))
-      (quit_whole at x (code c.scope v.0 as_value (k + 0)) (covered_whole c.scope st v.0 (k + 0) v.2)))
+      (quit_whole at x (code c.scope v.0 as_value (k + 0)) (covered_whole may c.scope st v.0 (k + 0) v.2)))
 
 -- a word that waits no longer than before
 none_more : (k : ℕ) → k ≡ k + 0
 none_more k = omega arith
 
-pub call_performs : CallsPerform
-call_performs c results z call d number x es at k need e enough may = by r.intrinsic' r.is r.question where
-  r : IsCall c.scope z.setting x (c.scope.names x) es k
-  r = call_case c.scope z.setting x (c.scope.names x) es k e
+pub call_performs : (may : List ℕ → Bool) (c : Context) (results : List ℕ → Option (Kind × Place)) (z : Surroundings) (call : Callee) (d number : ℕ) (x : List ℕ)
+    (es : Trees) (at : At) (k need : ℕ) → is_asked_call may c.scope z.setting x (c.scope.names x) es k ≡ true
+    → statement_most c.scope.names (stat.Statement.call x es at) + 8 ≤ need → MayCall may c.scope z d call
+    → Performs z d k need (statement c (stat.Statement.call x es at) k)
+    (λ s. run (read_with c.scope results z.setting) call d number (stat.Statement.call x es at) k s)
+call_performs may c results z call d number x es at k need e enough links = by r.intrinsic' r.is r.question where
+  r : IsCall may c.scope z.setting x (c.scope.names x) es k
+  r = call_case may c.scope z.setting x (c.scope.names x) es k e
 
   h : Here
   h = read_with c.scope results z.setting
@@ -307,7 +310,7 @@ call_performs c results z call d number x es at k need e enough may = by r.intri
   Goal us =
       Performs z d k need (statement c (stat.Statement.call x us at) k) (λ s. run h call d number (stat.Statement.call x us at) k s)
 
-  answered : (j : Intrinsic) → is_answered j ≡ true → c.scope.names x ≡ Some (n.intrinsic j) → IsQuestion c.scope z.setting x j es k → Goal es
+  answered : (j : Intrinsic) → is_answered j ≡ true → c.scope.names x ≡ Some (n.intrinsic j) → IsQuestion may c.scope z.setting x j es k → Goal es
   answered j a is q =
       let most_is = call_most c.scope x es at (Some (n.intrinsic j)) is in
       let formals = (intrinsic_profile j).formals in
@@ -321,9 +324,9 @@ call_performs c results z call d number x es at k need e enough may = by r.intri
       (call_code c x es at k (Some (n.intrinsic j)) is)
       (λ s. stopping_same number at s (λ u. call_statement h call x es at k u) (λ u. value_dropped (then_go (words u) (λ ws t. served j ws t)))
       (λ u. call_meaning h call x es at k j is u))
-      (calls_perform z d k need number at j x args words (question_asked c.scope results z call d j x es k need a q may (omega (arith, enough, most_is))))
+      (calls_perform z d k need number at j x args words (question_asked may c.scope results z call d j x es k need a q links (omega (arith, enough, most_is))))
 
-  by : (j : Intrinsic) → c.scope.names x ≡ Some (n.intrinsic j) → IsQuestion c.scope z.setting x j es k → Goal es
+  by : (j : Intrinsic) → c.scope.names x ≡ Some (n.intrinsic j) → IsQuestion may c.scope z.setting x j es k → Goal es
   by gate.Print is q = answered gate.Print refl is q
   by gate.Read is q = answered gate.Read refl is q
   by gate.Ascii is q = answered gate.Ascii refl is q
@@ -331,24 +334,24 @@ call_performs c results z call d number x es at k need e enough may = by r.intri
   by gate.Binary is q = answered gate.Binary refl is q
   by gate.Dbinary is q = answered gate.Dbinary refl is q
   by gate.Terminate is q =
-      subst Goal (sym (no_value c.scope z.setting es k q.arguments))
+      subst Goal (sym (no_value may c.scope z.setting es k q.arguments))
       (same_performs z d k need (statement c (stat.Statement.call x tree.Trees.none at) k) (called at gate.Terminate x nothing)
       (λ s. run h call d number (stat.Statement.call x tree.Trees.none at) k s)
       (λ s. stopping number at s (λ u. value_dropped (served gate.Terminate [] u)))
       (call_code c x tree.Trees.none at k (Some (n.intrinsic gate.Terminate)) is)
       (λ s. stopping_same number at s (λ u. call_statement h call x tree.Trees.none at k u) (λ u. value_dropped (served gate.Terminate [] u))
       (λ u. call_meaning h call x tree.Trees.none at k gate.Terminate is u))
-      (terminate_performs z d k need number at x may.gates q.named q.whole))
+      (terminate_performs z d k need number at x links.gates q.named q.whole))
   by gate.Quit is q =
-      let v = quit_value c.scope z.setting es k q.arguments in
+      let v = quit_value may c.scope z.setting es k q.arguments in
       subst Goal (sym v.1) (quit v.0 v.2 is q (subst (λ (us : Trees). most c.scope.names (tree.Tree.named x us at) + 8 ≤ need) v.1 enough)) where
-        quit : (v : Tree) → is_covered c.scope z.setting v (k + 0) ≡ true → c.scope.names x ≡ Some (n.intrinsic gate.Quit) → IsQuestion c.scope z.setting x gate.Quit es k
+        quit : (v : Tree) → is_covered may c.scope z.setting v (k + 0) ≡ true → c.scope.names x ≡ Some (n.intrinsic gate.Quit) → IsQuestion may c.scope z.setting x gate.Quit es k
             → most c.scope.names (tree.Tree.named x (tree.Trees.and v tree.Trees.none) at) + 8 ≤ need → Goal (tree.Trees.and v tree.Trees.none)
         quit v there is q room =
             let most_is = call_most c.scope x (tree.Trees.and v tree.Trees.none) at (Some (n.intrinsic gate.Quit)) is in
             let fits : most c.scope.names v + 8 ≤ need = omega (arith, room, most_is) in
             let word = subst (λ (j : ℕ). Simulates z d as_value j (k + 0) need (code c.scope v as_value (k + 0)) (λ s. value h call v (k + 0) s))
-            (covered_width c.scope z.setting v (k + 0) there) (covered_gives c.scope results z call d v (k + 0) need there fits) in
+            (covered_width may c.scope z.setting v (k + 0) there) (covered_gives may c.scope results z call d v (k + 0) need links there fits) in
             let here = subst (λ (j : ℕ). Simulates z d as_value 1 j need (code c.scope v as_value (k + 0)) (λ s. value h call v (k + 0) s)) (sym (none_more k)) word in
             same_performs z d k need (statement c (stat.Statement.call x (tree.Trees.and v tree.Trees.none) at) k)
             (called at gate.Quit x (code c.scope v as_value (k + 0) ⨟ pieces [] ⨟ nothing))
@@ -359,5 +362,5 @@ call_performs c results z call d number x es at k need e enough may = by r.intri
             (λ u. value_dropped (then_go (then_go (value h call v (k + 0) u) (λ vs t. passed (Some kind.Integer) vs t)) (λ vs t. served gate.Quit vs t)))
             (λ u. call_meaning h call x (tree.Trees.and v tree.Trees.none) at k gate.Quit is u
             ∙ ap (λ (o : Outcome (List ℕ)). value_dropped o) (passed_alone (value h call v (k + 0) u) (λ vs t. served gate.Quit vs t))))
-            (quit_performs z d k need number at x (code c.scope v as_value (k + 0)) (λ u. value h call v (k + 0) u) may.gates q.named q.whole
-            (covered_whole c.scope z.setting v (k + 0) there) here)
+            (quit_performs z d k need number at x (code c.scope v as_value (k + 0)) (λ u. value h call v (k + 0) u) links.gates q.named q.whole
+            (covered_whole may c.scope z.setting v (k + 0) there) here)

@@ -1,3 +1,4 @@
 -- In reading order.
 pub mod CallLemmas
+pub mod ProcedureLemmas
 pub mod AnswerLemmas

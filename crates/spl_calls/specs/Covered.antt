@@ -1,5 +1,5 @@
--- Which calls of intrinsics are covered, by themselves and as what is assigned.
-use Rattle.std.specs.Prelude.{ℕ, ◌+◌, ◌==◌, ◌&&◌, not, Bool, true, false, List, Option, Some, None}
+-- Which calls by themselves are covered, and which calls of intrinsics as what is assigned.
+use Rattle.std.specs.Prelude.{ℕ, ◌+◌, ◌==◌, ◌&&◌, ◌||◌, not, Bool, false, List, Option, Some, None}
 use Rattle.hp_word.specs.declared.intrinsics.Intrinsic.{Intrinsic}
 use Rattle.hp_word.specs.declared.intrinsics.Intrinsic.TheVariants as gate
 use Rattle.hp_word.specs.Intrinsics.{answer_words}
@@ -14,8 +14,8 @@ use Rattle.spl_meaning.specs.Places.{Place}
 use Rattle.spl_meaning.specs.References.{Setting}
 use Rattle.spl_code.specs.Calls.{Scope}
 use Rattle.spl_values.specs.Reached.{is_word_kind}
-use Rattle.spl_covered.specs.Covered.{has_reached}
-use Rattle.spl_arguments.specs.Covered.{are_covered_arguments}
+use Rattle.spl_names.specs.Names.{has_reached}
+use Rattle.spl_covered.specs.Covered.{are_covered_arguments}
 
 -- the entry of the gate at which an intrinsic is served
 abbrev pub entry_of : Intrinsic → ℕ
@@ -34,20 +34,29 @@ is_that i (Some j) = entry_of i == entry_of j
 is_that i None = false
 
 -- a call of an intrinsic, in no split mode, whose arguments are covered
-abbrev pub is_covered_question : Scope → Setting → List ℕ → Intrinsic → Trees → ℕ → Bool
-is_covered_question c st x i es k =
+abbrev pub is_covered_question : (List ℕ → Bool) → Scope → Setting → List ℕ → Intrinsic → Trees → ℕ → Bool
+is_covered_question may c st x i es k =
     not st.split && (is_that i (intrinsic_named x)
-    && are_covered_arguments c st (intrinsic_profile i).formals es (k + result_words (intrinsic_profile i)))
+    && are_covered_arguments may c st (intrinsic_profile i).formals es (k + result_words (intrinsic_profile i)))
 
--- a call by itself
-abbrev pub is_covered_call : Scope → Setting → List ℕ → Option Sort → Trees → ℕ → Bool
-is_covered_call c st x (Some (n.intrinsic i)) es k = is_covered_question c st x i es k
-is_covered_call c st x sort es k = false
+-- a call of an intrinsic by itself
+abbrev pub is_asked_call : (List ℕ → Bool) → Scope → Setting → List ℕ → Option Sort → Trees → ℕ → Bool
+is_asked_call may c st x (Some (n.intrinsic i)) es k = is_covered_question may c st x i es k
+is_asked_call may c st x sort es k = false
+
+-- one of a procedure that may be called, with a result or without
+abbrev pub is_procedure_call : (List ℕ → Bool) → Scope → Setting → List ℕ → Option Sort → Trees → ℕ → Bool
+is_procedure_call may c st x (Some (n.procedure p)) es k = (may x && not st.split) && are_covered_arguments may c st p.formals es (k + result_words p)
+is_procedure_call may c st x sort es k = false
+
+-- either
+abbrev pub is_covered_call : (List ℕ → Bool) → Scope → Setting → List ℕ → Option Sort → Trees → ℕ → Bool
+is_covered_call may c st x sort es k = is_asked_call may c st x sort es k || is_procedure_call may c st x sort es k
 
 -- a call that answers one word
-abbrev pub is_covered_value : Scope → Setting → List ℕ → Option Sort → Trees → ℕ → Bool
-is_covered_value c st x (Some (n.intrinsic i)) es k = (answer_words i == 1) && is_covered_question c st x i es k
-is_covered_value c st x sort es k = false
+abbrev pub is_covered_value : (List ℕ → Bool) → Scope → Setting → List ℕ → Option Sort → Trees → ℕ → Bool
+is_covered_value may c st x (Some (n.intrinsic i)) es k = (answer_words i == 1) && is_covered_question may c st x i es k
+is_covered_value may c st x sort es k = false
 
 -- a variable of one word, which keeps the condition code of the call that it is assigned: a simple one or a parameter by value, where it is reached
 abbrev pub is_answered_name : Setting → ℕ → Option Sort → Option Place → Bool
@@ -56,7 +65,7 @@ is_answered_name st k (Some (n.value t)) place = is_word_kind t && has_reached s
 is_answered_name st k sort place = false
 
 -- an assignment of such a call to such a variable
-abbrev pub is_covered_answer : Scope → Setting → Target → Tree → ℕ → Bool
-is_covered_answer c st (stat.Target.plain (tree.Tree.named y tree.Trees.none there)) (tree.Tree.named x es at) k =
-    is_answered_name st k (c.names y) (c.places y) && is_covered_value c st x (c.names x) es k
-is_covered_answer c st to e k = false
+abbrev pub is_covered_answer : (List ℕ → Bool) → Scope → Setting → Target → Tree → ℕ → Bool
+is_covered_answer may c st (stat.Target.plain (tree.Tree.named y tree.Trees.none there)) (tree.Tree.named x es at) k =
+    is_answered_name st k (c.names y) (c.places y) && is_covered_value may c st x (c.names x) es k
+is_covered_answer may c st to e k = false

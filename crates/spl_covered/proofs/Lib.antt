@@ -1,7 +1,5 @@
 -- In reading order.
-pub mod LedLemmas
-pub mod NameLemmas
-pub mod AddressLemmas
-pub mod OperatorLemmas
-pub mod UnaryLemmas
+pub mod BinaryLemmas
+pub mod ArgumentLemmas
+pub mod CallLemmas
 pub mod CoverLemmas

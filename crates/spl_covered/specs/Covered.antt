@@ -1,84 +1,116 @@
 -- Which expressions are proved: those whose every part has a law. A further construct makes it larger.
-use Rattle.std.specs.Prelude.{is_some, ℕ, ◌+◌, nat_lt, nat_le, ◌==◌, ◌&&◌, ◌||◌, not, Bool, true, false, if◌then◌else◌, Option, Some, None}
+use Rattle.std.specs.Prelude.{is_some, ℕ, ◌+◌, nat_lt, nat_le, ◌==◌, ◌&&◌, ◌||◌, not, Bool, true, false, if◌then◌else◌, List, [], ◌∷◌, Option, Some, None}
+use Rattle.spl_tree.specs.declared.expressions.Kind.{Kind}
+use Rattle.spl_tree.specs.declared.expressions.Kind.TheVariants as kind
 use Rattle.spl_tree.specs.Trees as tree
 use Rattle.spl_tree.specs.Trees.{Tree, Trees}
 use Rattle.spl_meaning.specs.Names as n
-use Rattle.spl_meaning.specs.Names.{Names, Sort, text_value}
-use Rattle.spl_meaning.specs.Kinds.{positive, negative, complement, times, is_connective, is_relation, compares_text, kind_of, operand_width, class_of}
-use Rattle.spl_meaning.specs.Places.{Place}
-use Rattle.spl_meaning.specs.References.{Setting, Access, its_own, by_address, by_cell, access_of}
+use Rattle.spl_meaning.specs.Names.{Sort, Formal, text_value}
+use Rattle.spl_meaning.specs.Kinds.{positive, negative, is_connective, is_relation, compares_text, kind_of, operand_width, class_of, callable}
+use Rattle.spl_meaning.specs.Pending.{by_value, formal_words, profile_formals, profile_result_words}
+use Rattle.spl_meaning.specs.References.{Setting, access_of}
 use Rattle.spl_meaning.specs.Values.{small_constant}
 use Rattle.spl_code.specs.Calls.{Scope}
-use Rattle.spl_values.specs.Reached.{is_reached, is_sum, is_word_class}
-use Rattle.spl_operators.specs.Laws.{is_quotient, is_bitwise, is_single}
+use Rattle.spl_values.specs.Reached.{is_sum, is_word_class}
+use Rattle.spl_operators.specs.Laws.{is_word_operand, is_single}
+use Rattle.spl_word_operators.specs.Operators.{is_covered_operator, is_covered_sign}
+use Rattle.spl_names.specs.Names.{is_led_element, is_covered_name, is_addressed, is_addressed_element, is_wide_name, is_wide_element, is_wide_led}
 
--- a place that there is, and that is reached
-abbrev pub has_reached : Setting → ℕ → Option Place → Bool
-has_reached st k (Some place) = is_reached st k place
-has_reached st k None = false
+-- a result of one word, and one of two
+abbrev pub is_word_result : Option Kind → Bool
+is_word_result (Some t) = is_single t
+is_word_result None = false
 
--- The word of a name that is reached leads to values of a kind of one word: in a split procedure, whose mode leads to the extra segment, that of
--- a pointer alone. The elements of arrays and of pointers may have an index, and a parameter by reference has none.
-abbrev pub is_led_element : Setting → ℕ → Access → Option Place → Bool
-is_led_element st k (by_cell is_pointer t) place = is_single t && ((is_pointer || not st.split) && has_reached st k place)
-is_led_element st k _ place = false
+abbrev pub is_double_result : Option Kind → Bool
+is_double_result (Some kind.Double) = true
+is_double_result o = false
 
-abbrev pub is_led : Setting → ℕ → Access → Option Place → Bool
-is_led st k (by_address t) place = is_single t && (not st.split && has_reached st k place)
-is_led st k (by_cell is_pointer t) place = is_led_element st k (by_cell is_pointer t) place
-is_led st k _ place = false
+-- what a name stands for that is called in no split mode: a procedure that may be called, with a result of one word or of two
+abbrev pub is_word_call : (List ℕ → Bool) → Setting → List ℕ → Option Sort → Bool
+is_word_call may st x (Some (n.procedure p)) = (may x && not st.split) && is_word_result p.result
+is_word_call may st x sort = false
 
--- a name without an index: a constant that has a value; a simple variable or a parameter by value of one word or BYTE, where it is reached; or
--- one whose word leads to a word
-abbrev pub is_covered_name : Setting → ℕ → Option Sort → Option Place → Bool
-is_covered_name st k (Some (n.equate (Some v))) place = true
-is_covered_name st k (Some (n.simple t own)) place = is_single t && has_reached st k place
-is_covered_name st k (Some (n.value t)) place = is_single t && has_reached st k place
-is_covered_name st k sort place = is_led st k (access_of sort) place
+abbrev pub is_double_call : (List ℕ → Bool) → Setting → List ℕ → Option Sort → Bool
+is_double_call may st x (Some (n.procedure p)) = (may x && not st.split) && is_double_result p.result
+is_double_call may st x sort = false
 
--- A name has an address, without an index, where its place is reached: its own, or the one that its word is; and so have elements at an index.
-abbrev pub is_addressed : Setting → ℕ → Access → Option Place → Bool
-is_addressed st k (its_own t) place = has_reached st k place
-is_addressed st k (by_address t) place = has_reached st k place
-is_addressed st k (by_cell is_pointer t) place = has_reached st k place
-is_addressed st k _ place = false
+-- An argument that is a value of one word, a DOUBLE value, or a reference, as these tests say: for a parameter by value of its width, or one by
+-- reference.
+abbrev pub is_passed : Bool → Option Kind → Bool → Bool → Bool → Bool
+is_passed true (Some kind.Double) word double reference = double
+is_passed true (Some t) word double reference = word
+is_passed true None word double reference = false
+is_passed false o word double reference = reference
 
-abbrev pub is_addressed_element : Setting → ℕ → Access → Option Place → Bool
-is_addressed_element st k (by_cell is_pointer t) place = has_reached st k place
-is_addressed_element st k _ place = false
+abbrev mutual
+  -- An expression of one word, in a body with this setting that may call these procedures, and while k words wait: numbers, truth values, strings
+  -- that are a word, names, elements at an index that is such, and calls; addresses of names, and of elements at such an index; NOT, signs, shifts
+  -- and fields within a word of such, transfers to kinds of one word of such and of DOUBLEs; AND and OR of such; the other operators of such of one
+  -- class, and relations of DOUBLEs, where they compare no bytes from a reference on.
+  pub is_covered : (List ℕ → Bool) → Scope → Setting → Tree → ℕ → Bool
+  is_covered may c st (tree.Tree.number v) k = true
+  is_covered may c st (tree.Tree.truth b) k = true
+  is_covered may c st (tree.Tree.text bytes) k = is_some (text_value bytes)
+  is_covered may c st (tree.Tree.named x es at) k =
+      is_covered_variable may c st x es k
+      || (is_word_call may st x (c.names x)
+      && are_covered_arguments may c st (profile_formals (callable (c.names x))) es (k + profile_result_words (callable (c.names x))))
+  is_covered may c st (tree.Tree.address x es at) k = is_covered_address may c st x es k
+  is_covered may c st (tree.Tree.unary op a at) k = is_covered_sign op && is_covered may c st a k
+  is_covered may c st (tree.Tree.shift op a by at) k = nat_lt op 6 && nat_lt (small_constant c.names by) 64 && is_covered may c st a k
+  is_covered may c st (tree.Tree.field a start size at) k =
+      (nat_le 1 (small_constant c.names size) && nat_le (small_constant c.names start + small_constant c.names size) 16) && is_covered may c st a k
+  is_covered may c st (tree.Tree.transfer to a at) k = is_single to && (is_covered may c st a k || is_wide may c st a k)
+  is_covered may c st (tree.Tree.binary op a b at) k =
+      if is_connective op then is_covered may c st a k && is_covered may c st b k
+      else ((is_covered_operator op && not (compares_text c.names op a b)) && is_word_class (class_of (kind_of c.names a) (kind_of c.names b))
+      && is_covered may c st a k && is_covered may c st b (k + operand_width (kind_of c.names a)))
+      || ((is_relation op && not (compares_text c.names op a b)) && (is_wide may c st a k && is_wide may c st b (k + operand_width (kind_of c.names a))))
+  is_covered may c st _ k = false
 
--- an operator of two operands by its number, none of AND and OR, and no relation: + - * / MOD, LOR, XOR and LAND
-abbrev pub is_plain : ℕ → Bool
-is_plain op = is_sum op || (op == times) || is_quotient op || is_bitwise op
+  -- A DOUBLE expression: constants, names, elements and calls, transfers of one word that is covered and of one such, + and - of one such, and of two,
+  -- of which the left one waits.
+  pub is_wide : (List ℕ → Bool) → Scope → Setting → Tree → ℕ → Bool
+  is_wide may c st (tree.Tree.wide v) k = true
+  is_wide may c st (tree.Tree.named x es at) k =
+      is_wide_variable may c st x es k
+      || (is_double_call may st x (c.names x)
+      && are_covered_arguments may c st (profile_formals (callable (c.names x))) es (k + profile_result_words (callable (c.names x))))
+  is_wide may c st (tree.Tree.transfer kind.Double a at) k = (is_word_operand (kind_of c.names a) && is_covered may c st a k) || is_wide may c st a k
+  is_wide may c st (tree.Tree.unary op a at) k = ((op == positive) || (op == negative)) && is_wide may c st a k
+  is_wide may c st (tree.Tree.binary op a b at) k =
+      is_sum op && (is_wide may c st a k && is_wide may c st b (k + operand_width (kind_of c.names a)))
+  is_wide may c st _ k = false
 
--- such an operator, or a relation
-abbrev pub is_covered_operator : ℕ → Bool
-is_covered_operator op = is_relation op || is_plain op
+  -- names by themselves, and elements at an index that is covered: of one word, of two, and their addresses
+  pub is_covered_variable : (List ℕ → Bool) → Scope → Setting → List ℕ → Trees → ℕ → Bool
+  is_covered_variable may c st x tree.Trees.none k = is_covered_name st k (c.names x) (c.places x)
+  is_covered_variable may c st x (tree.Trees.and e tree.Trees.none) k =
+      is_led_element st k (access_of (c.names x)) (c.places x) && is_covered may c st e k
+  is_covered_variable may c st x es k = false
 
--- one of one operand: NOT, + or -
-abbrev pub is_covered_sign : ℕ → Bool
-is_covered_sign op = (op == complement) || ((op == positive) || (op == negative))
+  pub is_wide_variable : (List ℕ → Bool) → Scope → Setting → List ℕ → Trees → ℕ → Bool
+  is_wide_variable may c st x tree.Trees.none k =
+      is_wide_name st k (c.names x) (c.places x) || is_wide_led st k (access_of (c.names x)) (c.places x)
+  is_wide_variable may c st x (tree.Trees.and e tree.Trees.none) k =
+      is_wide_element st k (access_of (c.names x)) (c.places x) && is_covered may c st e k
+  is_wide_variable may c st x es k = false
 
--- An expression, in a body with this setting and while k words wait: numbers, truth values, strings that are a word, such names, and elements at
--- an index that is such; addresses of names, and of elements at such an index; NOT, signs, shifts, fields within a word and transfers to kinds of
--- one word of such; AND and OR of such; and the other operators of such of one class, where they compare no bytes from a reference on.
-abbrev pub is_covered : Scope → Setting → Tree → ℕ → Bool
-is_covered c st (tree.Tree.number v) k = true
-is_covered c st (tree.Tree.truth b) k = true
-is_covered c st (tree.Tree.text bytes) k = is_some (text_value bytes)
-is_covered c st (tree.Tree.named x tree.Trees.none at) k = is_covered_name st k (c.names x) (c.places x)
-is_covered c st (tree.Tree.named x (tree.Trees.and e tree.Trees.none) at) k =
-    is_led_element st k (access_of (c.names x)) (c.places x) && is_covered c st e k
-is_covered c st (tree.Tree.address x tree.Trees.none at) k = is_addressed st k (access_of (c.names x)) (c.places x)
-is_covered c st (tree.Tree.address x (tree.Trees.and e tree.Trees.none) at) k =
-    is_addressed_element st k (access_of (c.names x)) (c.places x) && is_covered c st e k
-is_covered c st (tree.Tree.unary op a at) k = is_covered_sign op && is_covered c st a k
-is_covered c st (tree.Tree.shift op a by at) k = nat_lt op 6 && nat_lt (small_constant c.names by) 64 && is_covered c st a k
-is_covered c st (tree.Tree.field a start size at) k =
-    (nat_le 1 (small_constant c.names size) && nat_le (small_constant c.names start + small_constant c.names size) 16) && is_covered c st a k
-is_covered c st (tree.Tree.transfer to a at) k = is_single to && is_covered c st a k
-is_covered c st (tree.Tree.binary op a b at) k =
-    if is_connective op then is_covered c st a k && is_covered c st b k
-    else (is_covered_operator op && not (compares_text c.names op a b)) && is_word_class (class_of (kind_of c.names a) (kind_of c.names b)) && is_covered c st a k
-    && is_covered c st b (k + operand_width (kind_of c.names a))
-is_covered c st _ k = false
+  pub is_covered_address : (List ℕ → Bool) → Scope → Setting → List ℕ → Trees → ℕ → Bool
+  is_covered_address may c st x tree.Trees.none k = is_addressed st k (access_of (c.names x)) (c.places x)
+  is_covered_address may c st x (tree.Trees.and e tree.Trees.none) k =
+      is_addressed_element st k (access_of (c.names x)) (c.places x) && is_covered may c st e k
+  is_covered_address may c st x es k = false
+
+  -- a reference whose address is covered
+  pub is_covered_reference : (List ℕ → Bool) → Scope → Setting → Tree → ℕ → Bool
+  is_covered_reference may c st (tree.Tree.named x es at) k = is_covered_address may c st x es k
+  is_covered_reference may c st e k = false
+
+  -- arguments, one for each parameter; each waits for those behind it
+  pub are_covered_arguments : (List ℕ → Bool) → Scope → Setting → List Formal → Trees → ℕ → Bool
+  are_covered_arguments may c st [] tree.Trees.none k = true
+  are_covered_arguments may c st (f ∷ fs) (tree.Trees.and e es) k =
+      is_passed (by_value f) f.kind (is_covered may c st e k) (is_wide may c st e k) (is_covered_reference may c st e k)
+      && are_covered_arguments may c st fs es (k + formal_words f)
+  are_covered_arguments may c st fs es k = false

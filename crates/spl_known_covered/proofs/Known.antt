@@ -5,8 +5,8 @@ use Rattle.spl_known_covered.specs.Programs.{AllSo, covered_texts, other_texts}
 
 pub all_covered : AllSo true covered_texts
 unfolding all
-all_covered = (refl, (refl, (refl, (refl, (refl, (refl, (refl, (refl, (refl, (refl, (refl, (refl, (refl, (refl, (refl, (refl, (refl, (refl, (refl, (refl, (refl, tt)))))))))))))))))))))
+all_covered = (refl, (refl, (refl, (refl, (refl, (refl, (refl, (refl, (refl, (refl, (refl, (refl, (refl, (refl, (refl, (refl, (refl, (refl, (refl, (refl, (refl, (refl, (refl, (refl, tt))))))))))))))))))))))))
 
 pub none_covered : AllSo false other_texts
 unfolding all
-none_covered = (refl, (refl, (refl, (refl, (refl, tt)))))
+none_covered = (refl, (refl, (refl, tt)))

@@ -1,9 +1,10 @@
 -- A main body's list: it takes the jumps to its labels, and RETURN leads behind it.
-use Rattle.std.proofs.Common.{◌≡◌, ℕ, [], sym, subst, arith}
+use Rattle.std.proofs.Common.{◌≡◌, ℕ, false, [], sym, subst, arith}
 use Rattle.std.specs.Prelude.{min}
+use Rattle.std.proofs.lemmas.Bool.{false≢true}
 use Rattle.hp_session.specs.State.{Machine}
 use Rattle.spl_meaning.specs.Bodies.{program_of}
-use Rattle.spl_meaning.specs.References.{Here}
+use Rattle.spl_meaning.specs.References.{Here, Setting}
 use Rattle.spl_meaning.specs.Runs.{calls}
 use Rattle.spl_meaning.specs.States.{State, Exit, to_label, back}
 use Rattle.spl_meaning.specs.Statements.{run_body}
@@ -16,7 +17,8 @@ use Rattle.spl_follow.specs.Simulating.{Surroundings}
 use Rattle.spl_follow.proofs.FollowLemmas.{weaken}
 use Rattle.spl_follow.proofs.RowLemmas.{shown}
 use Rattle.spl_followed.specs.Mains.{main_setting}
-use Rattle.spl_covered.specs.Laws.{read_with}
+use Rattle.spl_links.specs.Links.{MayCall}
+use Rattle.spl_names.specs.Names.{read_with}
 use Rattle.spl_stores.proofs.CoverLemmas.{covered_list_performs}
 use Rattle.spl_mains.specs.Laws.{CoveredMainBodiesFollow}
 
@@ -30,11 +32,12 @@ left_returns x leave s m to (to_label y) t n a = shown main_setting t n (min (x.
 
 -- its list is performed, and takes the jumps to its labels
 pub bodies_follow : CoveredMainBodiesFollow
-bodies_follow us b c z first leave l ws setting to here room covered stands front pays calls' jumps landed d s m begins =
+bodies_follow may us b c z first leave l ws setting to here room covered stands front pays calls' jumps landed d s m begins =
     let y : Surroundings = record z { setting = main_setting } in
     let h = read_with c.scope b.here.results main_setting in
     let call : Callee = calls (program_of us).procedures d b in
-    let run = (covered_list_performs c b.here.results y call d b.number [] b.statements 0 b.depth' covered room (record { gates = calls'.gates })
+    let run = (covered_list_performs may false c b.here.results y call d b.number [] b.statements 0 b.depth' covered room
+    (subst (λ (st : Setting). MayCall may c.scope (record z { setting = st }) d call) setting (calls' d)) (λ e. absurd (false≢true e))
     (record { marks = jumps.marks; held = jumps.held; few = jumps.few }) landed).does l ws first leave s m stands front pays begins in
     subst (λ (i : Here). Follows z.ground z.rate 0 3 0 (tally s) m (Completes main_setting leave 0 s.now m) (Returning main_setting leave 0 s.now m) (run_body i call d b.number b.statements s))
     (sym here)

@@ -3,7 +3,6 @@ use Rattle.std.proofs.Common.{◌≡◌, ℕ, ◌+◌, ◌≤◌, Bool, true, fa
 use Rattle.std.specs.Prelude.{Option, Some, None, ◌&&◌, if◌then◌else◌, ◌||◌}
 use Rattle.std.proofs.lemmas.Bool.{false≢true}
 use Rattle.std.proofs.Math.Logic.{⊎_elim}
-use Rattle.hp_instr.specs.declared.instruction.Instr.TheVariants as i
 use Rattle.spl_branch.specs.declared.pieces.Piece.{Piece}
 use Rattle.spl_branch.specs.declared.pieces.Piece.TheVariants.{Begin}
 use Rattle.spl_tree.specs.declared.expressions.Kind.{Kind}
@@ -36,10 +35,11 @@ use Rattle.spl_follow.proofs.StandLemmas.{closed_last}
 use Rattle.spl_values.specs.Reached.{is_reached, IsWhole}
 use Rattle.spl_operators.specs.Laws.{is_single}
 use Rattle.spl_covered.specs.Covered.{is_covered}
-use Rattle.spl_covered.specs.Laws.{read_with}
+use Rattle.spl_links.specs.Links.{MayCall}
+use Rattle.spl_names.specs.Names.{read_with}
 use Rattle.spl_values.proofs.VariableLemmas.{both}
 use Rattle.spl_values.proofs.WholeLemmas.{then_same}
-use Rattle.spl_covered.proofs.OperatorLemmas.{either}
+use Rattle.spl_word_operators.proofs.OperatorLemmas.{either}
 use Rattle.spl_covered.proofs.CoverLemmas.{covered_width, covered_whole, covered_gives}
 use Rattle.spl_stores.specs.Covered.{is_stored_name, is_covered_store}
 use Rattle.spl_stores.proofs.StoreLemmas.{assignments}
@@ -122,13 +122,13 @@ assigned_whole at a ps whole closed = record {
 }
 
 -- its meaning
-assign_is : (c : Scope) (results : List ℕ → Option (Kind × Place)) (st : Setting) (call : Callee) (x : List ℕ) (there : At) (e : Tree) (k : ℕ)
-    (r : IsTarget st k (c.names x) (c.places x)) → is_covered c st e k ≡ true → (u : State)
+assign_is : (may : List ℕ → Bool) (c : Scope) (results : List ℕ → Option (Kind × Place)) (st : Setting) (call : Callee) (x : List ℕ) (there : At) (e : Tree) (k : ℕ)
+    (r : IsTarget st k (c.names x) (c.places x)) → is_covered may c st e k ≡ true → (u : State)
     → assign (read_with c results st) call (stat.Target.plain (tree.Tree.named x tree.Trees.none there)) e k u
     ≡ then_go (value (read_with c results st) call e k u) (λ vs v. store (variable_located r.type (address_of r.place v.now)) (kept r.type vs) v)
-assign_is c results st call x there e k r covered u =
+assign_is may c results st call x there e k r covered u =
     ap (λ (b : Bool). if b && target_keeps_code h.names to then assigned h call to (λ j s1. alone_value h call e j s1) k u else assigned h call to (λ j s1. value h call e j s1) k u)
-    (no_intrinsic c st e k covered)
+    (no_intrinsic may c st e k covered)
     ∙ then_same (value h call e k u) (λ vs v. then_go (locate_target h x None v) (λ p t. store p (kept p.kind vs) t))
     (λ vs v. store (variable_located r.type (address_of r.place v.now)) (kept r.type vs) v)
     (λ vs v. ap (λ (a : Access). then_go (locate_by h x a None v) (λ p t. store p (kept p.kind vs) t)) r.access
@@ -140,16 +140,16 @@ assign_is c results st call x there e k r covered u =
       to = stat.Target.plain (tree.Tree.named x tree.Trees.none there)
 
 -- and it is performed
-assign_performs : (c : Context) (results : List ℕ → Option (Kind × Place)) (z : Surroundings) (call : Callee) (d number : ℕ) (x : List ℕ) (there : At)
-    (e : Tree) (at : At) (k need : ℕ) → is_stored_name z.setting k (c.scope.names x) (c.scope.places x) ≡ true → is_covered c.scope z.setting e k ≡ true
+assign_performs : (may : List ℕ → Bool) (c : Context) (results : List ℕ → Option (Kind × Place)) (z : Surroundings) (call : Callee) (d number : ℕ) (x : List ℕ) (there : At)
+    (e : Tree) (at : At) (k need : ℕ) → MayCall may c.scope z d call → is_stored_name z.setting k (c.scope.names x) (c.scope.places x) ≡ true → is_covered may c.scope z.setting e k ≡ true
     → most c.scope.names e + 8 ≤ need
     → Performs z d k need (statement c (stat.Statement.assign (stat.Target.plain (tree.Tree.named x tree.Trees.none there)) e at) k)
     (λ s. run (read_with c.scope results z.setting) call d number (stat.Statement.assign (stat.Target.plain (tree.Tree.named x tree.Trees.none there)) e at) k s)
-assign_performs c results z call d number x there e at k need target covered enough =
+assign_performs may c results z call d number x there e at k need links target covered enough =
     let r = target_case z.setting k (c.scope.names x) (c.scope.places x) target in
     let h = read_with c.scope results z.setting in
-    let word = subst (λ (j : ℕ). Simulates z d as_value j k need (code c.scope e as_value k) (λ s. value h call e k s)) (covered_width c.scope z.setting e k covered)
-    (covered_gives c.scope results z call d e k need covered enough) in
+    let word = subst (λ (j : ℕ). Simulates z d as_value j k need (code c.scope e as_value k) (λ s. value h call e k s)) (covered_width may c.scope z.setting e k covered)
+    (covered_gives may c.scope results z call d e k need links covered enough) in
     same_performs z d k need (statement c (stat.Statement.assign (stat.Target.plain (tree.Tree.named x tree.Trees.none there)) e at) k)
     (piece (Begin at) ⨟ (nothing ⨟ code c.scope e as_value k ⨟ pieces (stored (its_own r.type) false k r.place)))
     (λ s. run h call d number (stat.Statement.assign (stat.Target.plain (tree.Tree.named x tree.Trees.none there)) e at) k s)
@@ -157,78 +157,78 @@ assign_performs c results z call d number x there e at k need target covered eno
     (assign_code c z.setting x there e at k r)
     (λ s. stopping_same number at s (λ u. assign h call (stat.Target.plain (tree.Tree.named x tree.Trees.none there)) e k u)
     (λ u. then_go (value h call e k u) (λ vs v. store (variable_located r.type (address_of r.place v.now)) (kept r.type vs) v))
-    (assign_is c.scope results z.setting call x there e k r covered))
+    (assign_is may c.scope results z.setting call x there e k r covered))
     (assignments z d k need number at r.type r.place (code c.scope e as_value k) (λ u. value h call e k u) r.word r.reached (omega (arith, enough))
-    (covered_whole c.scope z.setting e k covered) word)
+    (covered_whole may c.scope z.setting e k covered) word)
 
 -- ---- along the target
 
-pub store_whole : (c : Context) (st : Setting) (to : Target) (v : Tree) (at : At) (k : ℕ) → is_covered_store c.scope st to v k ≡ true
+pub store_whole : (may : List ℕ → Bool) (c : Context) (st : Setting) (to : Target) (v : Tree) (at : At) (k : ℕ) → is_covered_store may c.scope st to v k ≡ true
     → IsWhole (statement c (stat.Statement.assign to v at) k)
-store_whole c st (stat.Target.plain (tree.Tree.named x tree.Trees.none there)) v at k e =
+store_whole may c st (stat.Target.plain (tree.Tree.named x tree.Trees.none there)) v at k e =
     let to = stat.Target.plain (tree.Tree.named x tree.Trees.none there) in
     let names = is_stored_name st k (c.scope.names x) (c.scope.places x) in
-    let two = both (names || is_led_target c.scope st to k) (is_covered c.scope st v k) e in
+    let two = both (names || is_led_target may c.scope st to k) (is_covered may c.scope st v k) e in
     ⊎_elim
     (λ own. let r = target_case st k (c.scope.names x) (c.scope.places x) own in
     subst (λ (a : Part). IsWhole a) (sym (assign_code c st x there v at k r))
-    (assigned_whole at (code c.scope v as_value k) (stored (its_own r.type) false k r.place) (covered_whole c.scope st v k two.1)
+    (assigned_whole at (code c.scope v as_value k) (stored (its_own r.type) false k r.place) (covered_whole may c.scope st v k two.1)
     (stored_closed st r.type k r.place r.word r.reached)))
-    (λ led. led_targets_whole c st to v at k led two.1) (either names (is_led_target c.scope st to k) two.0)
-store_whole c st (stat.Target.plain (tree.Tree.named x (tree.Trees.and i tree.Trees.none) there)) v at k e =
+    (λ led. led_targets_whole may c st to v at k led two.1) (either names (is_led_target may c.scope st to k) two.0)
+store_whole may c st (stat.Target.plain (tree.Tree.named x (tree.Trees.and i tree.Trees.none) there)) v at k e =
     let to = stat.Target.plain (tree.Tree.named x (tree.Trees.and i tree.Trees.none) there) in
-    let two = both (is_led_target c.scope st to k) (is_covered c.scope st v (k + 1)) e in
-    led_targets_whole c st to v at k two.0 two.1
-store_whole c st (stat.Target.plain (tree.Tree.named x (tree.Trees.and i (tree.Trees.and j js)) there)) v at k e = absurd (false≢true e)
-store_whole c st (stat.Target.plain (tree.Tree.number w)) v at k e = absurd (false≢true e)
-store_whole c st (stat.Target.plain (tree.Tree.wide w)) v at k e = absurd (false≢true e)
-store_whole c st (stat.Target.plain (tree.Tree.text bytes)) v at k e = absurd (false≢true e)
-store_whole c st (stat.Target.plain (tree.Tree.truth b)) v at k e = absurd (false≢true e)
-store_whole c st (stat.Target.plain (tree.Tree.address x es there)) v at k e = absurd (false≢true e)
-store_whole c st (stat.Target.plain (tree.Tree.unary o a there)) v at k e = absurd (false≢true e)
-store_whole c st (stat.Target.plain (tree.Tree.binary o a b there)) v at k e = absurd (false≢true e)
-store_whole c st (stat.Target.plain (tree.Tree.shift o a by there)) v at k e = absurd (false≢true e)
-store_whole c st (stat.Target.plain (tree.Tree.field a start size there)) v at k e = absurd (false≢true e)
-store_whole c st (stat.Target.plain (tree.Tree.transfer t a there)) v at k e = absurd (false≢true e)
-store_whole c st (stat.Target.plain (tree.Tree.bytes o a b count there)) v at k e = absurd (false≢true e)
-store_whole c st (stat.Target.field r start size) v at k e =
+    let two = both (is_led_target may c.scope st to k) (is_covered may c.scope st v (k + 1)) e in
+    led_targets_whole may c st to v at k two.0 two.1
+store_whole may c st (stat.Target.plain (tree.Tree.named x (tree.Trees.and i (tree.Trees.and j js)) there)) v at k e = absurd (false≢true e)
+store_whole may c st (stat.Target.plain (tree.Tree.number w)) v at k e = absurd (false≢true e)
+store_whole may c st (stat.Target.plain (tree.Tree.wide w)) v at k e = absurd (false≢true e)
+store_whole may c st (stat.Target.plain (tree.Tree.text bytes)) v at k e = absurd (false≢true e)
+store_whole may c st (stat.Target.plain (tree.Tree.truth b)) v at k e = absurd (false≢true e)
+store_whole may c st (stat.Target.plain (tree.Tree.address x es there)) v at k e = absurd (false≢true e)
+store_whole may c st (stat.Target.plain (tree.Tree.unary o a there)) v at k e = absurd (false≢true e)
+store_whole may c st (stat.Target.plain (tree.Tree.binary o a b there)) v at k e = absurd (false≢true e)
+store_whole may c st (stat.Target.plain (tree.Tree.shift o a by there)) v at k e = absurd (false≢true e)
+store_whole may c st (stat.Target.plain (tree.Tree.field a start size there)) v at k e = absurd (false≢true e)
+store_whole may c st (stat.Target.plain (tree.Tree.transfer t a there)) v at k e = absurd (false≢true e)
+store_whole may c st (stat.Target.plain (tree.Tree.bytes o a b count there)) v at k e = absurd (false≢true e)
+store_whole may c st (stat.Target.field r start size) v at k e =
     let to = stat.Target.field r start size in
-    let two = both (is_led_target c.scope st to k) (is_covered c.scope st v (waiting to k)) e in
-    led_targets_whole c st to v at k two.0 two.1
-store_whole c st (stat.Target.address x there) v at k e =
-    let two = both (is_led_target c.scope st (stat.Target.address x there) k) (is_covered c.scope st v k) e in
-    led_targets_whole c st (stat.Target.address x there) v at k two.0 two.1
+    let two = both (is_led_target may c.scope st to k) (is_covered may c.scope st v (waiting to k)) e in
+    led_targets_whole may c st to v at k two.0 two.1
+store_whole may c st (stat.Target.address x there) v at k e =
+    let two = both (is_led_target may c.scope st (stat.Target.address x there) k) (is_covered may c.scope st v k) e in
+    led_targets_whole may c st (stat.Target.address x there) v at k two.0 two.1
 
-pub store_performs : (c : Context) (results : List ℕ → Option (Kind × Place)) (z : Surroundings) (call : Callee) (d number : ℕ) (to : Target) (v : Tree)
-    (at : At) (k need : ℕ) → is_covered_store c.scope z.setting to v k ≡ true → statement_most c.scope.names (stat.Statement.assign to v at) + 8 ≤ need
+pub store_performs : (may : List ℕ → Bool) (c : Context) (results : List ℕ → Option (Kind × Place)) (z : Surroundings) (call : Callee) (d number : ℕ) (to : Target) (v : Tree)
+    (at : At) (k need : ℕ) → MayCall may c.scope z d call → is_covered_store may c.scope z.setting to v k ≡ true → statement_most c.scope.names (stat.Statement.assign to v at) + 8 ≤ need
     → Performs z d k need (statement c (stat.Statement.assign to v at) k)
     (λ s. run (read_with c.scope results z.setting) call d number (stat.Statement.assign to v at) k s)
-store_performs c results z call d number (stat.Target.plain (tree.Tree.named x tree.Trees.none there)) v at k need e enough =
+store_performs may c results z call d number (stat.Target.plain (tree.Tree.named x tree.Trees.none there)) v at k need links e enough =
     let to = stat.Target.plain (tree.Tree.named x tree.Trees.none there) in
     let names = is_stored_name z.setting k (c.scope.names x) (c.scope.places x) in
-    let two = both (names || is_led_target c.scope z.setting to k) (is_covered c.scope z.setting v k) e in
-    ⊎_elim (λ own. assign_performs c results z call d number x there v at k need own two.1 (omega (arith, enough)))
-    (λ led. led_targets c results z call d number to v at k need led two.1 enough) (either names (is_led_target c.scope z.setting to k) two.0)
-store_performs c results z call d number (stat.Target.plain (tree.Tree.named x (tree.Trees.and i tree.Trees.none) there)) v at k need e enough =
+    let two = both (names || is_led_target may c.scope z.setting to k) (is_covered may c.scope z.setting v k) e in
+    ⊎_elim (λ own. assign_performs may c results z call d number x there v at k need links own two.1 (omega (arith, enough)))
+    (λ led. led_targets may c results z call d number to v at k need links led two.1 enough) (either names (is_led_target may c.scope z.setting to k) two.0)
+store_performs may c results z call d number (stat.Target.plain (tree.Tree.named x (tree.Trees.and i tree.Trees.none) there)) v at k need links e enough =
     let to = stat.Target.plain (tree.Tree.named x (tree.Trees.and i tree.Trees.none) there) in
-    let two = both (is_led_target c.scope z.setting to k) (is_covered c.scope z.setting v (k + 1)) e in
-    led_targets c results z call d number to v at k need two.0 two.1 enough
-store_performs c results z call d number (stat.Target.plain (tree.Tree.named x (tree.Trees.and i (tree.Trees.and j js)) there)) v at k need e enough = absurd (false≢true e)
-store_performs c results z call d number (stat.Target.plain (tree.Tree.number w)) v at k need e enough = absurd (false≢true e)
-store_performs c results z call d number (stat.Target.plain (tree.Tree.wide w)) v at k need e enough = absurd (false≢true e)
-store_performs c results z call d number (stat.Target.plain (tree.Tree.text bytes)) v at k need e enough = absurd (false≢true e)
-store_performs c results z call d number (stat.Target.plain (tree.Tree.truth b)) v at k need e enough = absurd (false≢true e)
-store_performs c results z call d number (stat.Target.plain (tree.Tree.address x es there)) v at k need e enough = absurd (false≢true e)
-store_performs c results z call d number (stat.Target.plain (tree.Tree.unary o a there)) v at k need e enough = absurd (false≢true e)
-store_performs c results z call d number (stat.Target.plain (tree.Tree.binary o a b there)) v at k need e enough = absurd (false≢true e)
-store_performs c results z call d number (stat.Target.plain (tree.Tree.shift o a by there)) v at k need e enough = absurd (false≢true e)
-store_performs c results z call d number (stat.Target.plain (tree.Tree.field a start size there)) v at k need e enough = absurd (false≢true e)
-store_performs c results z call d number (stat.Target.plain (tree.Tree.transfer t a there)) v at k need e enough = absurd (false≢true e)
-store_performs c results z call d number (stat.Target.plain (tree.Tree.bytes o a b count there)) v at k need e enough = absurd (false≢true e)
-store_performs c results z call d number (stat.Target.field r start size) v at k need e enough =
+    let two = both (is_led_target may c.scope z.setting to k) (is_covered may c.scope z.setting v (k + 1)) e in
+    led_targets may c results z call d number to v at k need links two.0 two.1 enough
+store_performs may c results z call d number (stat.Target.plain (tree.Tree.named x (tree.Trees.and i (tree.Trees.and j js)) there)) v at k need links e enough = absurd (false≢true e)
+store_performs may c results z call d number (stat.Target.plain (tree.Tree.number w)) v at k need links e enough = absurd (false≢true e)
+store_performs may c results z call d number (stat.Target.plain (tree.Tree.wide w)) v at k need links e enough = absurd (false≢true e)
+store_performs may c results z call d number (stat.Target.plain (tree.Tree.text bytes)) v at k need links e enough = absurd (false≢true e)
+store_performs may c results z call d number (stat.Target.plain (tree.Tree.truth b)) v at k need links e enough = absurd (false≢true e)
+store_performs may c results z call d number (stat.Target.plain (tree.Tree.address x es there)) v at k need links e enough = absurd (false≢true e)
+store_performs may c results z call d number (stat.Target.plain (tree.Tree.unary o a there)) v at k need links e enough = absurd (false≢true e)
+store_performs may c results z call d number (stat.Target.plain (tree.Tree.binary o a b there)) v at k need links e enough = absurd (false≢true e)
+store_performs may c results z call d number (stat.Target.plain (tree.Tree.shift o a by there)) v at k need links e enough = absurd (false≢true e)
+store_performs may c results z call d number (stat.Target.plain (tree.Tree.field a start size there)) v at k need links e enough = absurd (false≢true e)
+store_performs may c results z call d number (stat.Target.plain (tree.Tree.transfer t a there)) v at k need links e enough = absurd (false≢true e)
+store_performs may c results z call d number (stat.Target.plain (tree.Tree.bytes o a b count there)) v at k need links e enough = absurd (false≢true e)
+store_performs may c results z call d number (stat.Target.field r start size) v at k need links e enough =
     let to = stat.Target.field r start size in
-    let two = both (is_led_target c.scope z.setting to k) (is_covered c.scope z.setting v (waiting to k)) e in
-    led_targets c results z call d number to v at k need two.0 two.1 enough
-store_performs c results z call d number (stat.Target.address x there) v at k need e enough =
-    let two = both (is_led_target c.scope z.setting (stat.Target.address x there) k) (is_covered c.scope z.setting v k) e in
-    led_targets c results z call d number (stat.Target.address x there) v at k need two.0 two.1 enough
+    let two = both (is_led_target may c.scope z.setting to k) (is_covered may c.scope z.setting v (waiting to k)) e in
+    led_targets may c results z call d number to v at k need links two.0 two.1 enough
+store_performs may c results z call d number (stat.Target.address x there) v at k need links e enough =
+    let two = both (is_led_target may c.scope z.setting (stat.Target.address x there) k) (is_covered may c.scope z.setting v k) e in
+    led_targets may c results z call d number (stat.Target.address x there) v at k need links two.0 two.1 enough

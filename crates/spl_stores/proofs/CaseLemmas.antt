@@ -1,5 +1,5 @@
 -- CASE in a tree, over the code of its arms.
-use Rattle.std.proofs.Common.{◌≡◌, ℕ, zero, suc, ◌+◌, ◌-◌, ◌≤◌, true, List, refl, sym, subst}
+use Rattle.std.proofs.Common.{◌≡◌, ℕ, Bool, zero, suc, ◌+◌, ◌-◌, ◌≤◌, true, List, refl, sym, subst}
 use Rattle.std.specs.Prelude.{Option}
 use Rattle.spl_tree.specs.declared.expressions.Kind.{Kind}
 use Rattle.spl_tree.specs.declared.names_and_places.At.{At}
@@ -25,17 +25,18 @@ use Rattle.spl_follow.specs.Spots.{pos}
 use Rattle.spl_control.specs.Laws.{Settles}
 use Rattle.spl_values.specs.Reached.{IsWhole}
 use Rattle.spl_covered.specs.Covered.{is_covered}
-use Rattle.spl_covered.specs.Laws.{read_with}
+use Rattle.spl_links.specs.Links.{MayCall}
+use Rattle.spl_names.specs.Names.{read_with}
 use Rattle.spl_covered.proofs.CoverLemmas.{covered_width, covered_whole, covered_gives}
 use Rattle.spl_choices.specs.Laws.{Chooses, chosen_before}
 use Rattle.spl_choices.proofs.PartLemmas.{begun_whole}
 use Rattle.spl_choices.proofs.CaseLemmas.{arm_before, cases, case_whole}
 
-pub cased_whole : (c : Context) (st : Setting) (v : Tree) (ss : Statements) (at : At) (k : ℕ) → is_covered c.scope st v k ≡ true
+pub cased_whole : (may : List ℕ → Bool) (c : Context) (st : Setting) (v : Tree) (ss : Statements) (at : At) (k : ℕ) → is_covered may c.scope st v k ≡ true
     → ((end l : ℕ) (ws : List Wanted) → IsFront ws (arms c ss k end l ws).wants) → IsWhole (statement c (stat.Statement.case_of v ss at) k)
-cased_whole c st v ss at k covered keeps =
+cased_whole may c st v ss at k covered keeps =
     begun_whole at (chosen_among (code c.scope v as_value k) (λ end. arms c ss k end))
-    (case_whole (code c.scope v as_value k) (λ end. arms c ss k end) (covered_whole c.scope st v k covered) keeps)
+    (case_whole (code c.scope v as_value k) (λ end. arms c ss k end) (covered_whole may c.scope st v k covered) keeps)
 
 -- arms that mean the same choose the same
 same_chooses : (z : Surroundings) (d k need : ℕ) (arms' : ℕ → Part) (f g : ℕ → State → Outcome (Unit {0})) → ((v : ℕ) (s : State) → f v s ≡ g v s)
@@ -67,16 +68,16 @@ first_arm c results z call d number s ss k need enough whole x others =
       by (suc v) t = refl
 
 -- a CASE over arms that take the jumps to their labels
-pub case_performs : (c : Context) (results : List ℕ → Option (Kind × Place)) (z : Surroundings) (call : Callee) (d number : ℕ) (v : Tree) (ss : Statements)
-    (at : At) (k need : ℕ) → is_covered c.scope z.setting v k ≡ true → most c.scope.names v + 8 ≤ need
+pub case_performs : (may : List ℕ → Bool) (c : Context) (results : List ℕ → Option (Kind × Place)) (z : Surroundings) (call : Callee) (d number : ℕ) (v : Tree) (ss : Statements)
+    (at : At) (k need : ℕ) → MayCall may c.scope z d call → is_covered may c.scope z.setting v k ≡ true → most c.scope.names v + 8 ≤ need
     → Chooses z d k need (λ end. arms c ss k end) (λ j t. landing d (bears_among ss)
     (λ y u. run_bearer (read_with c.scope results z.setting) call d (number + 1) ss y k u) (run_arm (read_with c.scope results z.setting) call d (number + 1) ss j k t))
     → Performs z d k need (statement c (stat.Statement.case_of v ss at) k)
     (λ t. run (read_with c.scope results z.setting) call d number (stat.Statement.case_of v ss at) k t)
-case_performs c results z call d number v ss at k need covered enough x =
+case_performs may c results z call d number v ss at k need links covered enough x =
     let h = read_with c.scope results z.setting in
     cases z d k need number at (code c.scope v as_value k) (λ s. value h call v k s) (λ end. arms c ss k end)
     (λ j s. landing d (bears_among ss) (λ y u. run_bearer h call d (number + 1) ss y k u) (run_arm h call d (number + 1) ss j k s))
-    (covered_whole c.scope z.setting v k covered)
-    (subst (λ (j : ℕ). Simulates z d as_value j k need (code c.scope v as_value k) (λ s. value h call v k s)) (covered_width c.scope z.setting v k covered)
-    (covered_gives c.scope results z call d v k need covered enough)) x
+    (covered_whole may c.scope z.setting v k covered)
+    (subst (λ (j : ℕ). Simulates z d as_value j k need (code c.scope v as_value k) (λ s. value h call v k s)) (covered_width may c.scope z.setting v k covered)
+    (covered_gives may c.scope results z call d v k need links covered enough)) x

@@ -1,5 +1,5 @@
 -- IF, WHILE and DO in a tree, over the code of what is inside them.
-use Rattle.std.proofs.Common.{◌≡◌, ℕ, ◌+◌, ◌≤◌, true, List, refl, sym, subst}
+use Rattle.std.proofs.Common.{◌≡◌, ℕ, Bool, ◌+◌, ◌≤◌, true, List, refl, sym, subst}
 use Rattle.std.specs.Prelude.{Option}
 use Rattle.spl_tree.specs.declared.expressions.Kind.{Kind}
 use Rattle.spl_tree.specs.declared.names_and_places.At.{At}
@@ -23,7 +23,8 @@ use Rattle.spl_follow.specs.Simulating.{Surroundings, Performs}
 use Rattle.spl_values.specs.Reached.{IsWhole}
 use Rattle.spl_values.proofs.WholeLemmas.{whole_pieces}
 use Rattle.spl_covered.specs.Covered.{is_covered}
-use Rattle.spl_covered.specs.Laws.{read_with}
+use Rattle.spl_links.specs.Links.{MayCall}
+use Rattle.spl_names.specs.Names.{read_with}
 use Rattle.spl_covered.proofs.CoverLemmas.{tests_whole, covered_tests}
 use Rattle.spl_choices.specs.Laws.{Decides}
 use Rattle.spl_choices.proofs.PartLemmas.{begun_whole, chosen_whole, chosen_or_whole, while_whole, until_whole}
@@ -32,38 +33,38 @@ use Rattle.spl_choices.proofs.CodeLemmas.{code_choices, code_eithers}
 use Rattle.spl_choices.proofs.LoopLemmas.{whiles, untils}
 
 -- the code of a covered condition decides
-decides : (c : Scope) (results : List ℕ → Option (Kind × Place)) (z : Surroundings) (call : Callee) (d : ℕ) (v : Tree) (k need : ℕ)
-    → is_covered c z.setting v k ≡ true → most c.names v + 8 ≤ need
+decides : (may : List ℕ → Bool) (c : Scope) (results : List ℕ → Option (Kind × Place)) (z : Surroundings) (call : Callee) (d : ℕ) (v : Tree) (k need : ℕ)
+    → MayCall may c z d call → is_covered may c z.setting v k ≡ true → most c.names v + 8 ≤ need
     → Decides z d k need (λ fail. code c v (as_test fail) k) (λ s. value (read_with c results z.setting) call v k s)
-decides c results z call d v k need covered enough = record {
-  whole = λ fail. tests_whole c z.setting v k fail covered;
-  decides = λ fail. covered_tests c results z call d v k need fail covered enough;
+decides may c results z call d v k need links covered enough = record {
+  whole = λ fail. tests_whole may c z.setting v k fail covered;
+  decides = λ fail. covered_tests may c results z call d v k need fail links covered enough;
 }
 
 -- ---- IF
 
-pub if_whole : (c : Context) (st : Setting) (v : Tree) (s : Statement) (at : At) (k : ℕ) → is_covered c.scope st v k ≡ true → IsWhole (statement c s k)
+pub if_whole : (may : List ℕ → Bool) (c : Context) (st : Setting) (v : Tree) (s : Statement) (at : At) (k : ℕ) → is_covered may c.scope st v k ≡ true → IsWhole (statement c s k)
     → IsWhole (statement c (stat.Statement.if_test (stat.Test.condition v) s stat.Statements.none at) k)
-if_whole c st v s at k covered x =
+if_whole may c st v s at k covered x =
     begun_whole at (chosen (λ fail. code c.scope v (as_test fail) k) (statement c s k))
-    (chosen_whole (λ fail. code c.scope v (as_test fail) k) (statement c s k) (λ fail. tests_whole c.scope st v k fail covered) x)
+    (chosen_whole (λ fail. code c.scope v (as_test fail) k) (statement c s k) (λ fail. tests_whole may c.scope st v k fail covered) x)
 
-pub if_performs : (c : Context) (results : List ℕ → Option (Kind × Place)) (z : Surroundings) (call : Callee) (d number : ℕ) (v : Tree) (s : Statement) (at : At)
-    (k need : ℕ) → is_covered c.scope z.setting v k ≡ true → most c.scope.names v + 8 ≤ need → IsWhole (statement c s k)
+pub if_performs : (may : List ℕ → Bool) (c : Context) (results : List ℕ → Option (Kind × Place)) (z : Surroundings) (call : Callee) (d number : ℕ) (v : Tree) (s : Statement) (at : At)
+    (k need : ℕ) → MayCall may c.scope z d call → is_covered may c.scope z.setting v k ≡ true → most c.scope.names v + 8 ≤ need → IsWhole (statement c s k)
     → Performs z d k need (statement c s k) (λ t. run (read_with c.scope results z.setting) call d (number + 1) s k t)
     → Performs z d k need (statement c (stat.Statement.if_test (stat.Test.condition v) s stat.Statements.none at) k)
     (λ t. run (read_with c.scope results z.setting) call d number (stat.Statement.if_test (stat.Test.condition v) s stat.Statements.none at) k t)
-if_performs c results z call d number v s at k need covered enough whole x =
+if_performs may c results z call d number v s at k need links covered enough whole x =
     let h = read_with c.scope results z.setting in
     choices z d k need number at (λ fail. code c.scope v (as_test fail) k) (statement c s k) (λ t. value h call v k t) (λ t. run h call d (number + 1) s k t)
-    (decides c.scope results z call d v k need covered enough) whole x
+    (decides may c.scope results z call d v k need links covered enough) whole x
 
-pub else_whole : (c : Context) (st : Setting) (v : Tree) (s other : Statement) (at : At) (k : ℕ) → is_covered c.scope st v k ≡ true → IsWhole (statement c s k)
+pub else_whole : (may : List ℕ → Bool) (c : Context) (st : Setting) (v : Tree) (s other : Statement) (at : At) (k : ℕ) → is_covered may c.scope st v k ≡ true → IsWhole (statement c s k)
     → IsWhole (statement c other k)
     → IsWhole (statement c (stat.Statement.if_test (stat.Test.condition v) s (stat.Statements.and other stat.Statements.none) at) k)
-else_whole c st v s other at k covered x y =
+else_whole may c st v s other at k covered x y =
     begun_whole at (chosen_or (λ fail. code c.scope v (as_test fail) k) (statement c s k) (statement c other k))
-    (chosen_or_whole (λ fail. code c.scope v (as_test fail) k) (statement c s k) (statement c other k) (λ fail. tests_whole c.scope st v k fail covered) x y)
+    (chosen_or_whole (λ fail. code c.scope v (as_test fail) k) (statement c s k) (statement c other k) (λ fail. tests_whole may c.scope st v k fail covered) x y)
 
 -- a list of one statement is that statement
 one_alone : (o : Outcome (Unit {0})) → then_go o (λ _ s. done tt s) ≡ o
@@ -80,17 +81,17 @@ alone_performs z d k need a meaning x = record {
       subst (λ (o : Outcome (Unit {0})). Runs z.ground z.rate z.setting z.exits q k s m o) (sym (one_alone (meaning s))) (x.does h ws p q s m stands front pays begins);
 }
 
-pub else_performs : (c : Context) (results : List ℕ → Option (Kind × Place)) (z : Surroundings) (call : Callee) (d number : ℕ) (v : Tree) (s other : Statement)
-    (at : At) (k need : ℕ) → is_covered c.scope z.setting v k ≡ true → most c.scope.names v + 8 ≤ need → IsWhole (statement c s k) → IsWhole (statement c other k)
+pub else_performs : (may : List ℕ → Bool) (c : Context) (results : List ℕ → Option (Kind × Place)) (z : Surroundings) (call : Callee) (d number : ℕ) (v : Tree) (s other : Statement)
+    (at : At) (k need : ℕ) → MayCall may c.scope z d call → is_covered may c.scope z.setting v k ≡ true → most c.scope.names v + 8 ≤ need → IsWhole (statement c s k) → IsWhole (statement c other k)
     → Performs z d k need (statement c s k) (λ t. run (read_with c.scope results z.setting) call d (number + 1) s k t)
     → Performs z d k need (statement c other k) (λ t. run (read_with c.scope results z.setting) call d (number + 1 + stops s) other k t)
     → Performs z d k need (statement c (stat.Statement.if_test (stat.Test.condition v) s (stat.Statements.and other stat.Statements.none) at) k)
     (λ t. run (read_with c.scope results z.setting) call d number (stat.Statement.if_test (stat.Test.condition v) s (stat.Statements.and other stat.Statements.none) at) k t)
-else_performs c results z call d number v s other at k need covered enough ws wo x y =
+else_performs may c results z call d number v s other at k need links covered enough ws wo x y =
     let h = read_with c.scope results z.setting in
     let second = λ (t : State). run h call d (number + 1 + stops s) other k t in
     eithers z d k need number at (λ fail. code c.scope v (as_test fail) k) (statement c s k) (statement c other k) (λ t. value h call v k t)
-    (λ t. run h call d (number + 1) s k t) (λ t. then_go (second t) (λ _ u. done tt u)) (decides c.scope results z call d v k need covered enough) ws wo x
+    (λ t. run h call d (number + 1) s k t) (λ t. then_go (second t) (λ _ u. done tt u)) (decides may c.scope results z call d v k need links covered enough) ws wo x
     (alone_performs z d k need (statement c other k) second y)
 
 -- ---- IF on the condition code
@@ -129,34 +130,34 @@ code_else_performs c h z call d number o s other at k need ws wo x y =
 
 -- ---- WHILE
 
-pub loop_whole : (c : Context) (st : Setting) (v : Tree) (s : Statement) (at : At) (k : ℕ) → is_covered c.scope st v k ≡ true → IsWhole (statement c s k)
+pub loop_whole : (may : List ℕ → Bool) (c : Context) (st : Setting) (v : Tree) (s : Statement) (at : At) (k : ℕ) → is_covered may c.scope st v k ≡ true → IsWhole (statement c s k)
     → IsWhole (statement c (stat.Statement.while_true v s at) k)
-loop_whole c st v s at k covered x =
-    while_whole (λ fail. code c.scope v (as_test fail) k) (statement c s k) (λ fail. tests_whole c.scope st v k fail covered) x
+loop_whole may c st v s at k covered x =
+    while_whole (λ fail. code c.scope v (as_test fail) k) (statement c s k) (λ fail. tests_whole may c.scope st v k fail covered) x
 
-pub while_performs : (c : Context) (results : List ℕ → Option (Kind × Place)) (z : Surroundings) (call : Callee) (d number : ℕ) (v : Tree) (s : Statement) (at : At)
-    (k need : ℕ) → is_covered c.scope z.setting v k ≡ true → most c.scope.names v + 8 ≤ need → IsWhole (statement c s k)
+pub while_performs : (may : List ℕ → Bool) (c : Context) (results : List ℕ → Option (Kind × Place)) (z : Surroundings) (call : Callee) (d number : ℕ) (v : Tree) (s : Statement) (at : At)
+    (k need : ℕ) → MayCall may c.scope z d call → is_covered may c.scope z.setting v k ≡ true → most c.scope.names v + 8 ≤ need → IsWhole (statement c s k)
     → Performs z d k need (statement c s k) (λ t. run (read_with c.scope results z.setting) call d number s k t)
     → Performs z d k need (statement c (stat.Statement.while_true v s at) k)
     (λ t. run (read_with c.scope results z.setting) call d number (stat.Statement.while_true v s at) k t)
-while_performs c results z call d number v s at k need covered enough whole x =
+while_performs may c results z call d number v s at k need links covered enough whole x =
     let h = read_with c.scope results z.setting in
     whiles z d k need (λ fail. code c.scope v (as_test fail) k) (statement c s k) (λ t. value h call v k t) (λ t. run h call d number s k t)
-    (decides c.scope results z call d v k need covered enough) whole x
+    (decides may c.scope results z call d v k need links covered enough) whole x
 
 -- ---- DO
 
-pub repeat_whole : (c : Context) (st : Setting) (s : Statement) (v : Tree) (at : At) (k : ℕ) → is_covered c.scope st v k ≡ true → IsWhole (statement c s k)
+pub repeat_whole : (may : List ℕ → Bool) (c : Context) (st : Setting) (s : Statement) (v : Tree) (at : At) (k : ℕ) → is_covered may c.scope st v k ≡ true → IsWhole (statement c s k)
     → IsWhole (statement c (stat.Statement.until_true s v at) k)
-repeat_whole c st s v at k covered x =
-    until_whole (λ fail. code c.scope v (as_test fail) k) (statement c s k) (λ fail. tests_whole c.scope st v k fail covered) x
+repeat_whole may c st s v at k covered x =
+    until_whole (λ fail. code c.scope v (as_test fail) k) (statement c s k) (λ fail. tests_whole may c.scope st v k fail covered) x
 
-pub until_performs : (c : Context) (results : List ℕ → Option (Kind × Place)) (z : Surroundings) (call : Callee) (d number : ℕ) (s : Statement) (v : Tree) (at : At)
-    (k need : ℕ) → is_covered c.scope z.setting v k ≡ true → most c.scope.names v + 8 ≤ need → IsWhole (statement c s k)
+pub until_performs : (may : List ℕ → Bool) (c : Context) (results : List ℕ → Option (Kind × Place)) (z : Surroundings) (call : Callee) (d number : ℕ) (s : Statement) (v : Tree) (at : At)
+    (k need : ℕ) → MayCall may c.scope z d call → is_covered may c.scope z.setting v k ≡ true → most c.scope.names v + 8 ≤ need → IsWhole (statement c s k)
     → Performs z d k need (statement c s k) (λ t. run (read_with c.scope results z.setting) call d number s k t)
     → Performs z d k need (statement c (stat.Statement.until_true s v at) k)
     (λ t. run (read_with c.scope results z.setting) call d number (stat.Statement.until_true s v at) k t)
-until_performs c results z call d number s v at k need covered enough whole x =
+until_performs may c results z call d number s v at k need links covered enough whole x =
     let h = read_with c.scope results z.setting in
     untils z d k need (λ fail. code c.scope v (as_test fail) k) (statement c s k) (λ t. value h call v k t) (λ t. run h call d number s k t)
-    (decides c.scope results z call d v k need covered enough) whole x
+    (decides may c.scope results z call d v k need links covered enough) whole x

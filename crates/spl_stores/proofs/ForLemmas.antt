@@ -35,7 +35,8 @@ use Rattle.spl_values.proofs.ConstantLemmas.{constants_give}
 use Rattle.spl_values.proofs.VariableLemmas.{both}
 use Rattle.spl_values.proofs.WholeLemmas.{whole_pieces, then_same}
 use Rattle.spl_covered.specs.Covered.{is_covered}
-use Rattle.spl_covered.specs.Laws.{read_with}
+use Rattle.spl_links.specs.Links.{MayCall}
+use Rattle.spl_names.specs.Names.{read_with}
 use Rattle.spl_covered.proofs.CoverLemmas.{covered_whole}
 use Rattle.spl_targets.proofs.ElementLemmas.{not_from_top}
 use Rattle.spl_targets.proofs.TargetLemmas.{word_given}
@@ -47,22 +48,22 @@ use Rattle.spl_stores.specs.Covered.{is_counted_name, is_covered_step, is_covere
 -- ---- the parts
 
 -- a FOR that is covered, by its parts
-pub record ForParts (c : Scope) (st : Setting) (x : List ℕ) (a : Tree) (b : Trees) (v : Tree) (s : Statement) (k : ℕ) : Type 0 where
+pub record ForParts (may : List ℕ → Bool) (returns : Bool) (c : Scope) (st : Setting) (x : List ℕ) (a : Tree) (b : Trees) (v : Tree) (s : Statement) (k : ℕ) : Type 0 where
   pub counted : is_counted_name st k (c.names x) (c.places x) ≡ true
-  pub first : is_covered c st a k ≡ true
-  pub step : is_covered_step c st b (k + 1) ≡ true
-  pub last : is_covered c st v (k + 2) ≡ true
-  pub inside : is_covered_statement c st s (k + 3) ≡ true
+  pub first : is_covered may c st a k ≡ true
+  pub step : is_covered_step may c st b (k + 1) ≡ true
+  pub last : is_covered may c st v (k + 2) ≡ true
+  pub inside : is_covered_statement may returns c st s (k + 3) ≡ true
 
-pub for_parts : (c : Scope) (st : Setting) (x : List ℕ) (first : Tree) (step : Trees) (last : Tree) (s : Statement) (k : ℕ)
-    → (is_counted_name st k (c.names x) (c.places x) && is_covered c st first k && is_covered_step c st step (k + 1) && is_covered c st last (k + 2)
-    && is_covered_statement c st s (k + 3)) ≡ true → ForParts c st x first step last s k
-for_parts c st x first step last s k e =
-    let a = both (is_counted_name st k (c.names x) (c.places x) && is_covered c st first k && is_covered_step c st step (k + 1) && is_covered c st last (k + 2))
-    (is_covered_statement c st s (k + 3)) e in
-    let b = both (is_counted_name st k (c.names x) (c.places x) && is_covered c st first k && is_covered_step c st step (k + 1)) (is_covered c st last (k + 2)) a.0 in
-    let d = both (is_counted_name st k (c.names x) (c.places x) && is_covered c st first k) (is_covered_step c st step (k + 1)) b.0 in
-    let f = both (is_counted_name st k (c.names x) (c.places x)) (is_covered c st first k) d.0 in
+pub for_parts : (may : List ℕ → Bool) (returns : Bool) (c : Scope) (st : Setting) (x : List ℕ) (first : Tree) (step : Trees) (last : Tree) (s : Statement) (k : ℕ)
+    → (is_counted_name st k (c.names x) (c.places x) && is_covered may c st first k && is_covered_step may c st step (k + 1) && is_covered may c st last (k + 2)
+    && is_covered_statement may returns c st s (k + 3)) ≡ true → ForParts may returns c st x first step last s k
+for_parts may returns c st x first step last s k e =
+    let a = both (is_counted_name st k (c.names x) (c.places x) && is_covered may c st first k && is_covered_step may c st step (k + 1) && is_covered may c st last (k + 2))
+    (is_covered_statement may returns c st s (k + 3)) e in
+    let b = both (is_counted_name st k (c.names x) (c.places x) && is_covered may c st first k && is_covered_step may c st step (k + 1)) (is_covered may c st last (k + 2)) a.0 in
+    let d = both (is_counted_name st k (c.names x) (c.places x) && is_covered may c st first k) (is_covered_step may c st step (k + 1)) b.0 in
+    let f = both (is_counted_name st k (c.names x) (c.places x)) (is_covered may c st first k) d.0 in
     record { counted = f.0; first = f.1; step = d.1; last = b.1; inside = a.1 }
 
 -- ---- the variable
@@ -109,15 +110,15 @@ counter_code c st x k r =
 -- ---- the step
 
 -- 1 where there is none
-step_whole : (c : Scope) (st : Setting) (step : Trees) (k : ℕ) → is_covered_step c st step k ≡ true → IsWhole (step_value c step k)
-step_whole c st tree.Trees.none k e = whole_pieces (LDI 1 ∷ []) refl
-step_whole c st (tree.Trees.and v vs) k e = covered_whole c st v k e
+step_whole : (may : List ℕ → Bool) (c : Scope) (st : Setting) (step : Trees) (k : ℕ) → is_covered_step may c st step k ≡ true → IsWhole (step_value c step k)
+step_whole may c st tree.Trees.none k e = whole_pieces (LDI 1 ∷ []) refl
+step_whole may c st (tree.Trees.and v vs) k e = covered_whole may c st v k e
 
-step_gives : (c : Scope) (results : List ℕ → Option (Kind × Place)) (z : Surroundings) (call : Callee) (d : ℕ) (step : Trees) (k need : ℕ)
-    → is_covered_step c z.setting step k ≡ true → trees_most c.names step + 8 ≤ need
+step_gives : (may : List ℕ → Bool) (c : Scope) (results : List ℕ → Option (Kind × Place)) (z : Surroundings) (call : Callee) (d : ℕ) (step : Trees) (k need : ℕ)
+    → MayCall may c z d call → is_covered_step may c z.setting step k ≡ true → trees_most c.names step + 8 ≤ need
     → Simulates z d as_value 1 k need (step_value c step k) (λ s. loop_step (read_with c results z.setting) call step k s)
-step_gives c results z call d tree.Trees.none k need covered enough = constants_give z d k need 1 (omega arith) (omega (arith, enough))
-step_gives c results z call d (tree.Trees.and v vs) k need covered enough = word_given c results z call d v k need covered (omega (arith, enough))
+step_gives may c results z call d tree.Trees.none k need links covered enough = constants_give z d k need 1 (omega arith) (omega (arith, enough))
+step_gives may c results z call d (tree.Trees.and v vs) k need links covered enough = word_given may c results z call d v k need links covered (omega (arith, enough))
 
 -- ---- the whole
 
@@ -130,14 +131,14 @@ for_code c st x first step last s at k r =
     ap (λ (ps : List Piece). piece (Begin at) ⨟ (code c.scope first as_value k ⨟ pieces ps ⨟ step_value c.scope step (k + 1) ⨟ code c.scope last as_value (k + 2))
     ⨟ turns (statement c s (k + 3))) (counter_code c.scope st x k r)
 
-pub for_whole : (c : Context) (st : Setting) (x : List ℕ) (first : Tree) (step : Trees) (last : Tree) (s : Statement) (at : At) (k : ℕ)
-    → is_counted_name st k (c.scope.names x) (c.scope.places x) ≡ true → is_covered c.scope st first k ≡ true → is_covered_step c.scope st step (k + 1) ≡ true
-    → is_covered c.scope st last (k + 2) ≡ true → IsWhole (statement c s (k + 3)) → IsWhole (statement c (stat.Statement.for_values x first step last s at) k)
-for_whole c st x first step last s at k counter' first' step' last' whole =
+pub for_whole : (may : List ℕ → Bool) (c : Context) (st : Setting) (x : List ℕ) (first : Tree) (step : Trees) (last : Tree) (s : Statement) (at : At) (k : ℕ)
+    → is_counted_name st k (c.scope.names x) (c.scope.places x) ≡ true → is_covered may c.scope st first k ≡ true → is_covered_step may c.scope st step (k + 1) ≡ true
+    → is_covered may c.scope st last (k + 2) ≡ true → IsWhole (statement c s (k + 3)) → IsWhole (statement c (stat.Statement.for_values x first step last s at) k)
+for_whole may c st x first step last s at k counter' first' step' last' whole =
     let r = counter_case st k (c.scope.names x) (c.scope.places x) counter' in
     subst (λ (a : Part). IsWhole a) (sym (for_code c st x first step last s at k r))
     (count_whole k r.place (code c.scope first as_value k) (step_value c.scope step (k + 1)) (code c.scope last as_value (k + 2)) (statement c s (k + 3)) at
-    (covered_whole c.scope st first k first') (step_whole c.scope st step (k + 1) step') (covered_whole c.scope st last (k + 2) last') whole)
+    (covered_whole may c.scope st first k first') (step_whole may c.scope st step (k + 1) step') (covered_whole may c.scope st last (k + 2) last') whole)
 
 -- what is meant behind the variable's location
 abbrev located_loop : Here → Callee → ℕ → Trees → Tree → (State → Outcome (Unit {0})) → ℕ → List ℕ → Located → State → Outcome (Unit {0})
@@ -159,15 +160,15 @@ for_is c results st call d x first step last body k r u =
       h : Here
       h = read_with c results st
 
-pub for_performs : (c : Context) (results : List ℕ → Option (Kind × Place)) (z : Surroundings) (call : Callee) (d number : ℕ) (x : List ℕ) (first : Tree)
-    (step : Trees) (last : Tree) (s : Statement) (at : At) (k need : ℕ) → is_counted_name z.setting k (c.scope.names x) (c.scope.places x) ≡ true
-    → is_covered c.scope z.setting first k ≡ true → is_covered_step c.scope z.setting step (k + 1) ≡ true → is_covered c.scope z.setting last (k + 2) ≡ true
+pub for_performs : (may : List ℕ → Bool) (c : Context) (results : List ℕ → Option (Kind × Place)) (z : Surroundings) (call : Callee) (d number : ℕ) (x : List ℕ) (first : Tree)
+    (step : Trees) (last : Tree) (s : Statement) (at : At) (k need : ℕ) → MayCall may c.scope z d call → is_counted_name z.setting k (c.scope.names x) (c.scope.places x) ≡ true
+    → is_covered may c.scope z.setting first k ≡ true → is_covered_step may c.scope z.setting step (k + 1) ≡ true → is_covered may c.scope z.setting last (k + 2) ≡ true
     → most c.scope.names first + 8 ≤ need → trees_most c.scope.names step + 8 ≤ need - 1 → most c.scope.names last + 8 ≤ need - 2 → 8 ≤ need - 3
     → IsWhole (statement c s (k + 3))
     → Performs (leaving_at_most k z) d (k + 3) (need - 3) (statement c s (k + 3)) (λ t. run (read_with c.scope results z.setting) call d (number + 1) s (k + 3) t)
     → Performs z d k need (statement c (stat.Statement.for_values x first step last s at) k)
     (λ t. run (read_with c.scope results z.setting) call d number (stat.Statement.for_values x first step last s at) k t)
-for_performs c results z call d number x first step last s at k need counter' first' step' last' few1 few2 few3 few4 whole performs =
+for_performs may c results z call d number x first step last s at k need links counter' first' step' last' few1 few2 few3 few4 whole performs =
     let r = counter_case z.setting k (c.scope.names x) (c.scope.places x) counter' in
     let h = read_with c.scope results z.setting in
     let a = code c.scope first as_value k in
@@ -185,6 +186,6 @@ for_performs c results z call d number x first step last s at k need counter' fi
     (for_is c.scope results z.setting call d x first step last (λ w. code_dropped (body w)) k r))
     (counts z d k need (need - 1) (need - 2) (need - 3) number at r.place a b e (statement c s (k + 3)) (λ t. value h call first k t) (λ t. loop_step h call step (k + 1) t)
     (λ t. value h call last (k + 2) t) body r.reached (omega (arith, few4)) (omega (arith, few4)) (omega (arith, few4))
-    (covered_whole c.scope z.setting first k first') (step_whole c.scope z.setting step (k + 1) step') (covered_whole c.scope z.setting last (k + 2) last') whole
-    (word_given c.scope results z call d first k need first' few1) (step_gives c.scope results z call d step (k + 1) (need - 1) step' few2)
-    (word_given c.scope results z call d last (k + 2) (need - 2) last' few3) performs)
+    (covered_whole may c.scope z.setting first k first') (step_whole may c.scope z.setting step (k + 1) step') (covered_whole may c.scope z.setting last (k + 2) last') whole
+    (word_given may c.scope results z call d first k need links first' few1) (step_gives may c.scope results z call d step (k + 1) (need - 1) links step' few2)
+    (word_given may c.scope results z call d last (k + 2) (need - 2) links last' few3) performs)

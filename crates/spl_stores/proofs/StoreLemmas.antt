@@ -1,5 +1,5 @@
 -- Assignments: the value waits on top, and the store of its kind puts it in the variable.
-use Rattle.spl_covered.proofs.LedLemmas.{single_width}
+use Rattle.spl_names.proofs.LedLemmas.{single_width}
 use Rattle.spl_variables.proofs.OwnLemmas.{own_words_assigned}
 use Rattle.spl_stores.specs.Laws.{AssignmentsPerform}
 

@@ -3,8 +3,9 @@ use Rattle.std.proofs.Common.{◌≡◌, ℕ, ◌+◌, Bool, true, List, ◌++�
 use Rattle.std.specs.Prelude.{◌&&◌, min}
 use Rattle.spl_tree.specs.StatementTrees.{Statement, Statements}
 use Rattle.spl_meaning.specs.StatementRules.{list_labels}
-use Rattle.spl_meaning.specs.States.{to_label}
+use Rattle.spl_meaning.specs.States.{to_label, back}
 use Rattle.spl_meaning.specs.Statements.{bears_among}
+use Rattle.spl_meaning.specs.Values.{Callee}
 use Rattle.spl_statement_code.specs.Landings.{Context}
 use Rattle.spl_follow.specs.Simulating.{Surroundings}
 use Rattle.spl_values.proofs.VariableLemmas.{both}
@@ -12,59 +13,67 @@ use Rattle.spl_counts.specs.Laws.{leaving_at_most}
 use Rattle.spl_jumps.specs.Landed.{is_landing, is_landed, are_landed, MayJump}
 use Rattle.spl_jumps.specs.Laws.{listing}
 use Rattle.spl_jumps.proofs.LandedLemmas.{jumps_inside}
-use Rattle.spl_calls.specs.Laws.{MayCall}
+use Rattle.spl_links.specs.Links.{MayCall}
+use Rattle.spl_stores.specs.Laws.{MayReturn}
 
--- The calls find what they name, and the jumps do; and so it is tested of the labels and jumps inside, by the labels of the lists around.
-pub record Within (c : Context) (z : Surroundings) (k : ℕ) (lands : List (List ℕ) → Bool) : Type 0 where
+-- The calls find what they name, RETURN leads to the way out, and the jumps lead somewhere; and so it is tested of the labels and jumps inside, by the labels of the lists around.
+pub record Within (may : List ℕ → Bool) (returns : Bool) (c : Context) (z : Surroundings) (d : ℕ) (call : Callee) (k : ℕ) (lands : List (List ℕ) → Bool) : Type 0 where
   pub labels : List (List ℕ)
-  pub calls : MayCall z
+  pub calls : MayCall may c.scope z d call
+  pub leads : returns ≡ true → MayReturn c.leave z
   pub jumps : MayJump c.landings z labels k
   pub landed : lands labels ≡ true
 
 -- of a statement, and of a list
-abbrev pub Around : Context → Surroundings → ℕ → Statement → Type 0
-Around c z k s = Within c z k (λ labels. is_landed c.landings labels s k)
+abbrev pub Around : (List ℕ → Bool) → Bool → Context → Surroundings → ℕ → Callee → ℕ → Statement → Type 0
+Around may returns c z d call k s = Within may returns c z d call k (λ labels. is_landed c.landings labels s k)
 
-abbrev pub AroundAll : Context → Surroundings → ℕ → Statements → Type 0
-AroundAll c z k ss = Within c z k (λ labels. are_landed c.landings labels ss k)
+abbrev pub AroundAll : (List ℕ → Bool) → Bool → Context → Surroundings → ℕ → Callee → ℕ → Statements → Type 0
+AroundAll may returns c z d call k ss = Within may returns c z d call k (λ labels. are_landed c.landings labels ss k)
 
 -- what is tested of both is of each
-pub first_within : (c : Context) (z : Surroundings) (k : ℕ) (f g : List (List ℕ) → Bool) → Within c z k (λ labels. f labels && g labels) → Within c z k f
-first_within c z k f g x = record { labels = x.labels; calls = x.calls; jumps = x.jumps; landed = (both (f x.labels) (g x.labels) x.landed).0 }
+pub first_within : (may : List ℕ → Bool) (returns : Bool) (c : Context) (z : Surroundings) (d : ℕ) (call : Callee) (k : ℕ) (f g : List (List ℕ) → Bool) → Within may returns c z d call k (λ labels. f labels && g labels) → Within may returns c z d call k f
+first_within may returns c z d call k f g x = record { labels = x.labels; calls = x.calls; leads = x.leads; jumps = x.jumps; landed = (both (f x.labels) (g x.labels) x.landed).0 }
 
-pub second_within : (c : Context) (z : Surroundings) (k : ℕ) (f g : List (List ℕ) → Bool) → Within c z k (λ labels. f labels && g labels) → Within c z k g
-second_within c z k f g x = record { labels = x.labels; calls = x.calls; jumps = x.jumps; landed = (both (f x.labels) (g x.labels) x.landed).1 }
+pub second_within : (may : List ℕ → Bool) (returns : Bool) (c : Context) (z : Surroundings) (d : ℕ) (call : Callee) (k : ℕ) (f g : List (List ℕ) → Bool) → Within may returns c z d call k (λ labels. f labels && g labels) → Within may returns c z d call k g
+second_within may returns c z d call k f g x = record { labels = x.labels; calls = x.calls; leads = x.leads; jumps = x.jumps; landed = (both (f x.labels) (g x.labels) x.landed).1 }
 
 -- a statement before others
-pub one_around : (c : Context) (z : Surroundings) (k : ℕ) (s : Statement) (ss : Statements)
-    → Within c z k (λ labels. is_landed c.landings labels s k && are_landed c.landings labels ss k) → Around c z k s
-one_around c z k s ss x = first_within c z k (λ labels. is_landed c.landings labels s k) (λ labels. are_landed c.landings labels ss k) x
+pub one_around : (may : List ℕ → Bool) (returns : Bool) (c : Context) (z : Surroundings) (d : ℕ) (call : Callee) (k : ℕ) (s : Statement) (ss : Statements)
+    → Within may returns c z d call k (λ labels. is_landed c.landings labels s k && are_landed c.landings labels ss k) → Around may returns c z d call k s
+one_around may returns c z d call k s ss x = first_within may returns c z d call k (λ labels. is_landed c.landings labels s k) (λ labels. are_landed c.landings labels ss k) x
 
-pub others_around : (c : Context) (z : Surroundings) (k : ℕ) (s : Statement) (ss : Statements)
-    → Within c z k (λ labels. is_landed c.landings labels s k && are_landed c.landings labels ss k) → AroundAll c z k ss
-others_around c z k s ss x = second_within c z k (λ labels. is_landed c.landings labels s k) (λ labels. are_landed c.landings labels ss k) x
+pub others_around : (may : List ℕ → Bool) (returns : Bool) (c : Context) (z : Surroundings) (d : ℕ) (call : Callee) (k : ℕ) (s : Statement) (ss : Statements)
+    → Within may returns c z d call k (λ labels. is_landed c.landings labels s k && are_landed c.landings labels ss k) → AroundAll may returns c z d call k ss
+others_around may returns c z d call k s ss x = second_within may returns c z d call k (λ labels. is_landed c.landings labels s k) (λ labels. are_landed c.landings labels ss k) x
 
 -- one behind its label
-pub behind_label : (c : Context) (z : Surroundings) (k : ℕ) (y : List ℕ) (s : Statement)
-    → Within c z k (λ labels. is_landing (c.landings y) k && is_landed c.landings labels s k) → Around c z k s
-behind_label c z k y s x = second_within c z k (λ labels. is_landing (c.landings y) k) (λ labels. is_landed c.landings labels s k) x
+pub behind_label : (may : List ℕ → Bool) (returns : Bool) (c : Context) (z : Surroundings) (d : ℕ) (call : Callee) (k : ℕ) (y : List ℕ) (s : Statement)
+    → Within may returns c z d call k (λ labels. is_landing (c.landings y) k && is_landed c.landings labels s k) → Around may returns c z d call k s
+behind_label may returns c z d call k y s x = second_within may returns c z d call k (λ labels. is_landing (c.landings y) k) (λ labels. is_landed c.landings labels s k) x
 
 -- a list that takes the jumps to its labels
-pub list_around : (c : Context) (z : Surroundings) (k : ℕ) (ss : Statements) → Within c z k (λ labels. are_landed c.landings (labels ++ list_labels ss) ss k)
-    → AroundAll c (listing (bears_among ss) k z) k ss
-list_around c z k ss x = record {
+pub list_around : (may : List ℕ → Bool) (returns : Bool) (c : Context) (z : Surroundings) (d : ℕ) (call : Callee) (k : ℕ) (ss : Statements) → Within may returns c z d call k (λ labels. are_landed c.landings (labels ++ list_labels ss) ss k)
+    → AroundAll may returns c (listing (bears_among ss) k z) d call k ss
+list_around may returns c z d call k ss x = record {
   labels = x.labels ++ list_labels ss;
-  calls = record { gates = x.calls.gates };
+  calls = record { gates = x.calls.gates; procedures = x.calls.procedures };
+  leads = λ e. let r = x.leads e in record { leads = r.leads; held = r.held };
   jumps = jumps_inside c.landings z x.labels ss k x.jumps x.landed;
   landed = x.landed;
 }
 
 -- the body of a FOR, where three words more wait
-pub counted_around : (c : Context) (z : Surroundings) (k : ℕ) (s : Statement) → Within c z k (λ labels. is_landed c.landings labels s (k + 3))
-    → Around c (leaving_at_most k z) (k + 3) s
-counted_around c z k s x = record {
+pub counted_around : (may : List ℕ → Bool) (returns : Bool) (c : Context) (z : Surroundings) (d : ℕ) (call : Callee) (k : ℕ) (s : Statement) → Within may returns c z d call k (λ labels. is_landed c.landings labels s (k + 3))
+    → Around may returns c (leaving_at_most k z) d call (k + 3) s
+counted_around may returns c z d call k s x = record {
   labels = x.labels;
-  calls = record { gates = x.calls.gates };
+  calls = record { gates = x.calls.gates; procedures = x.calls.procedures };
+  leads = λ e.
+      let r = x.leads e in
+      let none = r.held in
+      let still : min (z.exits.held back) k ≡ 0 = omega (arith, none) in
+      record { leads = r.leads; held = still };
   jumps = record {
     marks = x.jumps.marks;
     held = λ y l named is.

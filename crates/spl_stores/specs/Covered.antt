@@ -1,5 +1,5 @@
 -- Which statements are proved: those whose every part has a law. A further construct makes it larger.
-use Rattle.std.specs.Prelude.{ℕ, ◌+◌, ◌&&◌, not, Bool, true, false, List, Option, Some, ◌||◌}
+use Rattle.std.specs.Prelude.{ℕ, ◌+◌, ◌&&◌, Bool, true, false, List, Option, Some, ◌||◌}
 use Rattle.spl_tree.specs.declared.expressions.Kind.TheVariants as kind
 use Rattle.spl_tree.specs.Trees as tree
 use Rattle.spl_tree.specs.Trees.{Tree, Trees}
@@ -12,7 +12,8 @@ use Rattle.spl_meaning.specs.Places.{Place}
 use Rattle.spl_meaning.specs.References.{Setting}
 use Rattle.spl_code.specs.Calls.{Scope}
 use Rattle.spl_operators.specs.Laws.{is_single}
-use Rattle.spl_covered.specs.Covered.{has_reached, is_covered}
+use Rattle.spl_names.specs.Names.{has_reached}
+use Rattle.spl_covered.specs.Covered.{is_covered}
 use Rattle.spl_targets.specs.Targets.{is_led_target}
 use Rattle.spl_calls.specs.Covered.{is_covered_call, is_covered_answer}
 use Rattle.spl_wide.specs.Wide.{is_wide_assignment}
@@ -24,14 +25,14 @@ is_stored_name st k (Some (n.value t)) place = is_single t && has_reached st k p
 is_stored_name st k _ place = false
 
 -- a target: such a name without an index, or what a name's word leads to
-abbrev pub is_covered_target : Scope → Setting → Target → ℕ → Bool
-is_covered_target c st (stat.Target.plain (tree.Tree.named x tree.Trees.none at)) k =
-    is_stored_name st k (c.names x) (c.places x) || is_led_target c st (stat.Target.plain (tree.Tree.named x tree.Trees.none at)) k
-is_covered_target c st to k = is_led_target c st to k
+abbrev pub is_covered_target : (List ℕ → Bool) → Scope → Setting → Target → ℕ → Bool
+is_covered_target may c st (stat.Target.plain (tree.Tree.named x tree.Trees.none at)) k =
+    is_stored_name st k (c.names x) (c.places x) || is_led_target may c st (stat.Target.plain (tree.Tree.named x tree.Trees.none at)) k
+is_covered_target may c st to k = is_led_target may c st to k
 
 -- a value that is covered, in a target that is
-abbrev pub is_covered_store : Scope → Setting → Target → Tree → ℕ → Bool
-is_covered_store c st to e k = is_covered_target c st to k && is_covered c st e (waiting to k)
+abbrev pub is_covered_store : (List ℕ → Bool) → Scope → Setting → Target → Tree → ℕ → Bool
+is_covered_store may c st to e k = is_covered_target may c st to k && is_covered may c st e (waiting to k)
 
 -- the variable of a FOR: an INTEGER one, simple or a parameter by value, where it is reached
 abbrev pub is_counted_name : Setting → ℕ → Option Sort → Option Place → Bool
@@ -40,39 +41,40 @@ is_counted_name st k (Some (n.value kind.Integer)) place = has_reached st k plac
 is_counted_name st k _ place = false
 
 -- its step, which may be left out
-abbrev pub is_covered_step : Scope → Setting → Trees → ℕ → Bool
-is_covered_step c st tree.Trees.none k = true
-is_covered_step c st (tree.Trees.and e es) k = is_covered c st e k
+abbrev pub is_covered_step : (List ℕ → Bool) → Scope → Setting → Trees → ℕ → Bool
+is_covered_step may c st tree.Trees.none k = true
+is_covered_step may c st (tree.Trees.and e es) k = is_covered may c st e k
 
 abbrev mutual
   -- A statement, in a body with this setting and while k words wait: the empty one, assignments of what is covered and of what an intrinsic
   -- answers, blocks of such, IF, WHILE and DO of such with a condition that is covered, IF on the condition code, CASE of such with a value
-  -- that is, calls of intrinsics, GO TO, such behind labels, and
+  -- that is, calls, GO TO, RETURN where it may stand, such behind labels, and
   -- FOR of such with values that are, each while as many words more wait as stand before it.
-  pub is_covered_statement : Scope → Setting → Statement → ℕ → Bool
-  is_covered_statement c st stat.Statement.empty k = true
-  is_covered_statement c st (stat.Statement.block ss) k = are_covered c st ss k
-  is_covered_statement c st (stat.Statement.assign to e at) k =
-      is_covered_store c st to e k || (is_wide_assignment c st to e k || is_covered_answer c st to e k)
-  is_covered_statement c st (stat.Statement.if_test (stat.Test.condition e) s stat.Statements.none at) k =
-      is_covered c st e k && is_covered_statement c st s k
-  is_covered_statement c st (stat.Statement.if_test (stat.Test.condition e) s (stat.Statements.and other stat.Statements.none) at) k =
-      is_covered c st e k && is_covered_statement c st s k && is_covered_statement c st other k
-  is_covered_statement c st (stat.Statement.if_test (stat.Test.code o) s stat.Statements.none at) k = is_covered_statement c st s k
-  is_covered_statement c st (stat.Statement.if_test (stat.Test.code o) s (stat.Statements.and other stat.Statements.none) at) k =
-      is_covered_statement c st s k && is_covered_statement c st other k
-  is_covered_statement c st (stat.Statement.while_true e s at) k = is_covered c st e k && is_covered_statement c st s k
-  is_covered_statement c st (stat.Statement.until_true s e at) k = is_covered c st e k && is_covered_statement c st s k
-  is_covered_statement c st (stat.Statement.for_values x first step last s at) k =
-      is_counted_name st k (c.names x) (c.places x) && is_covered c st first k && is_covered_step c st step (k + 1) && is_covered c st last (k + 2)
-      && is_covered_statement c st s (k + 3)
-  is_covered_statement c st (stat.Statement.case_of e ss at) k = is_covered c st e k && are_covered c st ss k
-  is_covered_statement c st (stat.Statement.call x es at) k = is_covered_call c st x (c.names x) es k
-  is_covered_statement c st (stat.Statement.labelled y at s) k = is_covered_statement c st s k
-  is_covered_statement c st (stat.Statement.go_to y at) k = true
-  is_covered_statement c st _ k = false
+  pub is_covered_statement : (List ℕ → Bool) → Bool → Scope → Setting → Statement → ℕ → Bool
+  is_covered_statement may returns c st stat.Statement.empty k = true
+  is_covered_statement may returns c st (stat.Statement.block ss) k = are_covered may returns c st ss k
+  is_covered_statement may returns c st (stat.Statement.assign to e at) k =
+      is_covered_store may c st to e k || (is_wide_assignment may c st to e k || is_covered_answer may c st to e k)
+  is_covered_statement may returns c st (stat.Statement.if_test (stat.Test.condition e) s stat.Statements.none at) k =
+      is_covered may c st e k && is_covered_statement may returns c st s k
+  is_covered_statement may returns c st (stat.Statement.if_test (stat.Test.condition e) s (stat.Statements.and other stat.Statements.none) at) k =
+      is_covered may c st e k && is_covered_statement may returns c st s k && is_covered_statement may returns c st other k
+  is_covered_statement may returns c st (stat.Statement.if_test (stat.Test.code o) s stat.Statements.none at) k = is_covered_statement may returns c st s k
+  is_covered_statement may returns c st (stat.Statement.if_test (stat.Test.code o) s (stat.Statements.and other stat.Statements.none) at) k =
+      is_covered_statement may returns c st s k && is_covered_statement may returns c st other k
+  is_covered_statement may returns c st (stat.Statement.while_true e s at) k = is_covered may c st e k && is_covered_statement may returns c st s k
+  is_covered_statement may returns c st (stat.Statement.until_true s e at) k = is_covered may c st e k && is_covered_statement may returns c st s k
+  is_covered_statement may returns c st (stat.Statement.for_values x first step last s at) k =
+      is_counted_name st k (c.names x) (c.places x) && is_covered may c st first k && is_covered_step may c st step (k + 1) && is_covered may c st last (k + 2)
+      && is_covered_statement may returns c st s (k + 3)
+  is_covered_statement may returns c st (stat.Statement.case_of e ss at) k = is_covered may c st e k && are_covered may returns c st ss k
+  is_covered_statement may returns c st (stat.Statement.call x es at) k = is_covered_call may c st x (c.names x) es k
+  is_covered_statement may returns c st (stat.Statement.labelled y at s) k = is_covered_statement may returns c st s k
+  is_covered_statement may returns c st (stat.Statement.go_to y at) k = true
+  is_covered_statement may returns c st (stat.Statement.return at) k = returns
+  is_covered_statement may returns c st _ k = false
 
   -- a list of such
-  pub are_covered : Scope → Setting → Statements → ℕ → Bool
-  are_covered c st stat.Statements.none k = true
-  are_covered c st (stat.Statements.and s ss) k = is_covered_statement c st s k && are_covered c st ss k
+  pub are_covered : (List ℕ → Bool) → Bool → Scope → Setting → Statements → ℕ → Bool
+  are_covered may returns c st stat.Statements.none k = true
+  are_covered may returns c st (stat.Statements.and s ss) k = is_covered_statement may returns c st s k && are_covered may returns c st ss k

@@ -1,5 +1,5 @@
 -- The laws of this crate: assignments over their parts as variables; and then all that is covered.
-use Rattle.std.specs.Prelude.{◌≡◌, ℕ, ◌+◌, ◌≤◌, true, false, List, ◌++◌, Option}
+use Rattle.std.specs.Prelude.{◌≡◌, ℕ, ◌+◌, ◌≤◌, Bool, true, false, List, ◌++◌, Option}
 use Rattle.spl_tree.specs.declared.names_and_places.At.{At}
 use Rattle.spl_tree.specs.declared.expressions.Kind.{Kind}
 use Rattle.spl_tree.specs.StatementTrees.{Statement, Statements}
@@ -9,7 +9,7 @@ use Rattle.spl_meaning.specs.Pending.{statement_most, statements_most}
 use Rattle.spl_meaning.specs.Places.{Place}
 use Rattle.spl_meaning.specs.References.{Setting, its_own, address_of, variable_located, store}
 use Rattle.spl_meaning.specs.StatementRules.{list_labels}
-use Rattle.spl_meaning.specs.States.{State, Outcome, then_go, stopping}
+use Rattle.spl_meaning.specs.States.{State, back, Outcome, then_go, stopping}
 use Rattle.spl_meaning.specs.Statements.{bears_among, landing, run, run_all, run_from}
 use Rattle.spl_meaning.specs.Values.{Callee}
 use Rattle.spl_code.specs.Parts.{Part, pieces, piece, nothing, ◌⨟◌}
@@ -20,8 +20,8 @@ use Rattle.spl_statement_code.specs.Statements.{statement, listed}
 use Rattle.spl_follow.specs.Simulating.{Surroundings, Simulates, Performs, PerformsAll}
 use Rattle.spl_values.specs.Reached.{is_reached, IsWhole}
 use Rattle.spl_operators.specs.Laws.{is_single}
-use Rattle.spl_covered.specs.Laws.{read_with}
-use Rattle.spl_calls.specs.Laws.{MayCall}
+use Rattle.spl_names.specs.Names.{read_with}
+use Rattle.spl_links.specs.Links.{MayCall}
 use Rattle.spl_jumps.specs.Landed.{is_landed, are_landed, MayJump}
 use Rattle.spl_stores.specs.Covered.{is_covered_statement, are_covered}
 
@@ -37,24 +37,29 @@ AssignmentsPerform = (z : Surroundings) (d k need number : ℕ) (at : At) (t : K
 
 -- ---- trees
 
+-- What a RETURN finds around it: the mark of the body's way out is where that leads, and no word waits there.
+pub record MayReturn (leave : ℕ) (z : Surroundings) : Type 0 where
+  pub leads : z.sites.marks leave ≡ z.exits.target back
+  pub held : z.exits.held back ≡ 0
+
 -- what is covered has whole code, where its jumps lead somewhere
 abbrev pub CoveredStatementsAreWhole : Type 0
-CoveredStatementsAreWhole = (c : Context) (st : Setting) (s : Statement) (k : ℕ) → is_covered_statement c.scope st s k ≡ true
+CoveredStatementsAreWhole = (may : List ℕ → Bool) (returns : Bool) (c : Context) (st : Setting) (s : Statement) (k : ℕ) → is_covered_statement may returns c.scope st s k ≡ true
     → (labels : List (List ℕ)) → is_landed c.landings labels s k ≡ true → IsWhole (statement c s k)
 
--- The code of a statement that is covered performs it, wherever it stands, where its calls find what they name, and its labels and jumps do, with
--- those of the lists around it.
+-- The code of a statement that is covered performs it, wherever it stands, where its calls find what they name, RETURN leads to the way
+-- out, and its labels and jumps lead somewhere, by those of the lists around it.
 abbrev pub CoveredStatementsPerform : Type 0
-CoveredStatementsPerform = (c : Context) (results : List ℕ → Option (Kind × Place)) (z : Surroundings) (call : Callee) (d number : ℕ)
-    (labels : List (List ℕ)) (st : Statement) (k need : ℕ) → is_covered_statement c.scope z.setting st k ≡ true
-    → statement_most c.scope.names st + 8 ≤ need → MayCall z → MayJump c.landings z labels k → is_landed c.landings labels st k ≡ true
+CoveredStatementsPerform = (may : List ℕ → Bool) (returns : Bool) (c : Context) (results : List ℕ → Option (Kind × Place)) (z : Surroundings) (call : Callee) (d number : ℕ)
+    (labels : List (List ℕ)) (st : Statement) (k need : ℕ) → is_covered_statement may returns c.scope z.setting st k ≡ true
+    → statement_most c.scope.names st + 8 ≤ need → MayCall may c.scope z d call → (returns ≡ true → MayReturn c.leave z) → MayJump c.landings z labels k → is_landed c.landings labels st k ≡ true
     → Performs z d k need (statement c st k) (λ s. run (read_with c.scope results z.setting) call d number st k s)
 
 -- and so does that of a list of such, that takes the jumps to its labels
 abbrev pub CoveredListsPerform : Type 0
-CoveredListsPerform = (c : Context) (results : List ℕ → Option (Kind × Place)) (z : Surroundings) (call : Callee) (d number : ℕ)
-    (labels : List (List ℕ)) (ss : Statements) (k need : ℕ) → are_covered c.scope z.setting ss k ≡ true
-    → statements_most c.scope.names ss + 8 ≤ need → MayCall z → MayJump c.landings z labels k
+CoveredListsPerform = (may : List ℕ → Bool) (returns : Bool) (c : Context) (results : List ℕ → Option (Kind × Place)) (z : Surroundings) (call : Callee) (d number : ℕ)
+    (labels : List (List ℕ)) (ss : Statements) (k need : ℕ) → are_covered may returns c.scope z.setting ss k ≡ true
+    → statements_most c.scope.names ss + 8 ≤ need → MayCall may c.scope z d call → (returns ≡ true → MayReturn c.leave z) → MayJump c.landings z labels k
     → are_landed c.landings (labels ++ list_labels ss) ss k ≡ true
     → PerformsAll z d k need (listed c ss k) (λ s. landing d (bears_among ss)
     (λ x t. run_from (read_with c.scope results z.setting) call d number ss x k t) (run_all (read_with c.scope results z.setting) call d number ss k s))

@@ -2,19 +2,21 @@
 use Rattle.std.proofs.Common.{◌≡◌, ℕ, ◌+◌, ◌≤◌, Bool, true, false, List, ◌++◌, refl, sym, ap, subst, ◌∙◌, arith}
 use Rattle.std.specs.Prelude.{Option, Some, None, ◌&&◌, if◌then◌else◌}
 use Rattle.std.proofs.lemmas.Bool.{false≢true}
+use Rattle.std.proofs.Math.Logic.{⊎_elim}
 use Rattle.spl_branch.specs.declared.pieces.Piece.{Piece}
 use Rattle.spl_branch.specs.declared.pieces.Piece.TheVariants.{Begin}
 use Rattle.spl_tree.specs.declared.expressions.Kind.{Kind}
 use Rattle.spl_tree.specs.declared.expressions.Kind.TheVariants as kind
 use Rattle.spl_tree.specs.declared.names_and_places.At.{At}
 use Rattle.spl_tree.specs.Trees as tree
-use Rattle.spl_tree.specs.Trees.{Tree}
+use Rattle.spl_tree.specs.Trees.{Tree, Trees}
 use Rattle.spl_tree.specs.StatementTrees as stat
 use Rattle.spl_tree.specs.StatementTrees.{Target}
+use Rattle.spl_meaning.specs.Kinds.{callable}
 use Rattle.spl_meaning.specs.Names as n
 use Rattle.spl_meaning.specs.Names.{Names, Sort}
 use Rattle.spl_meaning.specs.Operations.{kept}
-use Rattle.spl_meaning.specs.Pending.{most, statement_most}
+use Rattle.spl_meaning.specs.Pending.{profile_formals, profile_result_words, most, statement_most}
 use Rattle.spl_meaning.specs.Places.{Place, data_word, above_base, below_base, below_return}
 use Rattle.spl_meaning.specs.References.{Here, Setting, Located, Access, its_own, by_address, by_cell, its_result, nowhere, access_of, target_access, index_or_zero, led_located, locate_by, locate_target, store}
 use Rattle.spl_meaning.specs.States.{State, Outcome, then_go, stopping}
@@ -37,11 +39,11 @@ use Rattle.spl_values.proofs.VariableLemmas.{both}
 use Rattle.spl_values.proofs.WholeLemmas.{then_same}
 use Rattle.spl_operands.proofs.AssignLemmas.{cells_assigned, elements_assigned}
 use Rattle.spl_operators.specs.Laws.{is_single}
-use Rattle.spl_covered.specs.Covered.{is_led, is_led_element, is_covered_name, is_covered}
-use Rattle.spl_covered.specs.Laws.{read_with}
-use Rattle.spl_covered.proofs.CoverLemmas.{covered_width, covered_whole, covered_gives}
-use Rattle.spl_covered.proofs.LedLemmas.{single_width, IsElement, element_case, IsLed, led_case}
-use Rattle.spl_targets.specs.Laws.{LedTargetsAreWhole, LedTargetsPerform}
+use Rattle.spl_names.specs.Names.{is_led, is_led_element, is_covered_name, read_with}
+use Rattle.spl_covered.specs.Covered.{is_word_call, is_covered, is_covered_variable, are_covered_arguments}
+use Rattle.spl_word_operators.proofs.OperatorLemmas.{either}
+use Rattle.spl_covered.proofs.CallLemmas.{word_case}
+use Rattle.spl_names.proofs.LedLemmas.{single_width, IsElement, element_case, IsLed, led_case}
 use Rattle.spl_targets.proofs.SameLemmas.{stopping_same, same_performs}
 
 -- ---- intrinsics
@@ -81,22 +83,31 @@ name_no_intrinsic st k (Some (n.subroutine p)) pl e = refl
 name_no_intrinsic st k (Some n.unknown) pl e = refl
 
 -- so no covered expression is the call of one
-pub no_intrinsic : (c : Scope) (st : Setting) (e : Tree) (k : ℕ) → is_covered c st e k ≡ true → is_intrinsic_alone c.names e ≡ false
-no_intrinsic c st (tree.Tree.named x tree.Trees.none at) k e = name_no_intrinsic st k (c.names x) (c.places x) e
-no_intrinsic c st (tree.Tree.named x (tree.Trees.and i tree.Trees.none) at) k e =
-    element_no_intrinsic st k (c.names x) (c.places x) (both (is_led_element st k (access_of (c.names x)) (c.places x)) (is_covered c st i k) e).0
-no_intrinsic c st (tree.Tree.named x (tree.Trees.and i (tree.Trees.and j js)) at) k e = absurd (false≢true e)
-no_intrinsic c st (tree.Tree.number v) k e = refl
-no_intrinsic c st (tree.Tree.truth b) k e = refl
-no_intrinsic c st (tree.Tree.binary o a b at) k e = refl
-no_intrinsic c st (tree.Tree.wide v) k e = refl
-no_intrinsic c st (tree.Tree.text bytes) k e = refl
-no_intrinsic c st (tree.Tree.address x es at) k e = refl
-no_intrinsic c st (tree.Tree.unary o a at) k e = refl
-no_intrinsic c st (tree.Tree.shift o a by at) k e = refl
-no_intrinsic c st (tree.Tree.field a start size at) k e = refl
-no_intrinsic c st (tree.Tree.transfer to a at) k e = refl
-no_intrinsic c st (tree.Tree.bytes o a b count at) k e = refl
+variable_no_intrinsic : (may : List ℕ → Bool) (c : Scope) (st : Setting) (x : List ℕ) (es : Trees) (k : ℕ) → is_covered_variable may c st x es k ≡ true
+    → is_intrinsic (c.names x) ≡ false
+variable_no_intrinsic may c st x tree.Trees.none k e = name_no_intrinsic st k (c.names x) (c.places x) e
+variable_no_intrinsic may c st x (tree.Trees.and i tree.Trees.none) k e =
+    element_no_intrinsic st k (c.names x) (c.places x) (both (is_led_element st k (access_of (c.names x)) (c.places x)) (is_covered may c st i k) e).0
+variable_no_intrinsic may c st x (tree.Trees.and i (tree.Trees.and j js)) k e = absurd (false≢true e)
+
+pub no_intrinsic : (may : List ℕ → Bool) (c : Scope) (st : Setting) (e : Tree) (k : ℕ) → is_covered may c st e k ≡ true
+    → is_intrinsic_alone c.names e ≡ false
+no_intrinsic may c st (tree.Tree.named x es at) k e =
+    let asked = are_covered_arguments may c st (profile_formals (callable (c.names x))) es (k + profile_result_words (callable (c.names x))) in
+    ⊎_elim (λ own. variable_no_intrinsic may c st x es k own)
+    (λ other. ap is_intrinsic (word_case may st x (c.names x) (both (is_word_call may st x (c.names x)) asked other).0).is)
+    (either (is_covered_variable may c st x es k) (is_word_call may st x (c.names x) && asked) e)
+no_intrinsic may c st (tree.Tree.number v) k e = refl
+no_intrinsic may c st (tree.Tree.truth b) k e = refl
+no_intrinsic may c st (tree.Tree.binary o a b at) k e = refl
+no_intrinsic may c st (tree.Tree.wide v) k e = refl
+no_intrinsic may c st (tree.Tree.text bytes) k e = refl
+no_intrinsic may c st (tree.Tree.address x es at) k e = refl
+no_intrinsic may c st (tree.Tree.unary o a at) k e = refl
+no_intrinsic may c st (tree.Tree.shift o a by at) k e = refl
+no_intrinsic may c st (tree.Tree.field a start size at) k e = refl
+no_intrinsic may c st (tree.Tree.transfer to a at) k e = refl
+no_intrinsic may c st (tree.Tree.bytes o a b count at) k e = refl
 
 -- ---- names
 

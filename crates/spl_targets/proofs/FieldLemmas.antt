@@ -6,7 +6,6 @@ use Rattle.std.proofs.Math.Logic.{⊎_elim}
 use Rattle.spl_branch.specs.declared.pieces.Piece.{Piece}
 use Rattle.spl_branch.specs.declared.pieces.Piece.TheVariants.{Begin}
 use Rattle.spl_tree.specs.declared.expressions.Kind.{Kind}
-use Rattle.spl_tree.specs.declared.expressions.Kind.TheVariants as kind
 use Rattle.spl_tree.specs.declared.names_and_places.At.{At}
 use Rattle.spl_tree.specs.Trees as tree
 use Rattle.spl_tree.specs.Trees.{Tree, Constant}
@@ -41,10 +40,9 @@ use Rattle.spl_variables.proofs.OwnLemmas.{not_from_top}
 use Rattle.spl_field_stores.specs.Laws.{is_within}
 use Rattle.spl_field_stores.proofs.FieldLemmas.{variables_assigned, cells_assigned, elements_assigned}
 use Rattle.spl_addresses.proofs.AddressLemmas.{pointers_assigned}
-use Rattle.spl_covered.specs.Covered.{has_reached, is_led, is_led_element, is_covered}
-use Rattle.spl_covered.specs.Laws.{read_with}
-use Rattle.spl_covered.proofs.LedLemmas.{IsElement, element_case, led_case}
-use Rattle.spl_covered.proofs.OperatorLemmas.{either}
+use Rattle.spl_names.specs.Names.{has_reached, is_led, is_led_element, read_with}
+use Rattle.spl_names.proofs.LedLemmas.{IsElement, element_case, led_case}
+use Rattle.spl_word_operators.proofs.OperatorLemmas.{either}
 use Rattle.spl_targets.specs.Targets.{holds_words, is_own, has_fields, has_field_elements}
 use Rattle.spl_targets.proofs.ElementLemmas.{led_of_element, left_access}
 use Rattle.spl_targets.proofs.SameLemmas.{stopping_same, same_performs}

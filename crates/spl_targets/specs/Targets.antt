@@ -1,5 +1,5 @@
 -- Which targets of assignments are proved, but variables by themselves. A further construct makes it larger.
-use Rattle.std.specs.Prelude.{ℕ, ◌&&◌, ◌||◌, Bool, false, Option}
+use Rattle.std.specs.Prelude.{ℕ, ◌&&◌, ◌||◌, Bool, false, List, Option}
 use Rattle.spl_tree.specs.Trees as tree
 use Rattle.spl_tree.specs.StatementTrees as stat
 use Rattle.spl_tree.specs.StatementTrees.{Target}
@@ -11,7 +11,8 @@ use Rattle.spl_meaning.specs.Values.{small_constant}
 use Rattle.spl_code.specs.Calls.{Scope}
 use Rattle.spl_values.specs.Reached.{is_word_kind}
 use Rattle.spl_field_stores.specs.Laws.{is_within}
-use Rattle.spl_covered.specs.Covered.{has_reached, is_led, is_led_element, is_covered}
+use Rattle.spl_names.specs.Names.{has_reached, is_led, is_led_element}
+use Rattle.spl_covered.specs.Covered.{is_covered}
 
 -- what holds whole words, which have bit fields
 abbrev pub holds_words : Operand → Bool
@@ -32,13 +33,13 @@ has_field_elements st k sort place = holds_words (named_operand sort) && is_led_
 
 -- A name whose word leads to a word, without an index; an element at an index that is covered; bit fields within such words, and within variables;
 -- and the word of a pointer, where it is reached.
-abbrev pub is_led_target : Scope → Setting → Target → ℕ → Bool
-is_led_target c st (stat.Target.plain (tree.Tree.named x tree.Trees.none at)) k = is_led st k (access_of (c.names x)) (c.places x)
-is_led_target c st (stat.Target.plain (tree.Tree.named x (tree.Trees.and e tree.Trees.none) at)) k =
-    is_led_element st k (access_of (c.names x)) (c.places x) && is_covered c st e k
-is_led_target c st (stat.Target.field (tree.Tree.named x tree.Trees.none at) start size) k =
+abbrev pub is_led_target : (List ℕ → Bool) → Scope → Setting → Target → ℕ → Bool
+is_led_target may c st (stat.Target.plain (tree.Tree.named x tree.Trees.none at)) k = is_led st k (access_of (c.names x)) (c.places x)
+is_led_target may c st (stat.Target.plain (tree.Tree.named x (tree.Trees.and e tree.Trees.none) at)) k =
+    is_led_element st k (access_of (c.names x)) (c.places x) && is_covered may c st e k
+is_led_target may c st (stat.Target.field (tree.Tree.named x tree.Trees.none at) start size) k =
     is_within (small_constant c.names start) (small_constant c.names size) && has_fields st k (c.names x) (c.places x)
-is_led_target c st (stat.Target.field (tree.Tree.named x (tree.Trees.and e tree.Trees.none) at) start size) k =
-    is_within (small_constant c.names start) (small_constant c.names size) && (has_field_elements st k (c.names x) (c.places x) && is_covered c st e k)
-is_led_target c st (stat.Target.address x at) k = has_reached st k (c.places x)
-is_led_target c st _ k = false
+is_led_target may c st (stat.Target.field (tree.Tree.named x (tree.Trees.and e tree.Trees.none) at) start size) k =
+    is_within (small_constant c.names start) (small_constant c.names size) && (has_field_elements st k (c.names x) (c.places x) && is_covered may c st e k)
+is_led_target may c st (stat.Target.address x at) k = has_reached st k (c.places x)
+is_led_target may c st _ k = false

@@ -9,13 +9,14 @@ use Rattle.spl_tree.specs.declared.expressions.Kind.{Kind}
 use Rattle.spl_tree.specs.declared.expressions.Kind.TheVariants as kind
 use Rattle.spl_tree.specs.declared.names_and_places.At.{At}
 use Rattle.spl_tree.specs.Trees as tree
-use Rattle.spl_tree.specs.Trees.{Tree}
+use Rattle.spl_tree.specs.Trees.{Tree, Trees}
 use Rattle.spl_tree.specs.StatementTrees as stat
 use Rattle.spl_tree.specs.StatementTrees.{Target}
+use Rattle.spl_meaning.specs.Kinds.{callable}
 use Rattle.spl_meaning.specs.Names as n
 use Rattle.spl_meaning.specs.Names.{Sort}
 use Rattle.spl_meaning.specs.Operations.{kept}
-use Rattle.spl_meaning.specs.Pending.{most}
+use Rattle.spl_meaning.specs.Pending.{profile_formals, profile_result_words, most}
 use Rattle.spl_meaning.specs.Places.{Place, data_word, above_base, below_base, below_return}
 use Rattle.spl_meaning.specs.References.{Here, Setting, Access, its_own, access_of, address_of, variable_located, own_located, locate_by, locate_target, store}
 use Rattle.spl_meaning.specs.States.{State, then_go, stopping}
@@ -35,16 +36,16 @@ use Rattle.spl_values.specs.Reached.{is_reached, IsWhole}
 use Rattle.spl_values.proofs.VariableLemmas.{both}
 use Rattle.spl_values.proofs.WholeLemmas.{then_same}
 use Rattle.spl_doubles.proofs.StoreLemmas.{variables_assigned}
-use Rattle.spl_covered.specs.Covered.{is_covered}
-use Rattle.spl_covered.specs.Laws.{read_with}
-use Rattle.spl_covered.proofs.OperatorLemmas.{either}
-use Rattle.spl_covered.proofs.CoverLemmas.{covered_width, covered_whole, covered_gives}
+use Rattle.spl_covered.specs.Covered.{is_double_call, is_covered, is_wide, is_wide_variable, are_covered_arguments}
+use Rattle.spl_names.specs.Names.{read_with, is_wide_name, is_wide_element, is_wide_led}
+use Rattle.spl_word_operators.proofs.OperatorLemmas.{either}
+use Rattle.spl_names.proofs.WideLedLemmas.{leading_case, led_of_element}
+use Rattle.spl_names.proofs.WideNameLemmas.{IsWide, wide_case}
+use Rattle.spl_covered.proofs.CallLemmas.{double_case}
+use Rattle.spl_covered.proofs.CoverLemmas.{covered_width, covered_whole, covered_gives, wide_whole, wide_gives}
 use Rattle.spl_targets.proofs.SameLemmas.{stopping_same, same_performs}
 use Rattle.spl_targets.proofs.ElementLemmas.{element_room}
-use Rattle.spl_wide.specs.Wide.{is_wide_name, is_wide_element, is_wide_led, is_wide}
 use Rattle.spl_wide.specs.Laws.{WideAssignmentsAreWhole, WideAssignmentsPerform}
-use Rattle.spl_wide.proofs.LedLemmas.{leading_case, led_of_element}
-use Rattle.spl_wide.proofs.WideLemmas.{IsWide, wide_case, wide_whole, wide_gives}
 use Rattle.spl_wide.proofs.TargetLemmas as targets
 
 -- a name on the left of := that is such is no intrinsic
@@ -65,25 +66,33 @@ no_name st k (Some (n.subroutine p)) pl e = refl
 no_name st k (Some n.unknown) pl e = refl
 
 -- so no such expression is the call of one
-no_intrinsic : (c : Scope) (st : Setting) (e : Tree) (k : ℕ) → is_wide c st e k ≡ true → is_intrinsic_alone c.names e ≡ false
-no_intrinsic c st (tree.Tree.named x tree.Trees.none at) k e =
+variable_no_intrinsic : (may : List ℕ → Bool) (c : Scope) (st : Setting) (x : List ℕ) (es : Trees) (k : ℕ) → is_wide_variable may c st x es k ≡ true
+    → is_intrinsic (c.names x) ≡ false
+variable_no_intrinsic may c st x tree.Trees.none k e =
     ⊎_elim (λ own. no_name st k (c.names x) (c.places x) own) (λ led. (leading_case st x k (c.names x) (c.places x) led).alone)
     (either (is_wide_name st k (c.names x) (c.places x)) (is_wide_led st k (access_of (c.names x)) (c.places x)) e)
-no_intrinsic c st (tree.Tree.named x (tree.Trees.and i tree.Trees.none) at) k e =
-    let two = both (is_wide_element st k (access_of (c.names x)) (c.places x)) (is_covered c st i k) e in
+variable_no_intrinsic may c st x (tree.Trees.and i tree.Trees.none) k e =
+    let two = both (is_wide_element st k (access_of (c.names x)) (c.places x)) (is_covered may c st i k) e in
     (leading_case st x k (c.names x) (c.places x) (led_of_element st k (access_of (c.names x)) (c.places x) two.0)).alone
-no_intrinsic c st (tree.Tree.named x (tree.Trees.and i (tree.Trees.and j js)) at) k e = absurd (false≢true e)
-no_intrinsic c st (tree.Tree.number v) k e = refl
-no_intrinsic c st (tree.Tree.truth b) k e = refl
-no_intrinsic c st (tree.Tree.binary o a b at) k e = refl
-no_intrinsic c st (tree.Tree.wide v) k e = refl
-no_intrinsic c st (tree.Tree.text bytes) k e = refl
-no_intrinsic c st (tree.Tree.address x es at) k e = refl
-no_intrinsic c st (tree.Tree.unary o a at) k e = refl
-no_intrinsic c st (tree.Tree.shift o a by at) k e = refl
-no_intrinsic c st (tree.Tree.field a start size at) k e = refl
-no_intrinsic c st (tree.Tree.transfer to a at) k e = refl
-no_intrinsic c st (tree.Tree.bytes o a b count at) k e = refl
+variable_no_intrinsic may c st x (tree.Trees.and i (tree.Trees.and j js)) k e = absurd (false≢true e)
+
+no_intrinsic : (may : List ℕ → Bool) (c : Scope) (st : Setting) (e : Tree) (k : ℕ) → is_wide may c st e k ≡ true → is_intrinsic_alone c.names e ≡ false
+no_intrinsic may c st (tree.Tree.named x es at) k e =
+    let asked = are_covered_arguments may c st (profile_formals (callable (c.names x))) es (k + profile_result_words (callable (c.names x))) in
+    ⊎_elim (λ own. variable_no_intrinsic may c st x es k own)
+    (λ other. ap is_intrinsic (double_case may st x (c.names x) (both (is_double_call may st x (c.names x)) asked other).0).is)
+    (either (is_wide_variable may c st x es k) (is_double_call may st x (c.names x) && asked) e)
+no_intrinsic may c st (tree.Tree.number v) k e = refl
+no_intrinsic may c st (tree.Tree.truth b) k e = refl
+no_intrinsic may c st (tree.Tree.binary o a b at) k e = refl
+no_intrinsic may c st (tree.Tree.wide v) k e = refl
+no_intrinsic may c st (tree.Tree.text bytes) k e = refl
+no_intrinsic may c st (tree.Tree.address x es at) k e = refl
+no_intrinsic may c st (tree.Tree.unary o a at) k e = refl
+no_intrinsic may c st (tree.Tree.shift o a by at) k e = refl
+no_intrinsic may c st (tree.Tree.field a start size at) k e = refl
+no_intrinsic may c st (tree.Tree.transfer to a at) k e = refl
+no_intrinsic may c st (tree.Tree.bytes o a b count at) k e = refl
 
 -- a store closes
 closed : (st : Setting) (k : ℕ) (place : Place) → is_reached st k place ≡ true → IsClosed (stored (its_own kind.Double) false k place)
@@ -151,73 +160,73 @@ name_performs c results z call d number x there e at k need r enough alone whole
 -- ---- targets
 
 -- what is asked of an element that is stored
-element_parts : (c : Scope) (st : Setting) (x : List ℕ) (i e : Tree) (k : ℕ)
-    → (is_wide_element st k (access_of (c.names x)) (c.places x) && (is_covered c st i k && is_wide c st e (k + 1))) ≡ true
-    → (is_wide_element st k (access_of (c.names x)) (c.places x) ≡ true) × (is_covered c st i k ≡ true) × (is_wide c st e (k + 1) ≡ true)
-element_parts c st x i e k covered =
-    let two = both (is_wide_element st k (access_of (c.names x)) (c.places x)) (is_covered c st i k && is_wide c st e (k + 1)) covered in
-    let rest = both (is_covered c st i k) (is_wide c st e (k + 1)) two.1 in
+element_parts : (may : List ℕ → Bool) (c : Scope) (st : Setting) (x : List ℕ) (i e : Tree) (k : ℕ)
+    → (is_wide_element st k (access_of (c.names x)) (c.places x) && (is_covered may c st i k && is_wide may c st e (k + 1))) ≡ true
+    → (is_wide_element st k (access_of (c.names x)) (c.places x) ≡ true) × (is_covered may c st i k ≡ true) × (is_wide may c st e (k + 1) ≡ true)
+element_parts may c st x i e k covered =
+    let two = both (is_wide_element st k (access_of (c.names x)) (c.places x)) (is_covered may c st i k && is_wide may c st e (k + 1)) covered in
+    let rest = both (is_covered may c st i k) (is_wide may c st e (k + 1)) two.1 in
     (two.0, rest.0, rest.1)
 
 pub assigned_whole : WideAssignmentsAreWhole
-assigned_whole c st (stat.Target.plain (tree.Tree.named x tree.Trees.none there)) e at k covered =
+assigned_whole may c st (stat.Target.plain (tree.Tree.named x tree.Trees.none there)) e at k covered =
     let own = is_wide_name st k (c.scope.names x) (c.scope.places x) in
     let led = is_wide_led st k (access_of (c.scope.names x)) (c.scope.places x) in
-    let two = both (own || led) (is_wide c.scope st e k) covered in
-    let whole = wide_whole c.scope st e k two.1 in
+    let two = both (own || led) (is_wide may c.scope st e k) covered in
+    let whole = wide_whole may c.scope st e k two.1 in
     ⊎_elim (λ one. name_whole c st x there e at k (wide_case st x k (c.scope.names x) (c.scope.places x) one) whole)
     (λ other. targets.led_whole c st x there e at k other whole) (either own led two.0)
-assigned_whole c st (stat.Target.plain (tree.Tree.named x (tree.Trees.and i tree.Trees.none) there)) e at k covered =
-    let parts = element_parts c.scope st x i e k covered in
-    targets.element_whole c st x i there e at k parts.0 (covered_whole c.scope st i k parts.1) (wide_whole c.scope st e (k + 1) parts.2)
-assigned_whole c st (stat.Target.plain (tree.Tree.named x (tree.Trees.and i (tree.Trees.and j js)) there)) e at k covered = absurd (false≢true covered)
-assigned_whole c st (stat.Target.plain (tree.Tree.number w)) e at k covered = absurd (false≢true covered)
-assigned_whole c st (stat.Target.plain (tree.Tree.wide w)) e at k covered = absurd (false≢true covered)
-assigned_whole c st (stat.Target.plain (tree.Tree.text bytes)) e at k covered = absurd (false≢true covered)
-assigned_whole c st (stat.Target.plain (tree.Tree.truth b)) e at k covered = absurd (false≢true covered)
-assigned_whole c st (stat.Target.plain (tree.Tree.address x es there)) e at k covered = absurd (false≢true covered)
-assigned_whole c st (stat.Target.plain (tree.Tree.unary o a there)) e at k covered = absurd (false≢true covered)
-assigned_whole c st (stat.Target.plain (tree.Tree.binary o a b there)) e at k covered = absurd (false≢true covered)
-assigned_whole c st (stat.Target.plain (tree.Tree.shift o a by there)) e at k covered = absurd (false≢true covered)
-assigned_whole c st (stat.Target.plain (tree.Tree.field a start size there)) e at k covered = absurd (false≢true covered)
-assigned_whole c st (stat.Target.plain (tree.Tree.transfer t a there)) e at k covered = absurd (false≢true covered)
-assigned_whole c st (stat.Target.plain (tree.Tree.bytes o a b count there)) e at k covered = absurd (false≢true covered)
-assigned_whole c st (stat.Target.field r start size) e at k covered = absurd (false≢true covered)
-assigned_whole c st (stat.Target.address x there) e at k covered = absurd (false≢true covered)
+assigned_whole may c st (stat.Target.plain (tree.Tree.named x (tree.Trees.and i tree.Trees.none) there)) e at k covered =
+    let parts = element_parts may c.scope st x i e k covered in
+    targets.element_whole c st x i there e at k parts.0 (covered_whole may c.scope st i k parts.1) (wide_whole may c.scope st e (k + 1) parts.2)
+assigned_whole may c st (stat.Target.plain (tree.Tree.named x (tree.Trees.and i (tree.Trees.and j js)) there)) e at k covered = absurd (false≢true covered)
+assigned_whole may c st (stat.Target.plain (tree.Tree.number w)) e at k covered = absurd (false≢true covered)
+assigned_whole may c st (stat.Target.plain (tree.Tree.wide w)) e at k covered = absurd (false≢true covered)
+assigned_whole may c st (stat.Target.plain (tree.Tree.text bytes)) e at k covered = absurd (false≢true covered)
+assigned_whole may c st (stat.Target.plain (tree.Tree.truth b)) e at k covered = absurd (false≢true covered)
+assigned_whole may c st (stat.Target.plain (tree.Tree.address x es there)) e at k covered = absurd (false≢true covered)
+assigned_whole may c st (stat.Target.plain (tree.Tree.unary o a there)) e at k covered = absurd (false≢true covered)
+assigned_whole may c st (stat.Target.plain (tree.Tree.binary o a b there)) e at k covered = absurd (false≢true covered)
+assigned_whole may c st (stat.Target.plain (tree.Tree.shift o a by there)) e at k covered = absurd (false≢true covered)
+assigned_whole may c st (stat.Target.plain (tree.Tree.field a start size there)) e at k covered = absurd (false≢true covered)
+assigned_whole may c st (stat.Target.plain (tree.Tree.transfer t a there)) e at k covered = absurd (false≢true covered)
+assigned_whole may c st (stat.Target.plain (tree.Tree.bytes o a b count there)) e at k covered = absurd (false≢true covered)
+assigned_whole may c st (stat.Target.field r start size) e at k covered = absurd (false≢true covered)
+assigned_whole may c st (stat.Target.address x there) e at k covered = absurd (false≢true covered)
 
 pub assigned_performs : WideAssignmentsPerform
-assigned_performs c results z call d number (stat.Target.plain (tree.Tree.named x tree.Trees.none there)) e at k need covered enough =
+assigned_performs may c results z call d number (stat.Target.plain (tree.Tree.named x tree.Trees.none there)) e at k need links covered enough =
     let own = is_wide_name z.setting k (c.scope.names x) (c.scope.places x) in
     let led = is_wide_led z.setting k (access_of (c.scope.names x)) (c.scope.places x) in
-    let two = both (own || led) (is_wide c.scope z.setting e k) covered in
-    let alone = no_intrinsic c.scope z.setting e k two.1 in
-    let whole = wide_whole c.scope z.setting e k two.1 in
-    let sim = wide_gives c.scope results z call d e k need two.1 (omega (arith, enough)) in
+    let two = both (own || led) (is_wide may c.scope z.setting e k) covered in
+    let alone = no_intrinsic may c.scope z.setting e k two.1 in
+    let whole = wide_whole may c.scope z.setting e k two.1 in
+    let sim = wide_gives may c.scope results z call d e k need links two.1 (omega (arith, enough)) in
     ⊎_elim
     (λ one. name_performs c results z call d number x there e at k need (wide_case z.setting x k (c.scope.names x) (c.scope.places x) one) (omega (arith, enough)) alone
     whole sim)
     (λ other. targets.led_performs c results z call d number x there e at k need other (omega (arith, enough)) alone whole sim) (either own led two.0)
-assigned_performs c results z call d number (stat.Target.plain (tree.Tree.named x (tree.Trees.and i tree.Trees.none) there)) e at k need covered enough =
-    let parts = element_parts c.scope z.setting x i e k covered in
+assigned_performs may c results z call d number (stat.Target.plain (tree.Tree.named x (tree.Trees.and i tree.Trees.none) there)) e at k need links covered enough =
+    let parts = element_parts may c.scope z.setting x i e k covered in
     let room = element_room c.scope.names x i there e at need enough in
-    let index = covered_gives c.scope results z call d i k need parts.1 room.0 in
+    let index = covered_gives may c.scope results z call d i k need links parts.1 room.0 in
     let more = most c.scope.names e + 8 in
     targets.element_performs c results z call d number x i there e at k need more parts.0 (omega (arith, enough)) room.1
-    (no_intrinsic c.scope z.setting e (k + 1) parts.2) (covered_whole c.scope z.setting i k parts.1) (wide_whole c.scope z.setting e (k + 1) parts.2)
+    (no_intrinsic may c.scope z.setting e (k + 1) parts.2) (covered_whole may c.scope z.setting i k parts.1) (wide_whole may c.scope z.setting e (k + 1) parts.2)
     (subst (λ (j : ℕ). Simulates z d as_value j k need (code c.scope i as_value k) (λ s. value (read_with c.scope results z.setting) call i k s))
-    (covered_width c.scope z.setting i k parts.1) index)
-    (wide_gives c.scope results z call d e (k + 1) more parts.2 (omega arith))
-assigned_performs c results z call d number (stat.Target.plain (tree.Tree.named x (tree.Trees.and i (tree.Trees.and j js)) there)) e at k need covered enough = absurd (false≢true covered)
-assigned_performs c results z call d number (stat.Target.plain (tree.Tree.number w)) e at k need covered enough = absurd (false≢true covered)
-assigned_performs c results z call d number (stat.Target.plain (tree.Tree.wide w)) e at k need covered enough = absurd (false≢true covered)
-assigned_performs c results z call d number (stat.Target.plain (tree.Tree.text bytes)) e at k need covered enough = absurd (false≢true covered)
-assigned_performs c results z call d number (stat.Target.plain (tree.Tree.truth b)) e at k need covered enough = absurd (false≢true covered)
-assigned_performs c results z call d number (stat.Target.plain (tree.Tree.address x es there)) e at k need covered enough = absurd (false≢true covered)
-assigned_performs c results z call d number (stat.Target.plain (tree.Tree.unary o a there)) e at k need covered enough = absurd (false≢true covered)
-assigned_performs c results z call d number (stat.Target.plain (tree.Tree.binary o a b there)) e at k need covered enough = absurd (false≢true covered)
-assigned_performs c results z call d number (stat.Target.plain (tree.Tree.shift o a by there)) e at k need covered enough = absurd (false≢true covered)
-assigned_performs c results z call d number (stat.Target.plain (tree.Tree.field a start size there)) e at k need covered enough = absurd (false≢true covered)
-assigned_performs c results z call d number (stat.Target.plain (tree.Tree.transfer t a there)) e at k need covered enough = absurd (false≢true covered)
-assigned_performs c results z call d number (stat.Target.plain (tree.Tree.bytes o a b count there)) e at k need covered enough = absurd (false≢true covered)
-assigned_performs c results z call d number (stat.Target.field r start size) e at k need covered enough = absurd (false≢true covered)
-assigned_performs c results z call d number (stat.Target.address x there) e at k need covered enough = absurd (false≢true covered)
+    (covered_width may c.scope z.setting i k parts.1) index)
+    (wide_gives may c.scope results z call d e (k + 1) more links parts.2 (omega arith))
+assigned_performs may c results z call d number (stat.Target.plain (tree.Tree.named x (tree.Trees.and i (tree.Trees.and j js)) there)) e at k need links covered enough = absurd (false≢true covered)
+assigned_performs may c results z call d number (stat.Target.plain (tree.Tree.number w)) e at k need links covered enough = absurd (false≢true covered)
+assigned_performs may c results z call d number (stat.Target.plain (tree.Tree.wide w)) e at k need links covered enough = absurd (false≢true covered)
+assigned_performs may c results z call d number (stat.Target.plain (tree.Tree.text bytes)) e at k need links covered enough = absurd (false≢true covered)
+assigned_performs may c results z call d number (stat.Target.plain (tree.Tree.truth b)) e at k need links covered enough = absurd (false≢true covered)
+assigned_performs may c results z call d number (stat.Target.plain (tree.Tree.address x es there)) e at k need links covered enough = absurd (false≢true covered)
+assigned_performs may c results z call d number (stat.Target.plain (tree.Tree.unary o a there)) e at k need links covered enough = absurd (false≢true covered)
+assigned_performs may c results z call d number (stat.Target.plain (tree.Tree.binary o a b there)) e at k need links covered enough = absurd (false≢true covered)
+assigned_performs may c results z call d number (stat.Target.plain (tree.Tree.shift o a by there)) e at k need links covered enough = absurd (false≢true covered)
+assigned_performs may c results z call d number (stat.Target.plain (tree.Tree.field a start size there)) e at k need links covered enough = absurd (false≢true covered)
+assigned_performs may c results z call d number (stat.Target.plain (tree.Tree.transfer t a there)) e at k need links covered enough = absurd (false≢true covered)
+assigned_performs may c results z call d number (stat.Target.plain (tree.Tree.bytes o a b count there)) e at k need links covered enough = absurd (false≢true covered)
+assigned_performs may c results z call d number (stat.Target.field r start size) e at k need links covered enough = absurd (false≢true covered)
+assigned_performs may c results z call d number (stat.Target.address x there) e at k need links covered enough = absurd (false≢true covered)

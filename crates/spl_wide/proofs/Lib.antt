@@ -1,5 +1,3 @@
 -- In reading order.
-pub mod LedLemmas
-pub mod WideLemmas
 pub mod TargetLemmas
 pub mod AssignLemmas

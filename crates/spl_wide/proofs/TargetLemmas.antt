@@ -29,11 +29,10 @@ use Rattle.spl_values.specs.Reached.{IsWhole}
 use Rattle.spl_values.proofs.SumLemmas.{front_on}
 use Rattle.spl_values.proofs.WholeLemmas.{then_same}
 use Rattle.spl_doubles.proofs.CellLemmas.{cells_assigned, elements_assigned}
-use Rattle.spl_covered.specs.Laws.{read_with}
+use Rattle.spl_names.specs.Names.{read_with, is_wide_element, is_wide_led}
 use Rattle.spl_targets.proofs.SameLemmas.{stopping_same, same_performs}
 use Rattle.spl_targets.proofs.ElementLemmas.{not_from_top}
-use Rattle.spl_wide.specs.Wide.{is_wide_element, is_wide_led}
-use Rattle.spl_wide.proofs.LedLemmas.{IsLed, led_case, IsElement, element_case, led_of_element, IsLeading, leading_case}
+use Rattle.spl_names.proofs.WideLedLemmas.{IsLed, led_case, IsElement, element_case, led_of_element, IsLeading, leading_case}
 
 -- ---- without an index
 

@@ -1,13 +1,7 @@
-//! The laws of this crate, as the contracts of functions that do nothing.
-ghost use Rattle.spl_wide.specs.Laws.{WideCodeIsWhole, WideValuesSimulate, WideAssignmentsAreWhole, WideAssignmentsPerform};
+//! The laws of this crate, as the contract of a function that does nothing.
+ghost use Rattle.spl_wide.specs.Laws.{WideAssignmentsAreWhole, WideAssignmentsPerform};
 
-/// All DOUBLE expressions that are covered.
-pub fn wide_values_simulate()
-    ensures whole { WideCodeIsWhole }
-    ensures value { WideValuesSimulate }
-{}
-
-/// Their assignments.
+/// Assignments of DOUBLE expressions.
 pub fn wide_assignments_perform()
     ensures whole { WideAssignmentsAreWhole }
     ensures one { WideAssignmentsPerform }

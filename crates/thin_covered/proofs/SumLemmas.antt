@@ -4,7 +4,7 @@
 -- 3. an operand                               (atom_fits)
 -- 4. a sum, along the tree                    (sum_fits)
 use Rattle.std.proofs.Common.{◌≡◌, ◌⊎◌, inl, inr, ℕ, ◌+◌, ◌≤◌, Bool, true, false, not, List, Option, refl, sym, ap, subst, ◌∙◌, arith}
-use Rattle.std.specs.Prelude.{◌==◌, ◌&&◌, max, if◌then◌else◌}
+use Rattle.std.specs.Prelude.{◌==◌, ◌&&◌, ◌||◌, max, if◌then◌else◌}
 use Rattle.std.proofs.lemmas.Bool.{and_from, eqb-true}
 use Rattle.std.proofs.Math.Nat.{max-le}
 use Rattle.spl_tree.specs.declared.names_and_places.At.{At}
@@ -18,18 +18,26 @@ use Rattle.spl_meaning.specs.References.{Setting}
 use Rattle.spl_code.specs.Calls.{Scope}
 use Rattle.spl_values.specs.Reached.{is_word_class}
 use Rattle.spl_values.proofs.VariableLemmas.{both}
-use Rattle.spl_covered.specs.Covered.{is_covered_name, is_covered_operator, is_covered}
+use Rattle.spl_carried.specs.Covered.{none_called}
+use Rattle.spl_word_operators.specs.Operators.{is_covered_operator}
+use Rattle.spl_names.specs.Names.{is_covered_name}
+use Rattle.spl_covered.specs.Covered.{is_word_call, is_covered, are_covered_arguments}
 use Rattle.thin_jobs.specs.ThinUnits as u
 use Rattle.thin_jobs.specs.ThinTrees.{tree_atom, tree_sum, operation}
 use Rattle.thin_jobs.specs.ThinShapes.{is_atom, is_sum}
 use Rattle.thin_covered.specs.Shown.{Shows}
 use Rattle.thin_covered.proofs.NameLemmas.{never}
 
+-- one of two tests is enough
+pub true_or : (a b : Bool) → a ≡ true → (a || b) ≡ true
+true_or true b e = refl
+true_or false b e = never e
+
 -- ---- 1. what is known of a part
 
 -- it is covered, it is an INTEGER or a constant, and no more words wait in it
 pub record Fits (c : Scope) (st : Setting) (e : Tree) (few : ℕ) : Type 0 where
-  pub covered : (k : ℕ) → is_covered c st e k ≡ true
+  pub covered : (k : ℕ) → is_covered none_called c st e k ≡ true
   pub integer : is_integer (kind_of c.names e) ≡ true
   pub waits : most c.names e ≤ few
 
@@ -81,7 +89,9 @@ integer_width unknown is = never is
 name_fits : {names : List (List ℕ)} {gates : List u.Gate} (c : Scope) (st : Setting) → Shows names gates c st → (x : List ℕ) (at : At)
     → u.is_declared names x ≡ true → Fits c st (tree.Tree.named x tree.Trees.none at) 0
 name_fits c st shows x at is = record {
-  covered = λ k. ap (λ (o : Option Sort). is_covered_name st k o (c.places x)) (shows.variable x is) ∙ shows.reached x is k;
+  covered = λ k. true_or (is_covered_name st k (c.names x) (c.places x))
+      (is_word_call none_called st x (c.names x) && are_covered_arguments none_called c st (profile_formals (callable (c.names x))) tree.Trees.none (k + profile_result_words (callable (c.names x))))
+      (ap (λ (o : Option Sort). is_covered_name st k o (c.places x)) (shows.variable x is) ∙ shows.reached x is k);
   integer = ap (λ (o : Option Sort). is_integer (named_operand o)) (shows.variable x is);
   waits = subst (λ (m : ℕ). m ≤ 0) (sym (ap (λ (o : Option Sort). max (most_of c.names (profile_formals (callable o)) (profile_result_words (callable o)) tree.Trees.none)
       (profile_result_words (callable o) + formals_words (profile_formals (callable o)) + link_words o)) (shows.variable x is))) (omega arith);
@@ -110,8 +120,8 @@ atom_fits c st shows (tree.Tree.bytes op a b count at) is = never is
 more_fits : (c : Scope) (st : Setting) (op : ℕ) (l r : Tree) (at : At) → IsSign op → Fits c st l 1 → Fits c st r 0
     → Fits c st (tree.Tree.binary op l r at) 1
 more_fits c st op l r at sign first second = record {
-  covered = λ k. tests (is_connective op) (is_covered_operator op && not (compares_text c.names op l r)) (is_word_class (class_of (kind_of c.names l) (kind_of c.names r))) (is_covered c st l k)
-      (is_covered c st r (k + operand_width (kind_of c.names l))) _ (no_connective op sign)
+  covered = λ k. tests (is_connective op) (is_covered_operator op && not (compares_text c.names op l r)) (is_word_class (class_of (kind_of c.names l) (kind_of c.names r))) (is_covered none_called c st l k)
+      (is_covered none_called c st r (k + operand_width (kind_of c.names l))) _ _ (no_connective op sign)
       (and_from (is_covered_operator op) (not (compares_text c.names op l r)) (sign_covered op sign) (ap not (no_text c.names op l r sign))) (ap is_word_class class) (first.covered k)
       (second.covered (k + operand_width (kind_of c.names l)));
   integer = kinds (gives_logical op) (class_of (kind_of c.names l) (kind_of c.names r)) (no_logical op sign) class;
@@ -122,13 +132,13 @@ more_fits c st op l r at sign first second = record {
     class : class_of (kind_of c.names l) (kind_of c.names r) ≡ integers
     class = integers_class (kind_of c.names l) (kind_of c.names r) first.integer second.integer
 
-    tests : (i o w a b other : Bool) → i ≡ false → o ≡ true → w ≡ true → a ≡ true → b ≡ true → (if i then other else o && w && a && b) ≡ true
-    tests true o w a b other ei eo ew ea eb = never (sym ei)
-    tests false true true true true other ei eo ew ea eb = refl
-    tests false true true true false other ei eo ew ea eb = never eb
-    tests false true true false b other ei eo ew ea eb = never ea
-    tests false true false a b other ei eo ew ea eb = never ew
-    tests false false w a b other ei eo ew ea eb = never eo
+    tests : (i o w a b other more : Bool) → i ≡ false → o ≡ true → w ≡ true → a ≡ true → b ≡ true → (if i then other else (o && w && a && b) || more) ≡ true
+    tests true o w a b other more ei eo ew ea eb = never (sym ei)
+    tests false true true true true other more ei eo ew ea eb = refl
+    tests false true true true false other more ei eo ew ea eb = never eb
+    tests false true true false b other more ei eo ew ea eb = never ea
+    tests false true false a b other more ei eo ew ea eb = never ew
+    tests false false w a b other more ei eo ew ea eb = never eo
 
     kinds : (g : Bool) (k : Class) → g ≡ false → k ≡ integers → is_integer (if g then of kind.Logical else class_operand k) ≡ true
     kinds true k eg ek = never (sym eg)

@@ -24,8 +24,8 @@ use Rattle.spl_scopes.specs.Scopes.{first_reached, global_places}
 use Rattle.spl_module_code.specs.Bodies.{is_called, statements_scope}
 use Rattle.spl_followed.specs.Mains.{main_setting}
 use Rattle.spl_values.proofs.VariableLemmas.{both}
-use Rattle.spl_covered.specs.Covered.{has_reached}
-use Rattle.spl_covered.proofs.OperatorLemmas.{four}
+use Rattle.spl_names.specs.Names.{has_reached}
+use Rattle.spl_word_operators.proofs.OperatorLemmas.{four}
 use Rattle.spl_carried.specs.Covered.{is_covered_body}
 use Rattle.thin_jobs.specs.ThinUnits as u
 use Rattle.thin_jobs.specs.ThinTrees as thin
@@ -35,7 +35,8 @@ use Rattle.thin_jobs.specs.Bytes.{is_name_byte}
 use Rattle.thin_covered.specs.Shown.{Shows}
 use Rattle.thin_covered.specs.Laws.{ThinUnitsAreCovered}
 use Rattle.thin_covered.proofs.NameLemmas.{never, turned, integers, IsOf, items_made, items_found, as_intrinsic, intrinsics_found, HasFront, intrinsics_behind, integer_found, integer_placed}
-use Rattle.thin_covered.proofs.StatementLemmas.{AllRun, list_fits, true_or}
+use Rattle.thin_covered.proofs.SumLemmas.{true_or}
+use Rattle.thin_covered.proofs.StatementLemmas.{AllRun, list_fits}
 
 -- ---- 1. the parts of a thin unit
 

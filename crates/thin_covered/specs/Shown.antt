@@ -5,7 +5,7 @@ use Rattle.spl_tree.specs.declared.expressions.Kind.TheVariants as kind
 use Rattle.spl_meaning.specs.Names as n
 use Rattle.spl_meaning.specs.References.{Setting}
 use Rattle.spl_code.specs.Calls.{Scope}
-use Rattle.spl_covered.specs.Covered.{has_reached}
+use Rattle.spl_names.specs.Names.{has_reached}
 use Rattle.thin_jobs.specs.ThinUnits as u
 
 -- A scope, with the setting of a body that is not split, shows the names of a thin unit: each variable is an INTEGER, whose word is reached

@@ -1,5 +1,5 @@
 -- Call by call.
-use Rattle.spl_calls.proofs.CallLemmas.{call_whole, call_performs}
+use Rattle.spl_calls.proofs.ProcedureLemmas.{call_whole, call_performs}
 use Rattle.spl_calls.proofs.AnswerLemmas.{answers_whole, answers_perform}
 use Rattle.spl_calls.proofs.laws.covered_calls_perform.Goals as goal
 

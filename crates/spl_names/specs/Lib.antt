@@ -1,0 +1,3 @@
+-- In reading order.
+pub mod Names
+pub mod Laws

@@ -1,9 +1,0 @@
--- Along the tree.
-use Rattle.spl_wide.proofs.WideLemmas.{wide_whole, wide_gives}
-use Rattle.spl_wide.proofs.laws.wide_values_simulate.Goals as goal
-
-pub returns-clause-whole : goal.returns-clause-whole
-returns-clause-whole c = wide_whole
-
-pub returns-clause-value : goal.returns-clause-value
-returns-clause-value c = wide_gives

@@ -1,0 +1,4 @@
+-- In reading order.
+pub mod OperatorLemmas
+pub mod UnaryLemmas
+pub mod DoubleLemmas
