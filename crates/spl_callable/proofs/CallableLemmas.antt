@@ -5,19 +5,17 @@ use Rattle.std.specs.List.{list_all}
 use Rattle.std.proofs.lemmas.Bool.{and_parts, false≢true, ltb-true}
 use Rattle.hp_instr.specs.declared.instruction.Instr.TheVariants as i
 use Rattle.hp_program.specs.declared.program.Program.{Program}
-use Rattle.hp_session.specs.State.{Machine}
 use Rattle.hp_steady.specs.Laws.{WordsAreNear}
 use Rattle.spl_tree.specs.declared.expressions.Kind.{Kind}
 use Rattle.spl_meaning.specs.Bodies.{Body, Named, program_of, body_named}
 use Rattle.spl_meaning.specs.Names as n
-use Rattle.spl_meaning.specs.Names.{Names, Sort, Profile, or_else}
-use Rattle.spl_meaning.specs.Pending.{formals_words}
+use Rattle.spl_meaning.specs.Names.{Sort, Profile, or_else}
+use Rattle.spl_meaning.specs.Pending.{formals_words, depth}
 use Rattle.spl_meaning.specs.Places.{Place}
-use Rattle.spl_meaning.specs.References.{Setting}
 use Rattle.spl_meaning.specs.Runs.{calls}
 use Rattle.spl_meaning.specs.StatementRules.{list_labels}
-use Rattle.spl_meaning.specs.States.{State, Exit, to_label, back, Outcome}
-use Rattle.spl_meaning.specs.Tables.{Source, Routine, routines_of}
+use Rattle.spl_meaning.specs.States.{Exit, to_label, back, Outcome}
+use Rattle.spl_meaning.specs.Tables.{Source, routines_of}
 use Rattle.spl_meaning.specs.Values.{procedure, Callee}
 use Rattle.spl_branch.specs.declared.modules.Module.{Module}
 use Rattle.spl_code.specs.Calls.{Scope}
@@ -25,20 +23,19 @@ use Rattle.spl_code.specs.Parts.{Wanted}
 use Rattle.spl_statement_code.specs.Landings.{Landing, Context}
 use Rattle.spl_scopes.specs.Entries.{routine, Entry, module_entries, procedure_index}
 use Rattle.spl_scopes.specs.Scopes.{Placed, first_reached, placed_units, routine_bodies, body_segment, global_places}
-use Rattle.spl_module_code.specs.Bodies.{is_called, seen_results, assigned_place, statements_scope}
+use Rattle.spl_module_code.specs.Bodies.{assigned_place, statements_scope}
 use Rattle.spl_carries.specs.Carries.{weight}
 use Rattle.spl_follow.specs.Calling.{Link}
 use Rattle.spl_follow.specs.Doing.{Way, body}
 use Rattle.spl_follow.specs.Following.{Rate, tally, Follows}
 use Rattle.spl_follow.specs.Parts.{Exits, Completes, Returning}
 use Rattle.spl_follow.specs.Simulating.{Surroundings}
-use Rattle.spl_follow.specs.Spots.{Spot, pos, Ground}
-use Rattle.spl_follow.specs.Standing.{Sites}
+use Rattle.spl_follow.specs.Spots.{Spot, Ground}
 use Rattle.spl_sites.specs.Grounds.{ground_of}
 use Rattle.spl_jumps.specs.Landed.{are_landed, MayJump}
 use Rattle.spl_links.specs.Links.{linked_by, procedure_link, name_link, links_of, MayCall}
-use Rattle.spl_names.specs.Names.{read_with}
-use Rattle.spl_readings.specs.Readings.{here_with, are_plain, PlaceAlike, BodiesReadAlike}
+use Rattle.spl_readings.specs.Readings.{are_plain, PlaceAlike, BodiesReadAlike}
+use Rattle.spl_stores.specs.Covered.{are_covered}
 use Rattle.spl_stores.specs.Laws.{MayReturn}
 use Rattle.spl_mains.specs.Laws.{CoveredBodiesFollow}
 use Rattle.spl_procedures.specs.Procedures.{ProcedureFramed, ProcedureStatementsFollow}
@@ -50,16 +47,16 @@ use Rattle.spl_callees.proofs.CalleeLemmas.{calls_follow}
 use Rattle.spl_routines.specs.Among.{IsIn}
 use Rattle.spl_routines.specs.Located.{MadeOf, Located, sites_at, wants_at}
 use Rattle.spl_routines.specs.Laws.{GatesAreServed}
-use Rattle.spl_routines.specs.Routines.{labels_from, routine_context}
+use Rattle.spl_routines.specs.Routines.{routine_context}
 use Rattle.spl_routines.proofs.ListLemmas.{in_all}
 use Rattle.spl_routes.specs.Found as route
 use Rattle.spl_routes.specs.Laws.{NamesMean}
 use Rattle.spl_routes.specs.Unique.{are_unique}
 use Rattle.spl_link_routes.specs.Laws.{LinksFind}
 use Rattle.spl_sound_jumps.specs.Laws.{LandsInRoutines}
-use Rattle.spl_callable.specs.Callable.{is_among, is_alike, are_alike, is_covered_body, is_covered_procedure, are_covered_procedures, are_callable, most_words, rate_of}
+use Rattle.spl_callable.specs.Callable.{is_among, are_alike, is_covered_body, is_covered_procedure, are_covered_procedures, are_callable, most_words}
 use Rattle.spl_callable.specs.Laws.{CallableProceduresFollow}
-use Rattle.spl_callable.proofs.ProfileLemmas.{sort_alike, name_alike, procedure_covered, procedure_known, words_most}
+use Rattle.spl_callable.proofs.ProfileLemmas.{sort_alike, name_alike, procedure_covered, procedure_known, procedure_lands, procedure_depth, words_most}
 
 -- ---- links
 
@@ -123,26 +120,23 @@ unfolding spot_of
 body_same one other e = ap (λ (w : Way). spot_of one w) e
 
 -- where the ways out of a body lead
-landing_at : (ℕ → Spot) → Spot → Option Landing → Spot
+abbrev landing_at : (ℕ → Spot) → Spot → Option Landing → Spot
 landing_at marks leave (Some l) = marks l.mark
 landing_at marks leave None = leave
 
-way_out : (List ℕ → Option Landing) → (ℕ → Spot) → Spot → Exit → Spot
+abbrev way_out : (List ℕ → Option Landing) → (ℕ → Spot) → Spot → Exit → Spot
 way_out at marks leave (to_label y) = landing_at marks leave (at y)
 way_out at marks leave back = leave
 
 module _ (called : SettableProceduresAreCalled) (links : LinksFind) (bodies : CoveredBodiesFollow) (routines : RoutinesAreProcedures) (alike : BodiesReadAlike)
     (mean : NamesMean) (served : GatesAreServed) (us : List Source) (p : Program) (near : WordsAreNear p) (ms : List Module) (f : MadeOf us p ms)
     (lands : (q : Placed) → IsIn q (placed_units (first_reached us) us) → LandsInRoutines q.unit) (xs : List (List ℕ)) (callable : are_callable xs us ≡ true)
-    (some : 2 ≤ weight p) where
+    (rate : Rate) (steps : rate.step ≡ weight p) (reaches : most_words (program_of us).procedures + 8 ≤ rate.reach) where
   abbrev procedures : List Named
   procedures = (program_of us).procedures
 
   abbrev ground : Ground
   ground = ground_of p near ms
-
-  abbrev rate : Rate
-  rate = rate_of p us some
 
   -- where a procedure of a name is entered
   abbrev Known : List ℕ → Spot → Type 0
@@ -207,7 +201,7 @@ module _ (called : SettableProceduresAreCalled) (links : LinksFind) (bodies : Co
     covered : (q : Placed) → IsIn q (placed_units (first_reached us) us) → are_covered_procedures xs procedures q 0 (routine_bodies q) ≡ true
 
   is_callable : (x : List ℕ) → is_among xs x ≡ true → IsCallable
-  is_callable x among = by xs callable among where
+  is_callable x among = let two = by xs callable among in record { unique = two.0; covered = two.1 } where
     by : (ys : List (List ℕ)) → are_callable ys us ≡ true → is_among ys x ≡ true
         → (are_unique us ≡ true) × ((q : Placed) → IsIn q (placed_units (first_reached us) us) → are_covered_procedures ys procedures q 0 (routine_bodies q) ≡ true)
     by [] e h = absurd (false≢true h)
@@ -237,10 +231,107 @@ module _ (called : SettableProceduresAreCalled) (links : LinksFind) (bodies : Co
 
     covered : is_covered_procedure xs procedures es k.number its ≡ true
     covered =
-        procedure_covered xs procedures k.unit 0 (routine_bodies k.unit) k.number k.named ((is_callable x among).covered k.unit k.among) k.there named_among
+        let none : 0 + k.number ≡ k.number = omega arith in
+        subst (λ (j : ℕ). is_covered_procedure xs procedures (module_entries k.unit.unit (body_segment k.unit.unit (routine j))) j its ≡ true) none
+        (procedure_covered xs procedures k.unit 0 (routine_bodies k.unit) k.number k.named ((is_callable x among).covered k.unit k.among) k.there named_among)
 
     both : ((are_settable its && nat_lt (formals_words its.profile.formals) 256) ≡ true)
         × ((are_plain its.here.names its.statements && is_covered_body xs procedures es (routine k.number) true its) ≡ true)
     both =
         and_parts (are_settable its && nat_lt (formals_words its.profile.formals) 256)
         (are_plain its.here.names its.statements && is_covered_body xs procedures es (routine k.number) true its) covered
+
+    body_covered : (are_plain its.here.names its.statements ≡ true) × (is_covered_body xs procedures es (routine k.number) true its ≡ true)
+    body_covered = and_parts (are_plain its.here.names its.statements) (is_covered_body xs procedures es (routine k.number) true its) both.1
+
+    list_covered : (are_alike xs procedures its.here.names ≡ true)
+        × (are_covered (is_among xs) true (statements_scope es (routine k.number) its) its.here.setting its.statements 0 ≡ true)
+    list_covered =
+        and_parts (are_alike xs procedures its.here.names)
+        (are_covered (is_among xs) true (statements_scope es (routine k.number) its) its.here.setting its.statements 0) body_covered.1
+
+    few : formals_words its.profile.formals < 256
+    few = ltb-true (formals_words its.profile.formals) 256 (and_parts (are_settable its) (nat_lt (formals_words its.profile.formals) 256) both.0).1
+
+    is : body_named procedures x ≡ Some its
+    is =
+        subst (λ (y : List ℕ). body_named procedures y ≡ Some its) k.name
+        (mean us (is_callable x among).unique k.unit k.among k.number k.named k.there)
+
+    start_is : (sites_at k.at).marks k.stands.entry ≡ start
+    start_is = sym (body_same start ((sites_at k.at).marks k.stands.entry) k.leads)
+
+    framed : ProcedureFramed ground rate (sites_at k.at) its start k.stands.first k.stands.leave k.stands.end
+    framed =
+        let most = words_most procedures x its is in
+        subst (λ (q : Spot). ProcedureFramed ground rate (sites_at k.at) its q k.stands.first k.stands.leave k.stands.end) start_is
+        (record {
+          entered = k.stands.enters;
+          left = k.stands.leaves;
+          whole = refl;
+          near = let far = k.stands.far in omega (arith, far, steps);
+          order = k.stands.rises;
+          reach = omega (arith, most, reaches);
+        })
+
+    -- its jumps and RETURN lead where they do
+    jumps : MayJump context.landings around [] 0
+    jumps = record {
+      marks = λ y l e. sym (ap (λ (o : Option Landing). landing_at (sites_at k.at).marks k.stands.leave o) e);
+      held = λ y l e named. absurd (false≢true e);
+      few = λ y l e named. absurd (false≢true e);
+    }
+
+    returns : true ≡ true → MayReturn context.leave around
+    returns e = record { leads = k.stands.left; held = refl }
+
+    -- its labels and jumps lead somewhere, and its room is its depth
+    landed : are_landed context.landings (list_labels its.statements) its.statements 0 ≡ true
+    landed =
+        procedure_lands (global_places k.unit) k.unit.at.own k.unit.at.own_arrays (routines_of k.unit.unit) k.number k.named k.there
+        (lands k.unit k.among) k.stands.labels
+
+    deep : its.depth' ≡ depth its.here.names its.statements
+    deep = procedure_depth (global_places k.unit) k.unit.at.own k.unit.at.own_arrays (routines_of k.unit.unit) k.number k.named k.there
+
+    -- its statements are followed, where calls in them are
+    follows : (call : Callee) (d : ℕ) → MayCall (is_among xs) context.scope around d call
+        → ProcedureStatementsFollow ground rate its call d k.stands.first k.stands.leave
+    follows call d may s m begins =
+        let falls = k.stands.falls in
+        let far = k.stands.far in
+        subst (λ (o : Outcome (Unit {0})). Follows ground rate 0 3 0 (tally s) m (Completes its.here.setting k.stands.leave 0 s.now m)
+        (Returning its.here.setting k.stands.leave 0 s.now m) o)
+        (sym (alike its.here.names its.here.results its.here.setting its.here.places (assigned_place its) call d its.number its.statements s
+        (places_alike its) body_covered.0))
+        (bodies (is_among xs) true context its.here.results around call d its.number its.depth' its.statements k.stands.first k.stands.leave k.stands.marks
+        k.stands.wants refl returns (let room = deep in omega (arith, room)) list_covered.1 k.stands.runs k.stands.front (omega (arith, falls, far, steps)) may jumps
+        landed s m begins)
+
+    stood : Stood ground rate (is_among xs) Known procedures x start
+    stood = record {
+      its = its;
+      is = is;
+      scope = context.scope;
+      sites = sites_at k.at;
+      wants = wants_at k.at;
+      exits = exits;
+      finds = finds k.unit k.among (body_segment k.unit.unit (routine k.number)) k.at context.scope refl list_covered.0;
+      first = k.stands.first;
+      leave = k.stands.leave;
+      end = k.stands.end;
+      framed = framed;
+      what = procedure_known routines (global_places k.unit) k.unit.at.own k.unit.at.own_arrays (routines_of k.unit.unit) k.number k.named k.there few;
+      settable = (and_parts (are_settable its) (nat_lt (formals_words its.profile.formals) 256) both.0).0;
+      follows = follows;
+    }
+
+pub callable_follow : SettableProceduresAreCalled → LinksFind → CoveredBodiesFollow → RoutinesAreProcedures → BodiesReadAlike → NamesMean → GatesAreServed
+    → CallableProceduresFollow
+callable_follow called links bodies routines alike mean served us p near ms f lands xs callable w steps reaches q there g at c own heads st x d b =
+    calls_follow called (Known called links bodies routines alike mean served us p near ms f lands xs callable w steps reaches)
+    (ground called links bodies routines alike mean served us p near ms f lands xs callable w steps reaches)
+    w (is_among xs) (program_of us).procedures
+    (λ y start among k. stood called links bodies routines alike mean served us p near ms f lands xs callable w steps reaches y start among k)
+    d b c (sites_at at) (wants_at at) st x
+    (finds called links bodies routines alike mean served us p near ms f lands xs callable w steps reaches q there g at c own heads)

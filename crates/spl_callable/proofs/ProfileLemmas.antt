@@ -7,27 +7,29 @@ use Rattle.spl_tree.specs.declared.expressions.Kind.TheVariants as kind
 use Rattle.spl_meaning.specs.Bodies.{Body, Named, body_named, named_bodies, procedure_body}
 use Rattle.spl_meaning.specs.DeclarationRules.{kind_number, same_formals, same_profile}
 use Rattle.spl_meaning.specs.Names as n
-use Rattle.spl_meaning.specs.Names.{Names, Sort, Table, Formal, Profile, same_name, same_flag, profile_of}
-use Rattle.spl_meaning.specs.Pending.{value_words, by_value, formal_words, formals_words}
+use Rattle.spl_meaning.specs.Names.{Names, Sort, Table, Formal, Profile, same_name, same_flag}
+use Rattle.spl_meaning.specs.Pending.{value_words, by_value, formal_words, formals_words, depth}
 use Rattle.spl_meaning.specs.Places.{Place, list_words, list_array_words}
 use Rattle.spl_meaning.specs.Tables.{Routine, routine_table}
 use Rattle.mpe_segmenter.proofs.PartLemmas.{equal_is}
 use Rattle.spl_scopes.specs.Entries.{routine, module_entries}
 use Rattle.spl_scopes.specs.Scopes.{Placed, body_segment}
 use Rattle.spl_callees.specs.Callees.{CallsAlike, profile_of_body}
+use Rattle.spl_places.specs.Programs.{Each}
 use Rattle.spl_procedures.specs.Laws.{RoutinesAreProcedures}
 use Rattle.spl_procedures.specs.Procedures.{IsProcedure}
+use Rattle.spl_sound_jumps.specs.Laws.{Lands, LandsInRoutine}
 use Rattle.spl_callable.specs.Callable.{is_among, is_alike, are_alike, is_covered_procedure, are_covered_procedures, most_words}
 
 -- ---- headings
 
 -- a kind by its number
 kind_of_number : ℕ → Option Kind
-kind_of_number 1 = Some kind.Integer
-kind_of_number 2 = Some kind.Logical
-kind_of_number 3 = Some kind.Byte
-kind_of_number 4 = Some kind.Double
-kind_of_number n = None
+kind_of_number n =
+    if n == 1 then Some kind.Integer else
+    if n == 2 then Some kind.Logical else
+    if n == 3 then Some kind.Byte else
+    if n == 4 then Some kind.Double else None
 
 kind_is : (o : Option Kind) → kind_of_number (kind_number o) ≡ o
 unfolding kind_of_number
@@ -128,6 +130,26 @@ procedure_known law globals own own_arrays (r ∷ rs) zero b there few =
     (law globals own own_arrays r (subst (λ (z : Named). formals_words z.body.profile.formals < 256) (sym same) few))
 procedure_known law globals own own_arrays (r ∷ rs) (suc i) b there few =
     procedure_known law globals (own + list_words true (routine_table r)) (own_arrays + list_array_words true (routine_table r)) rs i b there few
+
+-- its labels and jumps lead somewhere, where those of the unit's procedures do
+pub procedure_lands : (globals : Table Place) (own own_arrays : ℕ) (rs : List Routine) (i : ℕ) (b : Named)
+    → slice_get (named_bodies globals own own_arrays rs) i ≡ Some b → Each LandsInRoutine rs → Lands b.body.statements
+procedure_lands globals own own_arrays [] i b there each = cc
+procedure_lands globals own own_arrays (r ∷ rs) zero b there each =
+    let same : record { name = r.heading.name; body = procedure_body globals own own_arrays r } ≡ b = cc in
+    subst (λ (z : Named). Lands z.body.statements) same each.0
+procedure_lands globals own own_arrays (r ∷ rs) (suc i) b there each =
+    procedure_lands globals (own + list_words true (routine_table r)) (own_arrays + list_array_words true (routine_table r)) rs i b there each.1
+
+-- its room is its depth
+pub procedure_depth : (globals : Table Place) (own own_arrays : ℕ) (rs : List Routine) (i : ℕ) (b : Named)
+    → slice_get (named_bodies globals own own_arrays rs) i ≡ Some b → b.body.depth' ≡ depth b.body.here.names b.body.statements
+procedure_depth globals own own_arrays [] i b there = cc
+procedure_depth globals own own_arrays (r ∷ rs) zero b there =
+    let same : record { name = r.heading.name; body = procedure_body globals own own_arrays r } ≡ b = cc in
+    subst (λ (z : Named). z.body.depth' ≡ depth z.body.here.names z.body.statements) same refl
+procedure_depth globals own own_arrays (r ∷ rs) (suc i) b there =
+    procedure_depth globals (own + list_words true (routine_table r)) (own_arrays + list_array_words true (routine_table r)) rs i b there
 
 -- its local words are no more than those of the procedure that has most
 pub words_most : (bs : List Named) (x : List ℕ) (b : Body) → body_named bs x ≡ Some b → b.words ≤ most_words bs

@@ -1,7 +1,6 @@
 -- Which procedures of a program may be called: those of some names whose bodies are covered.
-use Rattle.std.specs.Prelude.{ℕ, suc, ◌+◌, ◌*◌, ◌≤◌, ◌&&◌, ◌||◌, not, nat_lt, max, Bool, true, false, List, [], ◌∷◌, Option, Some, None, if◌then◌else◌}
+use Rattle.std.specs.Prelude.{ℕ, suc, ◌&&◌, ◌||◌, not, nat_lt, max, Bool, true, false, List, [], ◌∷◌, Option, Some, None}
 use Rattle.std.specs.List.{list_all}
-use Rattle.hp_program.specs.declared.program.Program.{Program}
 use Rattle.spl_meaning.specs.Bodies.{Body, Named, program_of, body_named}
 use Rattle.spl_meaning.specs.DeclarationRules.{same_profile}
 use Rattle.spl_meaning.specs.Names as n
@@ -11,8 +10,6 @@ use Rattle.spl_meaning.specs.Tables.{Source}
 use Rattle.spl_scopes.specs.Entries.{Owner, routine, Entry, module_entries}
 use Rattle.spl_scopes.specs.Scopes.{Placed, first_reached, placed_units, routine_bodies, body_segment}
 use Rattle.spl_module_code.specs.Bodies.{statements_scope}
-use Rattle.spl_carries.specs.Carries.{weight}
-use Rattle.spl_follow.specs.Following.{Rate}
 use Rattle.spl_readings.specs.Readings.{are_plain}
 use Rattle.spl_cells.specs.Settable.{are_settable}
 use Rattle.spl_routes.specs.Unique.{are_unique}
@@ -65,14 +62,9 @@ are_callable (x ∷ xs) us =
     are_unique us
     && list_all (λ p. are_covered_procedures (x ∷ xs) (program_of us).procedures p 0 (routine_bodies p)) (placed_units (first_reached us) us)
 
--- ---- rates
+-- ---- local words
 
 -- the local words of the procedure that has most
 abbrev pub most_words : List Named → ℕ
 most_words [] = 0
 most_words (b ∷ bs) = max b.body.words (most_words bs)
-
--- A step of the run pays for as many of the machine as the program weighs; one of the machine lets as many of the run pass as the local words of any
--- procedure that become zero by one instruction.
-abbrev pub rate_of : (p : Program) → List Source → 2 ≤ weight p → Rate
-rate_of p us some = record { step = weight p; reach = most_words (program_of us).procedures + 8; word = some; enough = omega arith }

@@ -13,34 +13,35 @@ use Rattle.spl_follow.specs.Spots.{Spot}
 use Rattle.spl_follow.specs.Matching.{Arrives}
 use Rattle.spl_follow.specs.Following.{tally, Follows}
 use Rattle.spl_follow.specs.Parts.{Exits, Completes, Leaving, Returning}
-use Rattle.spl_follow.specs.Simulating.{Surroundings}
 use Rattle.spl_follow.proofs.FollowLemmas.{weaken}
 use Rattle.spl_follow.proofs.RowLemmas.{shown}
 use Rattle.spl_followed.specs.Mains.{main_setting}
 use Rattle.spl_links.specs.Links.{MayCall}
 use Rattle.spl_names.specs.Names.{read_with}
 use Rattle.spl_stores.proofs.CoverLemmas.{covered_list_performs}
-use Rattle.spl_mains.specs.Laws.{CoveredMainBodiesFollow}
+use Rattle.spl_mains.specs.Laws.{CoveredBodiesFollow, CoveredMainBodiesFollow}
 
 -- where a list is left with no word waiting, RETURN is behind it, and a jump shows what the run has
-left_returns : (x : Exits) (leave : Spot) (s : State) (m : Machine) → x.target back ≡ leave → (e : Exit) (t : State) (n : Machine)
-    → Leaving main_setting x 0 s.now m e t n → Returning main_setting leave 0 s.now m e t n
-left_returns x leave s m to back t n a =
+left_returns : (st : Setting) (x : Exits) (leave : Spot) (s : State) (m : Machine) → x.target back ≡ leave → (e : Exit) (t : State) (n : Machine)
+    → Leaving st x 0 s.now m e t n → Returning st leave 0 s.now m e t n
+left_returns st x leave s m to back t n a =
     let none : min (x.held back) 0 ≡ 0 = omega arith in
-    subst (λ (q : Spot). Arrives main_setting q 0 s.now m t n) to (subst (λ (j : ℕ). Arrives main_setting (x.target back) j s.now m t n) none a)
-left_returns x leave s m to (to_label y) t n a = shown main_setting t n (min (x.held (to_label y)) 0) a.matches
+    subst (λ (q : Spot). Arrives st q 0 s.now m t n) to (subst (λ (j : ℕ). Arrives st (x.target back) j s.now m t n) none a)
+left_returns st x leave s m to (to_label y) t n a = shown st t n (min (x.held (to_label y)) 0) a.matches
 
 -- its list is performed, and takes the jumps to its labels
+pub any_body_follows : CoveredBodiesFollow
+any_body_follows may returns c results z call d number need ss first leave l ws to return room covered stands front pays calls' jumps landed s m begins =
+    weaken z.ground z.rate 0 3 0 (tally s) m (Completes z.setting leave 0 s.now m) (Completes z.setting leave 0 s.now m)
+    (Leaving z.setting z.exits 0 s.now m) (Returning z.setting leave 0 s.now m) (run_body (read_with c.scope results z.setting) call d number ss s)
+    ((covered_list_performs may returns c results z call d number [] ss 0 need covered room calls' return jumps landed).does l ws first leave s m stands front pays begins)
+    (λ u t n a less. a) (left_returns z.setting z.exits leave s m to)
+
 pub bodies_follow : CoveredMainBodiesFollow
 bodies_follow may us b c z first leave l ws setting to here room covered stands front pays calls' jumps landed d s m begins =
-    let y : Surroundings = record z { setting = main_setting } in
-    let h = read_with c.scope b.here.results main_setting in
     let call : Callee = calls (program_of us).procedures d b in
-    let run = (covered_list_performs may false c b.here.results y call d b.number [] b.statements 0 b.depth' covered room
-    (subst (λ (st : Setting). MayCall may c.scope (record z { setting = st }) d call) setting (calls' d)) (λ e. absurd (false≢true e))
-    (record { marks = jumps.marks; held = jumps.held; few = jumps.few }) landed).does l ws first leave s m stands front pays begins in
     subst (λ (i : Here). Follows z.ground z.rate 0 3 0 (tally s) m (Completes main_setting leave 0 s.now m) (Returning main_setting leave 0 s.now m) (run_body i call d b.number b.statements s))
     (sym here)
-    (weaken z.ground z.rate 0 3 0 (tally s) m (Completes main_setting leave 0 s.now m) (Completes main_setting leave 0 s.now m)
-    (Leaving main_setting z.exits 0 s.now m) (Returning main_setting leave 0 s.now m) (run_body h call d b.number b.statements s) run (λ u t n a less. a)
-    (left_returns z.exits leave s m to))
+    (any_body_follows may false c b.here.results (record z { setting = main_setting }) call d b.number b.depth' b.statements first leave l ws to (λ e. absurd (false≢true e)) room covered
+    stands front pays (subst (λ (st : Setting). MayCall may c.scope (record z { setting = st }) d call) setting (calls' d))
+    (record { marks = jumps.marks; held = jumps.held; few = jumps.few }) landed s m begins)

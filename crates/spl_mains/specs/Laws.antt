@@ -1,27 +1,47 @@
--- The law of this crate.
-use Rattle.std.specs.Prelude.{◌≡◌, ℕ, ◌+◌, ◌≤◌, Bool, true, false, List, []}
+-- The laws of this crate.
+use Rattle.std.specs.Prelude.{◌≡◌, ℕ, ◌+◌, ◌≤◌, Bool, true, false, List, [], Option}
+use Rattle.hp_session.specs.State.{Machine}
+use Rattle.spl_tree.specs.declared.expressions.Kind.{Kind}
+use Rattle.spl_tree.specs.StatementTrees.{Statements}
 use Rattle.spl_meaning.specs.Bodies.{Body, program_of}
 use Rattle.spl_meaning.specs.Laws.{IsFront}
 use Rattle.spl_meaning.specs.Pending.{statements_most}
 use Rattle.spl_meaning.specs.StatementRules.{list_labels}
+use Rattle.spl_meaning.specs.Places.{Place}
 use Rattle.spl_meaning.specs.Runs.{calls}
-use Rattle.spl_meaning.specs.States.{back}
+use Rattle.spl_meaning.specs.States.{State, back}
+use Rattle.spl_meaning.specs.Statements.{run_body}
 use Rattle.spl_meaning.specs.Tables.{Source}
+use Rattle.spl_meaning.specs.Values.{Callee}
 use Rattle.spl_code.specs.Parts.{Wanted}
 use Rattle.spl_statement_code.specs.Landings.{Context}
 use Rattle.spl_statement_code.specs.Statements.{listed}
 use Rattle.spl_follow.specs.Spots.{Spot, pos, on}
+use Rattle.spl_follow.specs.Following.{tally, Follows}
+use Rattle.spl_follow.specs.Parts.{Begins, Completes, Returning}
 use Rattle.spl_follow.specs.Standing.{Stands}
 use Rattle.spl_follow.specs.Simulating.{Surroundings}
 use Rattle.spl_followed.specs.Mains.{main_setting, MainStatementsFollow}
 use Rattle.spl_names.specs.Names.{read_with}
 use Rattle.spl_jumps.specs.Landed.{are_landed, MayJump}
 use Rattle.spl_stores.specs.Covered.{are_covered}
+use Rattle.spl_stores.specs.Laws.{MayReturn}
 use Rattle.spl_links.specs.Links.{MayCall}
 
--- Where the code of a main body's statements stands from `first` to `leave`, all are covered, the code was made with the body's names and places,
--- the body's room is above all that waits in it, its calls find what they name, and its labels and jumps lead somewhere, they are followed. No
--- RETURN stands in them.
+-- Where the code of a body's statements stands from `first` to `leave`, all are covered, the code was made with the body's names and places, its room
+-- is above all that waits in them, its calls find what they name, RETURN leads to `leave` where it may stand, and its labels and jumps lead somewhere,
+-- they are followed.
+abbrev pub CoveredBodiesFollow : Type 0
+CoveredBodiesFollow = (may : List ℕ → Bool) (returns : Bool) (c : Context) (results : List ℕ → Option (Kind × Place)) (z : Surroundings) (call : Callee)
+    (d number need : ℕ) (ss : Statements) (first leave : Spot) (l : ℕ) (ws : List Wanted) → z.exits.target back ≡ leave
+    → (returns ≡ true → MayReturn c.leave z) → statements_most c.scope.names ss + 8 ≤ need → are_covered may returns c.scope z.setting ss 0 ≡ true
+    → Stands z.ground z.sites (on first) (listed c ss 0 l ws).pieces leave → IsFront (listed c ss 0 l ws).wants z.wants → pos leave ≤ z.rate.step
+    → MayCall may c.scope z d call → MayJump c.landings z [] 0 → are_landed c.landings (list_labels ss) ss 0 ≡ true
+    → (s : State) (m : Machine) → Begins z.setting d first 0 need s m
+    → Follows z.ground z.rate 0 3 0 (tally s) m (Completes z.setting leave 0 s.now m) (Returning z.setting leave 0 s.now m)
+    (run_body (read_with c.scope results z.setting) call d number ss s)
+
+-- So are those of a main body, in which no RETURN stands.
 abbrev pub CoveredMainBodiesFollow : Type 0
 CoveredMainBodiesFollow = (may : List ℕ → Bool) (us : List Source) (b : Body) (c : Context) (z : Surroundings) (first leave : Spot) (l : ℕ) (ws : List Wanted)
     → z.setting ≡ main_setting → z.exits.target back ≡ leave → b.here ≡ read_with c.scope b.here.results main_setting

@@ -1,7 +1,12 @@
-//! The law of this crate, as the contract of a function that does nothing.
-ghost use Rattle.spl_mains.specs.Laws.{CoveredMainBodiesFollow};
+//! The laws of this crate, as the contracts of functions that do nothing.
+ghost use Rattle.spl_mains.specs.Laws.{CoveredBodiesFollow, CoveredMainBodiesFollow};
 
-/// The statements of a main body, where each is covered.
+/// The statements of a body, where each is covered.
+pub fn covered_bodies_follow()
+    ensures { CoveredBodiesFollow }
+{}
+
+/// Those of a main body.
 pub fn covered_main_bodies_follow()
     ensures { CoveredMainBodiesFollow }
 {}

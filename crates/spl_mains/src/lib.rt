@@ -3,4 +3,4 @@
 
 mod laws;
 
-pub use laws::covered_main_bodies_follow;
+pub use laws::{covered_bodies_follow, covered_main_bodies_follow};
