@@ -1,6 +1,6 @@
 -- A program whose main body is covered follows the run of its units.
 use Rattle.std.proofs.Common.{◌≡◌, ℕ, ◌+◌, ◌≤◌, Bool, true, false, List, [], ◌∷◌, length, Option, Some, None, refl, sym, ap, subst, ◌∙◌, arith}
-use Rattle.std.specs.Prelude.{◌==◌, ◌||◌, not, nat_eq, option_map, codes, if◌then◌else◌}
+use Rattle.std.specs.Prelude.{◌==◌, ◌&&◌, ◌||◌, not, nat_eq, option_map, codes, if◌then◌else◌}
 use Rattle.std.specs.List.{list_all}
 use Rattle.std.proofs.lemmas.Bool.{and_parts, eqb-true, not-true, false≢true}
 use Rattle.hp_word.specs.declared.intrinsics.Intrinsic.TheVariants as gate
@@ -15,7 +15,7 @@ use Rattle.spl_meaning.specs.Names.{Names, or_else}
 use Rattle.spl_meaning.specs.Places.{Place}
 use Rattle.spl_meaning.specs.Tables.{Source}
 use Rattle.spl_meaning.specs.StatementRules.{list_labels}
-use Rattle.spl_meaning.specs.Bodies.{Body, Reached, reached_behind, main_body}
+use Rattle.spl_meaning.specs.Bodies.{Body, Named, Reached, reached_behind, main_body, program_of}
 use Rattle.spl_meaning.specs.Runs.{Seat}
 use Rattle.spl_branch.specs.declared.pieces.Piece.{Piece}
 use Rattle.spl_branch.specs.declared.modules.Module.{Module}
@@ -50,7 +50,7 @@ use Rattle.spl_endings.proofs.GateLemmas.{last_ends}
 use Rattle.spl_grants.proofs.GrantLemmas.{pieces_grant}
 use Rattle.spl_followed.specs.Mains.{MainFramed, MainStatementsFollow}
 use Rattle.spl_jumps.specs.Landed.{are_landed, MayJump}
-use Rattle.spl_sound_jumps.specs.Laws.{LandsInUnit, SoundMainsLand}
+use Rattle.spl_sound_jumps.specs.Laws.{LandsInUnit, LandsInRoutines, SoundMainsLand, SoundRoutinesLand}
 use Rattle.spl_places.specs.Programs.{Each}
 use Rattle.spl_stores.proofs.CoverLemmas.{list_clear}
 use Rattle.spl_mains.proofs.MainLemmas.{bodies_follow}
@@ -68,13 +68,16 @@ use Rattle.spl_routines.proofs.StandLemmas.{module_fits, module_stands, module_e
 use Rattle.spl_routines.proofs.GateLemmas.{gates_are_served}
 use Rattle.spl_carried.proofs.MainLemmas.{MainThere, main_there, main_is, same_entry}
 use Rattle.spl_carried.proofs.PieceLemmas.{landing_place, way_out, main_context, MainPieces, main_pieces, MainStands, main_stands}
-use Rattle.spl_covered.specs.Laws.{read_with}
+use Rattle.spl_names.specs.Names.{read_with}
+use Rattle.spl_callable.specs.Callable.{is_among, are_alike, is_covered_body, are_callable, most_words}
+use Rattle.spl_callable.specs.Laws.{CallableProceduresFollow}
+use Rattle.spl_stores.specs.Covered.{are_covered}
 use Rattle.spl_followed.specs.Mains.{main_setting}
 use Rattle.spl_carries.specs.Segments.{initial_words}
 use Rattle.spl_carries.specs.Carries.{weight, MaySit}
 use Rattle.spl_followed.specs.Followed.{Followed}
 use Rattle.spl_followed.specs.Mains.{FramedProgramsFollow}
-use Rattle.spl_carried.specs.Covered.{main_count, is_covered_body, is_covered_unit, is_covered_program}
+use Rattle.spl_carried.specs.Covered.{main_count, is_covered_unit, is_covered_program}
 
 -- ---- the scope of a main body
 
@@ -134,12 +137,21 @@ module _ (us : List Source) (p : Program) (ms : List Module) (f : MadeOf us p ms
     (lands : (q : Placed) → IsIn q (placed_units (first_reached us) us) → LandsInUnit q.unit) (unit : Placed)
     (there : IsIn unit (placed_units (first_reached us) us)) (at : Located ms unit unit.unit.tree.segment) (whole : unit.unit.subprogram ≡ false)
     (holds : holds_main unit unit.unit.tree.segment ≡ true)
-    (covered : is_covered_body (module_entries unit.unit unit.unit.tree.segment) (main_body (global_places unit) unit.unit) ≡ true) where
+    (xs : List (List ℕ)) (callees : CallableProceduresFollow) (routines : (q : Placed) → IsIn q (placed_units (first_reached us) us) → LandsInRoutines q.unit)
+    (callable : are_callable xs us ≡ true)
+    (all_covered : is_covered_body xs (program_of us).procedures (module_entries unit.unit unit.unit.tree.segment) main false (main_body (global_places unit) unit.unit) ≡ true) where
   abbrev es : List Entry
   es = module_entries unit.unit unit.unit.tree.segment
 
   abbrev body : Body
   body = main_body (global_places unit) unit.unit
+
+  abbrev procedures : List Named
+  procedures = (program_of us).procedures
+
+  covered_parts : (are_alike xs procedures body.here.names ≡ true) × (are_covered (is_among xs) false (statements_scope es main body) main_setting body.statements 0 ≡ true)
+  covered_parts =
+      and_parts (are_alike xs procedures body.here.names) (are_covered (is_among xs) false (statements_scope es main body) main_setting body.statements 0) all_covered
 
   abbrev ground : Ground
   ground = ground_of p (words_near p) ms
@@ -173,7 +185,7 @@ module _ (us : List Source) (p : Program) (ms : List Module) (f : MadeOf us p ms
   end = placed at.seg (at_left (sizes at.front + length at.here.words.items))
 
   clear : due_after false statements.pieces ≡ false
-  clear = list_clear context main_setting body.statements 0 covered (list_labels body.statements) landed parts_of.marks parts_of.wants
+  clear = list_clear (is_among xs) false context main_setting body.statements 0 covered_parts.1 (list_labels body.statements) landed parts_of.marks parts_of.wants
 
   stands : MainStands ground sites (length es) (granted body.depth') statements.pieces index end
   stands =
@@ -190,7 +202,7 @@ module _ (us : List Source) (p : Program) (ms : List Module) (f : MadeOf us p ms
   abbrev rate : Rate
   rate = record {
     step = weight p;
-    reach = 8;
+    reach = most_words procedures + 8;
     word = let rise = stands.call.rise in omega (arith, rise, far);
     enough = omega arith;
   }
@@ -250,14 +262,18 @@ module _ (us : List Source) (p : Program) (ms : List Module) (f : MadeOf us p ms
   followed : MainStatementsFollow ground rate us body stands.first stands.leave
   followed =
       let within = stands.within in
-      bodies_follow us body context around stands.first stands.leave parts_of.marks parts_of.wants refl refl
-      (here_is es unit) (omega arith) covered stands.statements_stand wanted (omega (arith, within, far)) (record { gates = gates }) jumps landed
+      bodies_follow (is_among xs) us body context around stands.first stands.leave parts_of.marks parts_of.wants refl refl
+      (here_is es unit) (omega arith) covered_parts.1 stands.statements_stand wanted (omega (arith, within, far))
+      (λ d. callees us p (words_near p) ms f routines xs callable rate refl (omega arith) unit there unit.unit.tree.segment at context.scope refl covered_parts.0
+      main_setting around.exits d body) jumps landed
 
 -- ---- the program
 
 -- a program whose main body is covered follows the run of its units, from each seat
 module _ (us : List Source) (p : Program) (ms : List Module) (f : MadeOf us p ms)
-    (lands : (q : Placed) → IsIn q (placed_units (first_reached us) us) → LandsInUnit q.unit) (covered : is_covered_program us ≡ true) where
+    (lands : (q : Placed) → IsIn q (placed_units (first_reached us) us) → LandsInUnit q.unit) (callees : CallableProceduresFollow)
+    (routines : (q : Placed) → IsIn q (placed_units (first_reached us) us) → LandsInRoutines q.unit) (xs : List (List ℕ))
+    (covered : is_covered_program xs us ≡ true) where
   abbrev main_module : MainThere us ms p.main p.entry
   main_module = main_there us ms p.main p.entry f.are f.main
 
@@ -299,15 +315,20 @@ module _ (us : List Source) (p : Program) (ms : List Module) (f : MadeOf us p ms
     finished = in_segment.finished main_small;
   }
 
-  both_of : (main_count us ≡ 1) × (list_all is_covered_unit (placed_units (first_reached us) us) ≡ true)
-  both_of =
-      let two = and_parts (main_count us == 1) (list_all is_covered_unit (placed_units (first_reached us) us)) covered in
-      (eqb-true (main_count us) 1 two.0, two.1)
+  abbrev is_unit : Placed → Bool
+  is_unit = is_covered_unit xs (program_of us).procedures
 
-  body_covered : is_covered_body (module_entries main_unit.unit main_unit.unit.tree.segment) (main_body (global_places main_unit) main_unit.unit) ≡ true
-  body_covered =
-      sym (ap (λ (b : Bool). b || is_covered_body (module_entries main_unit.unit main_unit.unit.tree.segment) (main_body (global_places main_unit) main_unit.unit)) main_of.whole)
-      ∙ in_all is_covered_unit main_unit (placed_units (first_reached us) us) main_module.of.there both_of.1
+  both_of : ((main_count us == 1 && are_callable xs us) ≡ true) × (list_all is_unit (placed_units (first_reached us) us) ≡ true)
+  both_of = and_parts (main_count us == 1 && are_callable xs us) (list_all is_unit (placed_units (first_reached us) us)) covered
+
+  first_two : (main_count us ≡ 1) × (are_callable xs us ≡ true)
+  first_two = let two = and_parts (main_count us == 1) (are_callable xs us) both_of.0 in (eqb-true (main_count us) 1 two.0, two.1)
+
+  abbrev is_body : Bool
+  is_body = is_covered_body xs (program_of us).procedures (module_entries main_unit.unit main_unit.unit.tree.segment) main false (main_body (global_places main_unit) main_unit.unit)
+
+  body_covered : is_body ≡ true
+  body_covered = sym (ap (λ (b : Bool). b || is_body) main_of.whole) ∙ in_all is_unit main_unit (placed_units (first_reached us) us) main_module.of.there both_of.1
 
   starts : start_of p ≡ sizes main_module.front + (in_segment.finished main_small).marks (length (module_entries main_unit.unit main_unit.unit.tree.segment))
   starts =
@@ -319,17 +340,17 @@ module _ (us : List Source) (p : Program) (ms : List Module) (f : MadeOf us p ms
   pub program_follows : FramedProgramsFollow → p.globals.items ≡ initial_words us → (seat : Seat) → MaySit us seat → Followed p us seat
   program_follows law globals seat sits =
       let there = main_module.of.there in
-      law p us seat (ground us p ms f lands main_unit there located main_of.whole main_of.holds body_covered)
-      (rate us p ms f lands main_unit there located main_of.whole main_of.holds body_covered)
-      (body us p ms f lands main_unit there located main_of.whole main_of.holds body_covered)
-      ((sites us p ms f lands main_unit there located main_of.whole main_of.holds body_covered).marks
+      law p us seat (ground us p ms f lands main_unit there located main_of.whole main_of.holds xs callees routines first_two.1 body_covered)
+      (rate us p ms f lands main_unit there located main_of.whole main_of.holds xs callees routines first_two.1 body_covered)
+      (body us p ms f lands main_unit there located main_of.whole main_of.holds xs callees routines first_two.1 body_covered)
+      ((sites us p ms f lands main_unit there located main_of.whole main_of.holds xs callees routines first_two.1 body_covered).marks
       (length (module_entries main_unit.unit main_unit.unit.tree.segment)))
-      (stands us p ms f lands main_unit there located main_of.whole main_of.holds body_covered).first
-      (stands us p ms f lands main_unit there located main_of.whole main_of.holds body_covered).leave
-      refl (omega arith) globals sits (main_is us main_unit both_of.0 there main_of.whole)
+      (stands us p ms f lands main_unit there located main_of.whole main_of.holds xs callees routines first_two.1 body_covered).first
+      (stands us p ms f lands main_unit there located main_of.whole main_of.holds xs callees routines first_two.1 body_covered).leave
+      refl (omega arith) globals sits (main_is us main_unit first_two.0 there main_of.whole)
       (ap (λ (k : ℕ). word_of p.main k) starts)
-      (framed us p ms f lands main_unit there located main_of.whole main_of.holds body_covered)
-      (followed us p ms f lands main_unit there located main_of.whole main_of.holds body_covered)
+      (framed us p ms f lands main_unit there located main_of.whole main_of.holds xs callees routines first_two.1 body_covered)
+      (followed us p ms f lands main_unit there located main_of.whole main_of.holds xs callees routines first_two.1 body_covered)
 
 -- ---- all of it
 
@@ -352,10 +373,10 @@ made_of us ms globals p is none kinds well = record {
   well = λ q g there. let at = place_of q (placed_units (first_reached us) us) there in well us is.spelled is.sound at.0 q at.1 g;
 }
 
-pub carried : CodesHaveKinds → SoundCodesBeginWell → SoundMainsLand → ProgramsKeepBounds → DataWordsAreInitial → FramedProgramsFollow
-    → FollowedProgramsCarry → CoveredProgramsCarry
-carried kinds well lands bounds initial framed carry us ms globals p is numbers none laid covered =
+pub carried : CodesHaveKinds → SoundCodesBeginWell → SoundMainsLand → SoundRoutinesLand → ProgramsKeepBounds → DataWordsAreInitial → FramedProgramsFollow
+    → FollowedProgramsCarry → CallableProceduresFollow → CoveredProgramsCarry
+carried kinds well lands routines bounds initial framed carry callees us ms globals p is numbers none laid xs covered =
     let words = is.makes.data_words ∙ (initial us globals laid).1 in
     carry p us (bounds us ms globals p is numbers) words
-    (program_follows us p ms (made_of us ms globals p is none kinds well) (λ q there. each_placed LandsInUnit (first_reached us) us q (lands us is.sound) there)
-    covered framed words)
+    (program_follows us p ms (made_of us ms globals p is none kinds well) (λ q there. each_placed LandsInUnit (first_reached us) us q (lands us is.sound) there) callees
+    (λ q there. each_placed LandsInRoutines (first_reached us) us q (routines us is.sound) there) xs covered framed words)

@@ -15,9 +15,9 @@ use Rattle.spl_bounds.specs.Programs.{IsOf}
 use Rattle.spl_carried.specs.Covered.{is_covered_program}
 
 -- A program that modules of units make, which have no fault, with the data words of these units, carries them: where the units break no rule and
--- pass no limit, number their segments, and are covered.
+-- pass no limit, number their segments, and are covered, with calls of procedures of some names.
 abbrev pub CoveredProgramsCarry : Type 0
 CoveredProgramsCarry = (us : List Source) (ms : List Module) (globals : List ℕ) (p : Program) → IsOf us ms globals p → Each NumbersSegments us
     → first_fault ms ≡ None
     → memory_of globals ≡ put_initials global_address (program_of us).initials (put_cells global_address (program_of us).cells (zeros (data_words us)))
-    → is_covered_program us ≡ true → Carries p us
+    → (xs : List (List ℕ)) → is_covered_program xs us ≡ true → Carries p us

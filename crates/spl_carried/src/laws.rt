@@ -2,18 +2,21 @@
 ghost use Rattle.spl_carried.specs.Laws.{CoveredProgramsCarry};
 
 use spl_bounds::{data_words_are_initial, programs_keep_bounds};
+use spl_callable::callable_procedures_follow;
 use spl_followed::{followed_programs_carry, main_bodies_follow};
 use spl_piece_kinds::modules_have_kinds;
 use spl_sound_beginnings::sound_units_begin_well;
-use spl_sound_jumps::sound_jumps_land;
+use spl_sound_jumps::{sound_jumps_land, sound_routines_land};
 
-/// A program that is made of units whose main body is covered carries them.
+/// A program that is made of units whose main body is covered, with calls of procedures that are, carries them.
 pub fn covered_programs_carry()
     ensures { CoveredProgramsCarry }
 {
     modules_have_kinds();
     sound_units_begin_well();
     sound_jumps_land();
+    sound_routines_land();
+    callable_procedures_follow();
     programs_keep_bounds();
     data_words_are_initial();
     main_bodies_follow();
