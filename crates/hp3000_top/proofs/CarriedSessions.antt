@@ -86,7 +86,7 @@ covered_texts_carry numbers law texts us q k b =
       are_modules = b.are_modules;
       makes = b.linked.makes;
       links = b.linked.links;
-    }) (all_number numbers k.beyond.program.spell.cut k.beyond.program.spell.units) b.linked.faultless b.is_layout.globals k.covered
+    }) (all_number numbers k.beyond.program.spell.cut k.beyond.program.spell.units) b.linked.faultless b.is_layout.globals k.callees k.covered
 
 -- what the sessions of covered programs stand on
 pub record SourceLaws : Type 0 where

@@ -136,7 +136,7 @@ pub record EachIsAsAlone (job : JobValue) (runs : List Run) : Type 0 where
       → slice_get runs k ≡ Some r → (unit : u.Unit) → IsWithin t.units unit → IsAsAlone unit seat r
   pub follows : (k : ℕ) (seat : SeatValue) (t : TextValue) (r : Run) → slice_get job.sessions k ≡ Some seat → slice_get job.programs seat.program ≡ Some t
       → slice_get runs k ≡ Some r → (us : List Source) → IsCovered t.units us → FollowsUnits us seat r
-  pub thin_too : (texts : List (List ℕ)) (unit : u.Unit) (w : IsWithin texts unit) → is_covered_program (w.thin.source ∷ []) ≡ true
+  pub thin_too : (texts : List (List ℕ)) (unit : u.Unit) (w : IsWithin texts unit) → is_covered_program [] (w.thin.source ∷ []) ≡ true
 
 -- what was told is of a world of the job's sessions in which each is so, and the programs carry what they are made of
 pub record ReportsAsAlone (v : Verb) (bytes : List ℕ) (made : List Program) (old new : Option (List ℕ)) : Type 0 where

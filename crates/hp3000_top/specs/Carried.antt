@@ -16,10 +16,11 @@ use Rattle.hp3000_top.specs.Programs.{IsBeyond, IsWithin}
 abbrev pub is_byte : ℕ → Bool
 is_byte b = nat_lt b 256
 
--- the texts of a program are those of these units, which are no thin unit within its bounds, and are covered
+-- the texts of a program are those of these units, which are no thin unit within its bounds, and are covered, with calls of procedures of some names
 pub record IsCovered (texts : List (List ℕ)) (us : List Source) : Type 0 where
   pub beyond : IsBeyond texts us
-  pub covered : is_covered_program us ≡ true
+  pub callees : List (List ℕ)
+  pub covered : is_covered_program callees us ≡ true
 
 -- Programs made of texts, each at its text's place, carry what these are the texts of: a thin unit within its bounds, or other units that are covered. So
 -- for every seat the machine follows the source's run, and that run comes to wherever the machine does.

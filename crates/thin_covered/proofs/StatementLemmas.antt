@@ -20,7 +20,7 @@ use Rattle.spl_meaning.specs.References.{Setting}
 use Rattle.spl_code.specs.Calls.{Scope}
 use Rattle.spl_values.proofs.VariableLemmas.{both}
 use Rattle.spl_covered.specs.Covered.{is_covered}
-use Rattle.spl_carried.specs.Covered.{none_called}
+use Rattle.spl_callable.specs.Callable.{is_among}
 use Rattle.spl_targets.specs.Targets.{is_led_target}
 use Rattle.spl_calls.specs.Covered.{is_covered_call, is_covered_answer}
 use Rattle.spl_wide.specs.Wide.{is_wide_assignment}
@@ -34,7 +34,7 @@ use Rattle.thin_covered.proofs.SumLemmas.{true_or, sum_fits}
 
 -- a statement is covered where nothing waits, and at most one word waits in it
 pub record Runs (c : Scope) (st : Setting) (s : Statement) : Type 0 where
-  pub covered : is_covered_statement none_called false c st s 0 ≡ true
+  pub covered : is_covered_statement (is_among []) false c st s 0 ≡ true
   pub waits : statement_most c.names s ≤ 1
 
 -- both of two tests
@@ -60,11 +60,11 @@ stored_fits {names} c st shows x a at e is short =
     let sum = sum_fits c st shows e (short_sum names (tree_sum e) short) in
     let target = ap (λ (o : Option Sort). is_stored_name st 0 o (c.places x)) (shows.variable x is) ∙ shows.reached x is 0 in
     let to = stat.Target.plain (tree.Tree.named x tree.Trees.none a) in
-    let led = is_led_target none_called c st to 0 in
+    let led = is_led_target (is_among []) c st to 0 in
     let few = sum.waits in
     record {
-      covered = true_or (is_covered_store none_called c st to e 0) (is_wide_assignment none_called c st to e 0 || is_covered_answer none_called c st to e 0)
-          (all_true (is_stored_name st 0 (c.names x) (c.places x) || led) (is_covered none_called c st e 0) (true_or (is_stored_name st 0 (c.names x) (c.places x)) led target) (sum.covered 0));
+      covered = true_or (is_covered_store (is_among []) c st to e 0) (is_wide_assignment (is_among []) c st to e 0 || is_covered_answer (is_among []) c st to e 0)
+          (all_true (is_stored_name st 0 (c.names x) (c.places x) || led) (is_covered (is_among []) c st e 0) (true_or (is_stored_name st 0 (c.names x) (c.places x)) led target) (sum.covered 0));
       waits = max-le (omega arith) few;
     }
 
@@ -98,10 +98,10 @@ call_most c o es =
     (profile_result_words (callable o) + formals_words (profile_formals (callable o)) + link_words o)
 
 -- a call by what its name stands for
-called : (c : Scope) (st : Setting) (x : List ℕ) (es : Trees) (at : At) (o : Option Sort) → c.names x ≡ o → is_covered_call none_called c st x o es 0 ≡ true → call_most c o es ≤ 1
+called : (c : Scope) (st : Setting) (x : List ℕ) (es : Trees) (at : At) (o : Option Sort) → c.names x ≡ o → is_covered_call (is_among []) c st x o es 0 ≡ true → call_most c o es ≤ 1
     → Runs c st (stat.Statement.call x es at)
 called c st x es at o is covered few = record {
-  covered = ap (λ (p : Option Sort). is_covered_call none_called c st x p es 0) is ∙ covered;
+  covered = ap (λ (p : Option Sort). is_covered_call (is_among []) c st x p es 0) is ∙ covered;
   waits = subst (λ (p : Option Sort). call_most c p es ≤ 1) (sym is) few;
 }
 
@@ -119,8 +119,8 @@ quit_fits {names} c st shows e at has short =
     let sum = sum_fits c st shows e (short_sum names (tree_sum e) short) in
     let few = sum.waits in
     called c st (codes "QUIT") (tree.Trees.and e tree.Trees.none) at (Some (n.intrinsic gate.Quit)) (shows.quit has)
-    (true_or (not st.split && (is_covered none_called c st e 0 && true)) false
-    (all_true (not st.split) (is_covered none_called c st e 0 && true) (no_split st.split shows.whole) (all_true (is_covered none_called c st e 0) true (sum.covered 0) refl)))
+    (true_or (not st.split && (is_covered (is_among []) c st e 0 && true)) false
+    (all_true (not st.split) (is_covered (is_among []) c st e 0 && true) (no_split st.split shows.whole) (all_true (is_covered (is_among []) c st e 0) true (sum.covered 0) refl)))
     (max-le (max-le (omega (arith, few)) (omega arith)) (omega arith))
 
 -- by its arguments and its name
@@ -166,7 +166,7 @@ statement_fits c st shows (stat.Statement.do_effect e at) is = never is
 
 -- so it is with a list
 pub record AllRun (c : Scope) (st : Setting) (ss : Statements) : Type 0 where
-  pub covered : are_covered none_called false c st ss 0 ≡ true
+  pub covered : are_covered (is_among []) false c st ss 0 ≡ true
   pub waits : statements_most c.names ss ≤ 1
 
 -- one behind the other
@@ -178,6 +178,6 @@ list_fits {names} {gates} c st shows (s ∷ ss) is =
     let one = statement_fits c st shows s two.0 in
     let rest = list_fits c st shows ss two.1 in
     record {
-      covered = all_true (is_covered_statement none_called false c st s 0) (are_covered none_called false c st (statements ss) 0) one.covered rest.covered;
+      covered = all_true (is_covered_statement (is_among []) false c st s 0) (are_covered (is_among []) false c st (statements ss) 0) one.covered rest.covered;
       waits = max-le one.waits rest.waits;
     }

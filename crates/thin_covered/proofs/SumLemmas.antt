@@ -4,7 +4,7 @@
 -- 3. an operand                               (atom_fits)
 -- 4. a sum, along the tree                    (sum_fits)
 use Rattle.std.proofs.Common.{◌≡◌, ◌⊎◌, inl, inr, ℕ, ◌+◌, ◌≤◌, Bool, true, false, not, List, Option, refl, sym, ap, subst, ◌∙◌, arith}
-use Rattle.std.specs.Prelude.{◌==◌, ◌&&◌, ◌||◌, max, if◌then◌else◌}
+use Rattle.std.specs.Prelude.{[], ◌==◌, ◌&&◌, ◌||◌, max, if◌then◌else◌}
 use Rattle.std.proofs.lemmas.Bool.{and_from, eqb-true}
 use Rattle.std.proofs.Math.Nat.{max-le}
 use Rattle.spl_tree.specs.declared.names_and_places.At.{At}
@@ -18,7 +18,7 @@ use Rattle.spl_meaning.specs.References.{Setting}
 use Rattle.spl_code.specs.Calls.{Scope}
 use Rattle.spl_values.specs.Reached.{is_word_class}
 use Rattle.spl_values.proofs.VariableLemmas.{both}
-use Rattle.spl_carried.specs.Covered.{none_called}
+use Rattle.spl_callable.specs.Callable.{is_among}
 use Rattle.spl_word_operators.specs.Operators.{is_covered_operator}
 use Rattle.spl_names.specs.Names.{is_covered_name}
 use Rattle.spl_covered.specs.Covered.{is_word_call, is_covered, are_covered_arguments}
@@ -37,7 +37,7 @@ true_or false b e = never e
 
 -- it is covered, it is an INTEGER or a constant, and no more words wait in it
 pub record Fits (c : Scope) (st : Setting) (e : Tree) (few : ℕ) : Type 0 where
-  pub covered : (k : ℕ) → is_covered none_called c st e k ≡ true
+  pub covered : (k : ℕ) → is_covered (is_among []) c st e k ≡ true
   pub integer : is_integer (kind_of c.names e) ≡ true
   pub waits : most c.names e ≤ few
 
@@ -90,7 +90,7 @@ name_fits : {names : List (List ℕ)} {gates : List u.Gate} (c : Scope) (st : Se
     → u.is_declared names x ≡ true → Fits c st (tree.Tree.named x tree.Trees.none at) 0
 name_fits c st shows x at is = record {
   covered = λ k. true_or (is_covered_name st k (c.names x) (c.places x))
-      (is_word_call none_called st x (c.names x) && are_covered_arguments none_called c st (profile_formals (callable (c.names x))) tree.Trees.none (k + profile_result_words (callable (c.names x))))
+      (is_word_call (is_among []) st x (c.names x) && are_covered_arguments (is_among []) c st (profile_formals (callable (c.names x))) tree.Trees.none (k + profile_result_words (callable (c.names x))))
       (ap (λ (o : Option Sort). is_covered_name st k o (c.places x)) (shows.variable x is) ∙ shows.reached x is k);
   integer = ap (λ (o : Option Sort). is_integer (named_operand o)) (shows.variable x is);
   waits = subst (λ (m : ℕ). m ≤ 0) (sym (ap (λ (o : Option Sort). max (most_of c.names (profile_formals (callable o)) (profile_result_words (callable o)) tree.Trees.none)
@@ -120,8 +120,8 @@ atom_fits c st shows (tree.Tree.bytes op a b count at) is = never is
 more_fits : (c : Scope) (st : Setting) (op : ℕ) (l r : Tree) (at : At) → IsSign op → Fits c st l 1 → Fits c st r 0
     → Fits c st (tree.Tree.binary op l r at) 1
 more_fits c st op l r at sign first second = record {
-  covered = λ k. tests (is_connective op) (is_covered_operator op && not (compares_text c.names op l r)) (is_word_class (class_of (kind_of c.names l) (kind_of c.names r))) (is_covered none_called c st l k)
-      (is_covered none_called c st r (k + operand_width (kind_of c.names l))) _ _ (no_connective op sign)
+  covered = λ k. tests (is_connective op) (is_covered_operator op && not (compares_text c.names op l r)) (is_word_class (class_of (kind_of c.names l) (kind_of c.names r))) (is_covered (is_among []) c st l k)
+      (is_covered (is_among []) c st r (k + operand_width (kind_of c.names l))) _ _ (no_connective op sign)
       (and_from (is_covered_operator op) (not (compares_text c.names op l r)) (sign_covered op sign) (ap not (no_text c.names op l r sign))) (ap is_word_class class) (first.covered k)
       (second.covered (k + operand_width (kind_of c.names l)));
   integer = kinds (gives_logical op) (class_of (kind_of c.names l) (kind_of c.names r)) (no_logical op sign) class;

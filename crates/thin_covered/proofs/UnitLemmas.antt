@@ -16,7 +16,7 @@ use Rattle.spl_tree.specs.StatementTrees.{Statement, statements}
 use Rattle.spl_meaning.specs.Names.{Sort, Table, find, or_else, nothing_declared}
 use Rattle.spl_meaning.specs.Tables.{Source, with_items, with_intrinsics, with_declarations, unit_table}
 use Rattle.spl_meaning.specs.Places.{Place, data_word, places_from}
-use Rattle.spl_meaning.specs.Bodies.{Body, main_body}
+use Rattle.spl_meaning.specs.Bodies.{Body, main_body, program_of}
 use Rattle.spl_code.specs.Calls.{Scope}
 use Rattle.spl_scopes.specs.Entries.{main, Entry, module_entries}
 use Rattle.spl_scopes.specs.Scopes as scopes
@@ -26,7 +26,7 @@ use Rattle.spl_followed.specs.Mains.{main_setting}
 use Rattle.spl_values.proofs.VariableLemmas.{both}
 use Rattle.spl_names.specs.Names.{has_reached}
 use Rattle.spl_word_operators.proofs.OperatorLemmas.{four}
-use Rattle.spl_carried.specs.Covered.{is_covered_body}
+use Rattle.spl_callable.specs.Callable.{is_covered_body}
 use Rattle.thin_jobs.specs.ThinUnits as u
 use Rattle.thin_jobs.specs.ThinTrees as thin
 use Rattle.thin_jobs.specs.ThinTrees.{tree_statement, gate_of}
@@ -238,7 +238,7 @@ no_result false o = refl
 
 -- behind them the places of a main body's statements are those of its unit's table
 body_covered : (source : Source) (es : List Entry) → IsThinTree source.tree.items source.tree.statements
-    → is_covered_body es (main_body (places_from data_word 0 0 (unit_table source)) source) ≡ true
+    → is_covered_body [] (program_of (source ∷ [])).procedures es main false (main_body (places_from data_word 0 0 (unit_table source)) source) ≡ true
 body_covered source es tree = run.covered
   where
     body : Body
@@ -258,7 +258,7 @@ body_covered source es tree = run.covered
         source.tree.statements tree.use_these
 
 -- one unit with such a body
-one_unit : (b c : Bool) → b ≡ false → c ≡ true → (((if b then 0 else 1) + 0 == 1) && ((b || c) && true)) ≡ true
+one_unit : (b c : Bool) → b ≡ false → c ≡ true → ((((if b then 0 else 1) + 0 == 1) && true) && ((b || c) && true)) ≡ true
 one_unit false true eb ec = refl
 one_unit false false eb ec = never ec
 one_unit true c eb ec = never (sym eb)
@@ -269,5 +269,5 @@ thin_covered source unit e =
     let tests = some_where (not source.subprogram && is_first_segment source.segments) (tree_unit source.tree.items source.tree.statements) unit e in
     let outer = both (not source.subprogram) (is_first_segment source.segments) tests.0 in
     let placed : scopes.Placed = record { at = first_reached (source ∷ []); unit = source } in
-    one_unit source.subprogram (is_covered_body (module_entries source source.tree.segment) (main_body (global_places placed) source)) (not-true source.subprogram outer.0)
+    one_unit source.subprogram (is_covered_body [] (program_of (source ∷ [])).procedures (module_entries source source.tree.segment) main false (main_body (global_places placed) source)) (not-true source.subprogram outer.0)
     (body_covered source (module_entries source source.tree.segment) (tree_parts source.tree.items source.tree.statements unit tests.1))

@@ -7,7 +7,8 @@ use Rattle.spl_meaning.specs.References.{Setting}
 use Rattle.spl_meaning.specs.Tables.{Source}
 use Rattle.spl_code.specs.Calls.{Scope}
 use Rattle.spl_stores.specs.Covered.{are_covered}
-use Rattle.spl_carried.specs.Covered.{none_called, is_covered_program}
+use Rattle.spl_callable.specs.Callable.{is_among}
+use Rattle.spl_carried.specs.Covered.{is_covered_program}
 use Rattle.thin_jobs.specs.ThinUnits as u
 use Rattle.thin_jobs.specs.ThinTrees.{tree_statement}
 use Rattle.thin_jobs.specs.ThinShapes.{is_statement, thin_in}
@@ -17,9 +18,9 @@ use Rattle.thin_covered.specs.Shown.{Shows}
 abbrev pub ThinStatementsAreCovered : Type 0
 ThinStatementsAreCovered = (names : List (List ℕ)) (gates : List u.Gate) (c : Scope) (st : Setting) → Shows names gates c st → (ss : List Statement)
     → list_all (is_statement names gates) (map tree_statement ss) ≡ true
-    → (are_covered none_called false c st (statements ss) 0 ≡ true) × (statements_most c.names (statements ss) ≤ 1)
+    → (are_covered (is_among []) false c st (statements ss) 0 ≡ true) × (statements_most c.names (statements ss) ≤ 1)
 
 -- A program of one unit is covered, where that is a thin one.
 abbrev pub ThinUnitsAreCovered : Type 0
 ThinUnitsAreCovered = (source : Source) (unit : u.Unit) → thin_in source.subprogram source.segments source.tree ≡ Some unit
-    → is_covered_program (source ∷ []) ≡ true
+    → is_covered_program [] (source ∷ []) ≡ true
