@@ -1,5 +1,5 @@
 -- A program whose main body is covered follows the run of its units.
-use Rattle.std.proofs.Common.{◌≡◌, ℕ, ◌+◌, ◌≤◌, Bool, true, false, List, [], ◌∷◌, length, Option, Some, None, refl, sym, ap, subst, ◌∙◌, arith}
+use Rattle.std.proofs.Common.{◌≡◌, ℕ, ◌+◌, ◌≤◌, Bool, true, false, List, [], length, Option, Some, None, refl, sym, ap, subst, ◌∙◌, arith}
 use Rattle.std.specs.Prelude.{◌==◌, ◌&&◌, ◌||◌, not, nat_eq, option_map, codes, if◌then◌else◌}
 use Rattle.std.specs.List.{list_all}
 use Rattle.std.proofs.lemmas.Bool.{and_parts, eqb-true, not-true, false≢true}
@@ -15,7 +15,7 @@ use Rattle.spl_meaning.specs.Names.{Names, or_else}
 use Rattle.spl_meaning.specs.Places.{Place}
 use Rattle.spl_meaning.specs.Tables.{Source}
 use Rattle.spl_meaning.specs.StatementRules.{list_labels}
-use Rattle.spl_meaning.specs.Bodies.{Body, Named, Reached, reached_behind, main_body, program_of}
+use Rattle.spl_meaning.specs.Bodies.{Body, Named, main_body, program_of}
 use Rattle.spl_meaning.specs.Runs.{Seat}
 use Rattle.spl_branch.specs.declared.pieces.Piece.{Piece}
 use Rattle.spl_branch.specs.declared.modules.Module.{Module}
@@ -51,7 +51,6 @@ use Rattle.spl_grants.proofs.GrantLemmas.{pieces_grant}
 use Rattle.spl_followed.specs.Mains.{MainFramed, MainStatementsFollow}
 use Rattle.spl_jumps.specs.Landed.{are_landed, MayJump}
 use Rattle.spl_sound_jumps.specs.Laws.{LandsInUnit, LandsInRoutines, SoundMainsLand, SoundRoutinesLand}
-use Rattle.spl_places.specs.Programs.{Each}
 use Rattle.spl_stores.proofs.CoverLemmas.{list_clear}
 use Rattle.spl_mains.proofs.MainLemmas.{bodies_follow}
 use Rattle.mpe_segmenter.specs.Faults.{first_fault}
@@ -61,9 +60,10 @@ use Rattle.spl_bounds.specs.Programs.{IsOf, ProgramsKeepBounds, DataWordsAreInit
 use Rattle.spl_followed.specs.Laws.{FollowedProgramsCarry}
 use Rattle.spl_carried.specs.Laws.{CoveredProgramsCarry}
 use Rattle.spl_carried.proofs.WholeLemmas.{whole_parts}
-use Rattle.spl_routines.specs.Among.{IsIn, at_front, behind}
+use Rattle.spl_routines.specs.Among.{IsIn}
 use Rattle.spl_routines.specs.Located.{MadeOf, Located, sites_at, wants_at}
 use Rattle.spl_routines.proofs.ListLemmas.{in_all, place_of}
+use Rattle.spl_routines.proofs.BodyLemmas.{each_placed}
 use Rattle.spl_routines.proofs.StandLemmas.{module_fits, module_stands, module_end}
 use Rattle.spl_routines.proofs.GateLemmas.{gates_are_served}
 use Rattle.spl_carried.proofs.MainLemmas.{MainThere, main_there, main_is, same_entry}
@@ -353,12 +353,6 @@ module _ (us : List Source) (p : Program) (ms : List Module) (f : MadeOf us p ms
       (followed us p ms f lands main_unit there located main_of.whole main_of.holds xs callees routines first_two.1 body_covered)
 
 -- ---- all of it
-
--- what holds of each unit holds of each that is placed
-each_placed : (P : Source → Type 0) (at : Reached) (us : List Source) (q : Placed) → Each P us → IsIn q (placed_units at us) → P q.unit
-each_placed P at [] q each k = elim k [ ]
-each_placed P at (u ∷ us) q each (at_front e) = subst (λ (r : Placed). P r.unit) (sym e) each.0
-each_placed P at (u ∷ us) q each (behind k) = each_placed P (reached_behind u at) us q each.1 k
 
 -- what is known of what modules of units make
 made_of : (us : List Source) (ms : List Module) (globals : List ℕ) (p : Program) → IsOf us ms globals p → first_fault ms ≡ None → CodesHaveKinds

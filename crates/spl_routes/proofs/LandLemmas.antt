@@ -1,16 +1,16 @@
 -- The procedures of units that break no rule, as bodies.
-use Rattle.std.proofs.Common.{◌≡◌, ℕ, zero, suc, ◌+◌, true, List, [], ◌∷◌, Option, Some, None, refl, sym, ap, subst}
+use Rattle.std.proofs.Common.{◌≡◌, ℕ, zero, suc, ◌+◌, true, List, [], ◌∷◌, Option, Some, None, refl, ap, subst}
 use Rattle.std.specs.Prelude.{slice_get}
 use Rattle.spl_tree.specs.StatementTrees.{Statements, statements}
 use Rattle.spl_meaning.specs.Names.{Table}
-use Rattle.spl_meaning.specs.Tables.{Source, Routine, routines_of, routine_table}
+use Rattle.spl_meaning.specs.Tables.{Routine, routines_of, routine_table}
 use Rattle.spl_meaning.specs.Places.{Place, list_words, list_array_words}
-use Rattle.spl_meaning.specs.Bodies.{Named, Reached, reached_behind, named_bodies}
+use Rattle.spl_meaning.specs.Bodies.{Named, named_bodies}
 use Rattle.spl_places.specs.Programs.{Each}
-use Rattle.spl_scopes.specs.Scopes.{Placed, first_reached, placed_units, global_places}
+use Rattle.spl_scopes.specs.Scopes.{first_reached, global_places}
 use Rattle.spl_sound_jumps.specs.Laws.{Lands, LandsInRoutine, LandsInRoutines, SoundRoutinesLand}
-use Rattle.spl_routines.specs.Among.{IsIn, at_front, behind}
 use Rattle.spl_routines.proofs.ListLemmas.{one_there}
+use Rattle.spl_routines.proofs.BodyLemmas.{each_placed}
 use Rattle.spl_routes.specs.Laws.{RoutinesLand}
 
 -- what holds of each holds of the one at a place
@@ -18,12 +18,6 @@ each_at : {A : Type 0} (P : A → Type 0) (xs : List A) (i : ℕ) (x : A) → Ea
 each_at P [] i x each is = cc
 each_at P (y ∷ xs) zero x each is = subst P (one_there y x is) each.0
 each_at P (y ∷ xs) (suc i) x each is = each_at P xs i x each.1 is
-
--- what holds of each unit holds of each that is placed
-each_placed : (P : Source → Type 0) (at : Reached) (us : List Source) (q : Placed) → Each P us → IsIn q (placed_units at us) → P q.unit
-each_placed P at [] q each k = elim k [ ]
-each_placed P at (u ∷ us) q each (at_front e) = subst (λ (r : Placed). P r.unit) (sym e) each.0
-each_placed P at (u ∷ us) q each (behind k) = each_placed P (reached_behind u at) us q each.1 k
 
 -- the statements of a procedure's body
 statements_of : (globals : Table Place) (own arrays : ℕ) (rs : List Routine) (i : ℕ) (b : Named) → slice_get (named_bodies globals own arrays rs) i ≡ Some b

@@ -1,11 +1,20 @@
--- The bodies of a unit's procedures, by their numbers.
-use Rattle.std.proofs.Common.{◌≡◌, ℕ, zero, suc, ◌+◌, true, List, [], ◌∷◌, Option, Some, None, refl, sym, ap}
+-- Units of a program, and the bodies of their procedures by their numbers.
+use Rattle.std.proofs.Common.{◌≡◌, ℕ, zero, suc, ◌+◌, true, List, [], ◌∷◌, Option, Some, None, refl, sym, ap, subst}
 use Rattle.std.specs.Prelude.{slice_get}
 use Rattle.spl_meaning.specs.Names.{Table}
-use Rattle.spl_meaning.specs.Tables.{Routine, routine_table}
+use Rattle.spl_meaning.specs.Tables.{Source, Routine, routine_table}
 use Rattle.spl_meaning.specs.Places.{Place, list_words, list_array_words}
-use Rattle.spl_meaning.specs.Bodies.{Named, named_bodies}
+use Rattle.spl_meaning.specs.Bodies.{Named, Reached, reached_behind, named_bodies}
+use Rattle.spl_places.specs.Programs.{Each}
+use Rattle.spl_scopes.specs.Scopes.{Placed, placed_units}
+use Rattle.spl_routines.specs.Among.{IsIn, at_front, behind}
 use Rattle.spl_routines.proofs.ListLemmas.{one_there}
+
+-- what holds of each unit holds of each that is placed
+pub each_placed : (P : Source → Type 0) (at : Reached) (us : List Source) (q : Placed) → Each P us → IsIn q (placed_units at us) → P q.unit
+each_placed P at [] q each k = elim k [ ]
+each_placed P at (u ∷ us) q each (at_front e) = subst (λ (r : Placed). P r.unit) (sym e) each.0
+each_placed P at (u ∷ us) q each (behind k) = each_placed P (reached_behind u at) us q each.1 k
 
 -- the body of a unit's procedure
 pub named_there : (globals : Table Place) (own arrays : ℕ) (rs : List Routine) (i : ℕ) (r : Routine) → slice_get rs i ≡ Some r
