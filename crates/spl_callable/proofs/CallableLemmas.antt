@@ -21,9 +21,9 @@ use Rattle.spl_branch.specs.declared.modules.Module.{Module}
 use Rattle.spl_code.specs.Calls.{Scope}
 use Rattle.spl_code.specs.Parts.{Wanted}
 use Rattle.spl_statement_code.specs.Landings.{Landing, Context}
-use Rattle.spl_scopes.specs.Entries.{routine, Entry, module_entries, procedure_index}
+use Rattle.spl_scopes.specs.Entries.{Owner, routine, Entry, module_entries, procedure_index}
 use Rattle.spl_scopes.specs.Scopes.{Placed, first_reached, placed_units, routine_bodies, body_segment, global_places}
-use Rattle.spl_module_code.specs.Bodies.{assigned_place, statements_scope}
+use Rattle.spl_module_code.specs.Bodies.{is_called, assigned_place, statements_scope}
 use Rattle.spl_carries.specs.Carries.{weight}
 use Rattle.spl_follow.specs.Calling.{Link}
 use Rattle.spl_follow.specs.Doing.{Way, body}
@@ -35,6 +35,7 @@ use Rattle.spl_sites.specs.Grounds.{ground_of}
 use Rattle.spl_jumps.specs.Landed.{are_landed, MayJump}
 use Rattle.spl_links.specs.Links.{linked_by, procedure_link, name_link, links_of, MayCall}
 use Rattle.spl_readings.specs.Readings.{are_plain, PlaceAlike, BodiesReadAlike}
+use Rattle.spl_targets.specs.Results.{result_kind, ResultsAgree}
 use Rattle.spl_stores.specs.Covered.{are_covered}
 use Rattle.spl_stores.specs.Laws.{MayReturn}
 use Rattle.spl_mains.specs.Laws.{CoveredBodiesFollow}
@@ -109,6 +110,31 @@ is_linked may c ws x k is = by (may x) refl is where
 -- the two tables of places of a body differ at names of procedures and subroutines alone
 places_alike : (b : Body) → PlaceAlike b.here.names b.here.places (assigned_place b)
 places_alike b x other = sym (ap (λ (c : Bool). or_else (option_map (λ (r : Kind × Place). r.1) (if c then b.here.results x else None)) (b.here.places x)) other)
+
+-- a name that means a result has that result's place there
+results_agree : (es : List Entry) (o : Owner) (b : Body) → ResultsAgree (statements_scope es o b) b.here.results
+results_agree es o b = record { agree = λ x t r place kind is. there x t r place (b.here.names x) refl kind is } where
+  placed : (x : List ℕ) (r : Kind) (place : Place) → is_called (b.here.names x) ≡ true → b.here.results x ≡ Some (r, place) → assigned_place b x ≡ Some place
+  placed x r place called is =
+      ap (λ (c : Bool). or_else (option_map (λ (z : Kind × Place). z.1) (if c then b.here.results x else None)) (b.here.places x)) called
+      ∙ ap (λ (z : Option (Kind × Place)). or_else (option_map (λ (y : Kind × Place). y.1) z) (b.here.places x)) is
+
+  there : (x : List ℕ) (t r : Kind) (place : Place) (s : Option Sort) → b.here.names x ≡ s → result_kind s ≡ Some t → b.here.results x ≡ Some (r, place)
+      → assigned_place b x ≡ Some place
+  there x t r place (Some (n.procedure p)) e kind is = placed x r place (ap is_called e) is
+  there x t r place (Some (n.subroutine p)) e kind is = placed x r place (ap is_called e) is
+  there x t r place None e kind is = cc
+  there x t r place (Some (n.equate v)) e kind is = cc
+  there x t r place (Some (n.simple k own)) e kind is = cc
+  there x t r place (Some (n.array k own low high)) e kind is = cc
+  there x t r place (Some (n.view k own base)) e kind is = cc
+  there x t r place (Some (n.pointer k own)) e kind is = cc
+  there x t r place (Some (n.value k)) e kind is = cc
+  there x t r place (Some (n.by_reference k)) e kind is = cc
+  there x t r place (Some (n.array_parameter k)) e kind is = cc
+  there x t r place (Some n.label) e kind is = cc
+  there x t r place (Some (n.intrinsic j)) e kind is = cc
+  there x t r place (Some n.unknown) e kind is = cc
 
 -- the spot of a way
 spot_of : Spot → Way → Spot
@@ -245,10 +271,10 @@ module _ (called : SettableProceduresAreCalled) (links : LinksFind) (bodies : Co
     body_covered = and_parts (are_plain its.here.names its.statements) (is_covered_body xs procedures es (routine k.number) true its) both.1
 
     list_covered : (are_alike xs procedures its.here.names ≡ true)
-        × (are_covered (is_among xs) true (statements_scope es (routine k.number) its) its.here.setting its.statements 0 ≡ true)
+        × (are_covered (is_among xs) true (statements_scope es (routine k.number) its) its.here.results its.here.setting its.statements 0 ≡ true)
     list_covered =
         and_parts (are_alike xs procedures its.here.names)
-        (are_covered (is_among xs) true (statements_scope es (routine k.number) its) its.here.setting its.statements 0) body_covered.1
+        (are_covered (is_among xs) true (statements_scope es (routine k.number) its) its.here.results its.here.setting its.statements 0) body_covered.1
 
     few : formals_words its.profile.formals < 256
     few = ltb-true (formals_words its.profile.formals) 256 (and_parts (are_settable its) (nat_lt (formals_words its.profile.formals) 256) both.0).1
@@ -305,7 +331,8 @@ module _ (called : SettableProceduresAreCalled) (links : LinksFind) (bodies : Co
         (sym (alike its.here.names its.here.results its.here.setting its.here.places (assigned_place its) call d its.number its.statements s
         (places_alike its) body_covered.0))
         (bodies (is_among xs) true context its.here.results around call d its.number its.depth' its.statements k.stands.first k.stands.leave k.stands.marks
-        k.stands.wants refl returns (let room = deep in omega (arith, room)) list_covered.1 k.stands.runs k.stands.front (omega (arith, falls, far, steps)) may jumps
+        k.stands.wants refl returns (let room = deep in omega (arith, room)) list_covered.1 k.stands.runs k.stands.front (omega (arith, falls, far, steps)) may
+        (results_agree es (routine k.number) its) jumps
         landed s m begins)
 
     stood : Stood ground rate (is_among xs) Known procedures x start

@@ -39,7 +39,7 @@ are_alike (x ∷ xs) procedures names = is_alike (names x) (body_named procedure
 -- is covered
 abbrev pub is_covered_body : List (List ℕ) → List Named → List Entry → Owner → Bool → Body → Bool
 is_covered_body xs procedures es o returns b =
-    are_alike xs procedures b.here.names && are_covered (is_among xs) returns (statements_scope es o b) b.here.setting b.statements 0
+    are_alike xs procedures b.here.names && are_covered (is_among xs) returns (statements_scope es o b) b.here.results b.here.setting b.statements 0
 
 -- a procedure: its body is covered, what its entry sets is set, and its parameters are as many words as an EXIT can delete
 abbrev pub is_covered_procedure : List (List ℕ) → List Named → List Entry → ℕ → Body → Bool

@@ -20,13 +20,14 @@ use Rattle.spl_calls.specs.Covered.{is_covered_call, is_covered_answer}
 
 -- calls that are covered have whole code
 abbrev pub CallsAreWhole : Type 0
-CallsAreWhole = (may : List ℕ → Bool) (c : Context) (st : Setting) (x : List ℕ) (es : Trees) (at : At) (k : ℕ) → is_covered_call may c.scope st x (c.scope.names x) es k ≡ true
+CallsAreWhole = (may : List ℕ → Bool) (c : Context) (st : Setting) (x : List ℕ) (es : Trees) (at : At) (k : ℕ)
+    → is_covered_call may c.scope st x (c.scope.names x) es k ≡ true
     → IsWhole (statement c (stat.Statement.call x es at) k)
 
 -- which performs them
 abbrev pub CallsPerform : Type 0
-CallsPerform = (may : List ℕ → Bool) (c : Context) (results : List ℕ → Option (Kind × Place)) (z : Surroundings) (call : Callee) (d number : ℕ) (x : List ℕ) (es : Trees)
-    (at : At) (k need : ℕ) → is_covered_call may c.scope z.setting x (c.scope.names x) es k ≡ true
+CallsPerform = (may : List ℕ → Bool) (c : Context) (results : List ℕ → Option (Kind × Place)) (z : Surroundings) (call : Callee) (d number : ℕ)
+    (x : List ℕ) (es : Trees) (at : At) (k need : ℕ) → is_covered_call may c.scope z.setting x (c.scope.names x) es k ≡ true
     → statement_most c.scope.names (stat.Statement.call x es at) + 8 ≤ need → MayCall may c.scope z d call
     → Performs z d k need (statement c (stat.Statement.call x es at) k)
     (λ s. run (read_with c.scope results z.setting) call d number (stat.Statement.call x es at) k s)
@@ -37,8 +38,8 @@ AnswersAreWhole = (may : List ℕ → Bool) (c : Context) (st : Setting) (to : T
     → IsWhole (statement c (stat.Statement.assign to e at) k)
 
 abbrev pub AnswersPerform : Type 0
-AnswersPerform = (may : List ℕ → Bool) (c : Context) (results : List ℕ → Option (Kind × Place)) (z : Surroundings) (call : Callee) (d number : ℕ) (to : Target) (e : Tree)
-    (at : At) (k need : ℕ) → is_covered_answer may c.scope z.setting to e k ≡ true
+AnswersPerform = (may : List ℕ → Bool) (c : Context) (results : List ℕ → Option (Kind × Place)) (z : Surroundings) (call : Callee) (d number : ℕ)
+    (to : Target) (e : Tree) (at : At) (k need : ℕ) → is_covered_answer may c.scope z.setting to e k ≡ true
     → statement_most c.scope.names (stat.Statement.assign to e at) + 8 ≤ need → MayCall may c.scope z d call
     → Performs z d k need (statement c (stat.Statement.assign to e at) k)
     (λ s. run (read_with c.scope results z.setting) call d number (stat.Statement.assign to e at) k s)

@@ -149,9 +149,9 @@ module _ (us : List Source) (p : Program) (ms : List Module) (f : MadeOf us p ms
   abbrev procedures : List Named
   procedures = (program_of us).procedures
 
-  covered_parts : (are_alike xs procedures body.here.names ≡ true) × (are_covered (is_among xs) false (statements_scope es main body) main_setting body.statements 0 ≡ true)
+  covered_parts : (are_alike xs procedures body.here.names ≡ true) × (are_covered (is_among xs) false (statements_scope es main body) body.here.results main_setting body.statements 0 ≡ true)
   covered_parts =
-      and_parts (are_alike xs procedures body.here.names) (are_covered (is_among xs) false (statements_scope es main body) main_setting body.statements 0) all_covered
+      and_parts (are_alike xs procedures body.here.names) (are_covered (is_among xs) false (statements_scope es main body) body.here.results main_setting body.statements 0) all_covered
 
   abbrev ground : Ground
   ground = ground_of p (words_near p) ms
@@ -185,7 +185,7 @@ module _ (us : List Source) (p : Program) (ms : List Module) (f : MadeOf us p ms
   end = placed at.seg (at_left (sizes at.front + length at.here.words.items))
 
   clear : due_after false statements.pieces ≡ false
-  clear = list_clear (is_among xs) false context main_setting body.statements 0 covered_parts.1 (list_labels body.statements) landed parts_of.marks parts_of.wants
+  clear = list_clear (is_among xs) false context body.here.results main_setting body.statements 0 covered_parts.1 (list_labels body.statements) landed parts_of.marks parts_of.wants
 
   stands : MainStands ground sites (length es) (granted body.depth') statements.pieces index end
   stands =
@@ -265,7 +265,7 @@ module _ (us : List Source) (p : Program) (ms : List Module) (f : MadeOf us p ms
       bodies_follow (is_among xs) us body context around stands.first stands.leave parts_of.marks parts_of.wants refl refl
       (here_is es unit) (omega arith) covered_parts.1 stands.statements_stand wanted (omega (arith, within, far))
       (λ d. callees us p (words_near p) ms f routines xs callable rate refl (omega arith) unit there unit.unit.tree.segment at context.scope refl covered_parts.0
-      main_setting around.exits d body) jumps landed
+      main_setting around.exits d body) (record { agree = λ x t r place kind result. cc }) jumps landed
 
 -- ---- the program
 

@@ -31,17 +31,17 @@ left_returns st x leave s m to (to_label y) t n a = shown st t n (min (x.held (t
 
 -- its list is performed, and takes the jumps to its labels
 pub any_body_follows : CoveredBodiesFollow
-any_body_follows may returns c results z call d number need ss first leave l ws to return room covered stands front pays calls' jumps landed s m begins =
+any_body_follows may returns c results z call d number need ss first leave l ws to return room covered stands front pays calls' agrees jumps landed s m begins =
     weaken z.ground z.rate 0 3 0 (tally s) m (Completes z.setting leave 0 s.now m) (Completes z.setting leave 0 s.now m)
     (Leaving z.setting z.exits 0 s.now m) (Returning z.setting leave 0 s.now m) (run_body (read_with c.scope results z.setting) call d number ss s)
-    ((covered_list_performs may returns c results z call d number [] ss 0 need covered room calls' return jumps landed).does l ws first leave s m stands front pays begins)
+    ((covered_list_performs may returns c results z call d number [] ss 0 need covered room calls' agrees return jumps landed).does l ws first leave s m stands front pays begins)
     (λ u t n a less. a) (left_returns z.setting z.exits leave s m to)
 
 pub bodies_follow : CoveredMainBodiesFollow
-bodies_follow may us b c z first leave l ws setting to here room covered stands front pays calls' jumps landed d s m begins =
+bodies_follow may us b c z first leave l ws setting to here room covered stands front pays calls' agrees jumps landed d s m begins =
     let call : Callee = calls (program_of us).procedures d b in
     subst (λ (i : Here). Follows z.ground z.rate 0 3 0 (tally s) m (Completes main_setting leave 0 s.now m) (Returning main_setting leave 0 s.now m) (run_body i call d b.number b.statements s))
     (sym here)
     (any_body_follows may false c b.here.results (record z { setting = main_setting }) call d b.number b.depth' b.statements first leave l ws to (λ e. absurd (false≢true e)) room covered
-    stands front pays (subst (λ (st : Setting). MayCall may c.scope (record z { setting = st }) d call) setting (calls' d))
+    stands front pays (subst (λ (st : Setting). MayCall may c.scope (record z { setting = st }) d call) setting (calls' d)) agrees
     (record { marks = jumps.marks; held = jumps.held; few = jumps.few }) landed s m begins)

@@ -24,6 +24,7 @@ use Rattle.spl_follow.specs.Simulating.{Surroundings}
 use Rattle.spl_followed.specs.Mains.{main_setting, MainStatementsFollow}
 use Rattle.spl_names.specs.Names.{read_with}
 use Rattle.spl_jumps.specs.Landed.{are_landed, MayJump}
+use Rattle.spl_targets.specs.Results.{ResultsAgree}
 use Rattle.spl_stores.specs.Covered.{are_covered}
 use Rattle.spl_stores.specs.Laws.{MayReturn}
 use Rattle.spl_links.specs.Links.{MayCall}
@@ -34,9 +35,9 @@ use Rattle.spl_links.specs.Links.{MayCall}
 abbrev pub CoveredBodiesFollow : Type 0
 CoveredBodiesFollow = (may : List ℕ → Bool) (returns : Bool) (c : Context) (results : List ℕ → Option (Kind × Place)) (z : Surroundings) (call : Callee)
     (d number need : ℕ) (ss : Statements) (first leave : Spot) (l : ℕ) (ws : List Wanted) → z.exits.target back ≡ leave
-    → (returns ≡ true → MayReturn c.leave z) → statements_most c.scope.names ss + 8 ≤ need → are_covered may returns c.scope z.setting ss 0 ≡ true
+    → (returns ≡ true → MayReturn c.leave z) → statements_most c.scope.names ss + 8 ≤ need → are_covered may returns c.scope results z.setting ss 0 ≡ true
     → Stands z.ground z.sites (on first) (listed c ss 0 l ws).pieces leave → IsFront (listed c ss 0 l ws).wants z.wants → pos leave ≤ z.rate.step
-    → MayCall may c.scope z d call → MayJump c.landings z [] 0 → are_landed c.landings (list_labels ss) ss 0 ≡ true
+    → MayCall may c.scope z d call → ResultsAgree c.scope results → MayJump c.landings z [] 0 → are_landed c.landings (list_labels ss) ss 0 ≡ true
     → (s : State) (m : Machine) → Begins z.setting d first 0 need s m
     → Follows z.ground z.rate 0 3 0 (tally s) m (Completes z.setting leave 0 s.now m) (Returning z.setting leave 0 s.now m)
     (run_body (read_with c.scope results z.setting) call d number ss s)
@@ -45,7 +46,8 @@ CoveredBodiesFollow = (may : List ℕ → Bool) (returns : Bool) (c : Context) (
 abbrev pub CoveredMainBodiesFollow : Type 0
 CoveredMainBodiesFollow = (may : List ℕ → Bool) (us : List Source) (b : Body) (c : Context) (z : Surroundings) (first leave : Spot) (l : ℕ) (ws : List Wanted)
     → z.setting ≡ main_setting → z.exits.target back ≡ leave → b.here ≡ read_with c.scope b.here.results main_setting
-    → statements_most c.scope.names b.statements + 8 ≤ b.depth' → are_covered may false c.scope main_setting b.statements 0 ≡ true
+    → statements_most c.scope.names b.statements + 8 ≤ b.depth' → are_covered may false c.scope b.here.results main_setting b.statements 0 ≡ true
     → Stands z.ground z.sites (on first) (listed c b.statements 0 l ws).pieces leave → IsFront (listed c b.statements 0 l ws).wants z.wants
-    → pos leave ≤ z.rate.step → ((d : ℕ) → MayCall may c.scope z d (calls (program_of us).procedures d b)) → MayJump c.landings z [] 0
+    → pos leave ≤ z.rate.step → ((d : ℕ) → MayCall may c.scope z d (calls (program_of us).procedures d b)) → ResultsAgree c.scope b.here.results
+    → MayJump c.landings z [] 0
     → are_landed c.landings (list_labels b.statements) b.statements 0 ≡ true → MainStatementsFollow z.ground z.rate us b first leave

@@ -1,6 +1,6 @@
 -- Values that are stored in targets, along the tree: the code is whole, and performs the assignment.
 use Rattle.std.proofs.Common.{◌≡◌, ℕ, ◌+◌, ◌≤◌, Bool, true, false, List, refl, sym, ap, subst, ◌∙◌, arith}
-use Rattle.std.specs.Prelude.{Option, Some, None, ◌&&◌, if◌then◌else◌, ◌||◌}
+use Rattle.std.specs.Prelude.{Option, Some, None, ◌&&◌, if◌then◌else◌, ◌||◌, unwrap_or}
 use Rattle.std.proofs.lemmas.Bool.{false≢true}
 use Rattle.std.proofs.Math.Logic.{⊎_elim}
 use Rattle.spl_branch.specs.declared.pieces.Piece.{Piece}
@@ -17,8 +17,8 @@ use Rattle.spl_meaning.specs.Names.{Sort}
 use Rattle.spl_meaning.specs.Operations.{kept}
 use Rattle.spl_meaning.specs.Pending.{most, waiting, statement_most}
 use Rattle.spl_meaning.specs.Places.{Place, data_word, above_base, below_base, below_return}
-use Rattle.spl_meaning.specs.References.{Here, Setting, Access, its_own, address_of, variable_located, target_access, own_located, locate_by, locate_target, store}
-use Rattle.spl_meaning.specs.States.{State, then_go, stopping}
+use Rattle.spl_meaning.specs.References.{Here, Setting, Located, Access, its_own, address_of, variable_located, target_access, own_located, locate_by, locate_target, store}
+use Rattle.spl_meaning.specs.States.{State, Outcome, then_go, stopping}
 use Rattle.spl_meaning.specs.Statements.{assign, target_keeps_code, assigned, alone_value, run}
 use Rattle.spl_meaning.specs.Values.{Callee, value}
 use Rattle.spl_code.specs.Parts.{Part, pieces, piece, nothing, ◌⨟◌}
@@ -34,15 +34,17 @@ use Rattle.spl_follow.specs.Simulating.{Surroundings, Simulates, Performs}
 use Rattle.spl_follow.proofs.StandLemmas.{closed_last}
 use Rattle.spl_values.specs.Reached.{is_reached, IsWhole}
 use Rattle.spl_operators.specs.Laws.{is_single}
-use Rattle.spl_covered.specs.Covered.{is_covered}
+use Rattle.spl_covered.specs.Covered.{is_word_result, is_covered}
 use Rattle.spl_links.specs.Links.{MayCall}
 use Rattle.spl_names.specs.Names.{read_with}
 use Rattle.spl_values.proofs.VariableLemmas.{both}
 use Rattle.spl_values.proofs.WholeLemmas.{then_same}
 use Rattle.spl_word_operators.proofs.OperatorLemmas.{either}
 use Rattle.spl_covered.proofs.CoverLemmas.{covered_width, covered_whole, covered_gives}
-use Rattle.spl_stores.specs.Covered.{is_stored_name, is_covered_store}
+use Rattle.spl_stores.specs.Covered.{is_stored_name, is_stored_result, is_covered_store}
 use Rattle.spl_stores.proofs.StoreLemmas.{assignments}
+use Rattle.spl_targets.specs.Results.{result_kind, is_result, ResultsAgree}
+use Rattle.spl_targets.proofs.ResultLemmas.{IsResult, result_case, result_made, result_leads}
 use Rattle.spl_targets.specs.Targets.{is_led_target}
 use Rattle.spl_targets.proofs.SameLemmas.{stopping_same, same_performs}
 use Rattle.spl_targets.proofs.ElementLemmas.{no_intrinsic}
@@ -54,7 +56,6 @@ use Rattle.spl_targets.proofs.TargetLemmas.{led_targets_whole, led_targets}
 record IsTarget (st : Setting) (k : ℕ) (o : Option Sort) (pl : Option Place) : Type 0 where
   type : Kind
   place : Place
-  access : target_access o ≡ its_own type
   made : assigned_access o ≡ its_own type
   is : pl ≡ Some place
   word : is_single type ≡ true
@@ -64,10 +65,10 @@ record IsTarget (st : Setting) (k : ℕ) (o : Option Sort) (pl : Option Place) :
 target_case : (st : Setting) (k : ℕ) (o : Option Sort) (pl : Option Place) → is_stored_name st k o pl ≡ true → IsTarget st k o pl
 target_case st k (Some (n.simple t own)) (Some place) e =
     let two = both (is_single t) (is_reached st k place) e in
-    record { type = t; place = place; access = refl; made = refl; is = refl; word = two.0; reached = two.1 }
+    record { type = t; place = place; made = refl; is = refl; word = two.0; reached = two.1 }
 target_case st k (Some (n.value t)) (Some place) e =
     let two = both (is_single t) (is_reached st k place) e in
-    record { type = t; place = place; access = refl; made = refl; is = refl; word = two.0; reached = two.1 }
+    record { type = t; place = place; made = refl; is = refl; word = two.0; reached = two.1 }
 target_case st k (Some (n.simple t own)) None e = absurd (false≢true (both (is_single t) false e).1)
 target_case st k (Some (n.value t)) None e = absurd (false≢true (both (is_single t) false e).1)
 target_case st k None pl e = absurd (false≢true e)
@@ -82,6 +83,53 @@ target_case st k (Some (n.intrinsic i)) pl e = absurd (false≢true e)
 target_case st k (Some (n.procedure p)) pl e = absurd (false≢true e)
 target_case st k (Some (n.subroutine p)) pl e = absurd (false≢true e)
 target_case st k (Some n.unknown) pl e = absurd (false≢true e)
+
+-- or a result that a name means
+result_word : (o : Option Kind) (t : Kind) → is_word_result o ≡ true → o ≡ Some t → is_single t ≡ true
+result_word (Some u) t e is = ap (λ (v : Option Kind). is_single (unwrap_or v t)) (sym is) ∙ e
+result_word None t e is = absurd (false≢true e)
+
+result_target : (st : Setting) (k : ℕ) (o : Option Sort) (r : Option (Kind × Place)) (pl : Option Place) → (x : IsResult st k (result_kind o) r pl)
+    → is_word_result (result_kind o) ≡ true → IsTarget st k o pl
+result_target st k o r pl x word = record {
+  type = x.type;
+  place = x.place;
+  made = result_made o x.type x.kind';
+  is = x.is;
+  word = result_word (result_kind o) x.type word x.kind';
+  reached = x.reached;
+}
+
+-- where a target is located
+abbrev LeadsTo : Scope → (List ℕ → Option (Kind × Place)) → Setting → List ℕ → Kind → Place → Type 0
+LeadsTo c results st x t place = (v : State) → locate_target (read_with c results st) x None v ≡ own_located t (Some place) None v
+
+-- a variable, at its place
+name_access : (st : Setting) (k : ℕ) (o : Option Sort) (pl : Option Place) (e : is_stored_name st k o pl ≡ true) → target_access o ≡ its_own (target_case st k o pl e).type
+unfolding target_case
+name_access st k (Some (n.simple t own)) (Some place) e = refl
+name_access st k (Some (n.value t)) (Some place) e = refl
+name_access st k (Some (n.simple t own)) None e = absurd (false≢true (both (is_single t) false e).1)
+name_access st k (Some (n.value t)) None e = absurd (false≢true (both (is_single t) false e).1)
+name_access st k None pl e = absurd (false≢true e)
+name_access st k (Some (n.equate v)) pl e = absurd (false≢true e)
+name_access st k (Some (n.array t own low high)) pl e = absurd (false≢true e)
+name_access st k (Some (n.view t own base)) pl e = absurd (false≢true e)
+name_access st k (Some (n.pointer t own)) pl e = absurd (false≢true e)
+name_access st k (Some (n.by_reference t)) pl e = absurd (false≢true e)
+name_access st k (Some (n.array_parameter t)) pl e = absurd (false≢true e)
+name_access st k (Some n.label) pl e = absurd (false≢true e)
+name_access st k (Some (n.intrinsic i)) pl e = absurd (false≢true e)
+name_access st k (Some (n.procedure p)) pl e = absurd (false≢true e)
+name_access st k (Some (n.subroutine p)) pl e = absurd (false≢true e)
+name_access st k (Some n.unknown) pl e = absurd (false≢true e)
+
+name_leads : (c : Scope) (results : List ℕ → Option (Kind × Place)) (st : Setting) (x : List ℕ) (k : ℕ) (e : is_stored_name st k (c.names x) (c.places x) ≡ true)
+    → LeadsTo c results st x (target_case st k (c.names x) (c.places x) e).type (target_case st k (c.names x) (c.places x) e).place
+name_leads c results st x k e v =
+    let r = target_case st k (c.names x) (c.places x) e in
+    ap (λ (a : Access). locate_by (read_with c results st) x a None v) (name_access st k (c.names x) (c.places x) e)
+    ∙ ap (λ (o : Option Place). own_located r.type o None v) r.is
 
 -- the store behind the value
 stored_code : (c : Scope) (st : Setting) (x : List ℕ) (k : ℕ) (r : IsTarget st k (c.names x) (c.places x))
@@ -123,16 +171,15 @@ assigned_whole at a ps whole closed = record {
 
 -- its meaning
 assign_is : (may : List ℕ → Bool) (c : Scope) (results : List ℕ → Option (Kind × Place)) (st : Setting) (call : Callee) (x : List ℕ) (there : At) (e : Tree) (k : ℕ)
-    (r : IsTarget st k (c.names x) (c.places x)) → is_covered may c st e k ≡ true → (u : State)
+    (t : Kind) (place : Place) → LeadsTo c results st x t place → is_covered may c st e k ≡ true → (u : State)
     → assign (read_with c results st) call (stat.Target.plain (tree.Tree.named x tree.Trees.none there)) e k u
-    ≡ then_go (value (read_with c results st) call e k u) (λ vs v. store (variable_located r.type (address_of r.place v.now)) (kept r.type vs) v)
-assign_is may c results st call x there e k r covered u =
+    ≡ then_go (value (read_with c results st) call e k u) (λ vs v. store (variable_located t (address_of place v.now)) (kept t vs) v)
+assign_is may c results st call x there e k t place leads covered u =
     ap (λ (b : Bool). if b && target_keeps_code h.names to then assigned h call to (λ j s1. alone_value h call e j s1) k u else assigned h call to (λ j s1. value h call e j s1) k u)
     (no_intrinsic may c st e k covered)
     ∙ then_same (value h call e k u) (λ vs v. then_go (locate_target h x None v) (λ p t. store p (kept p.kind vs) t))
-    (λ vs v. store (variable_located r.type (address_of r.place v.now)) (kept r.type vs) v)
-    (λ vs v. ap (λ (a : Access). then_go (locate_by h x a None v) (λ p t. store p (kept p.kind vs) t)) r.access
-    ∙ ap (λ (o : Option Place). then_go (own_located r.type o None v) (λ p t. store p (kept p.kind vs) t)) r.is) where
+    (λ vs v. store (variable_located t (address_of place v.now)) (kept t vs) v)
+    (λ vs v. ap (λ (o : Outcome Located). then_go o (λ p t. store p (kept p.kind vs) t)) (leads v)) where
       h : Here
       h = read_with c results st
 
@@ -141,12 +188,12 @@ assign_is may c results st call x there e k r covered u =
 
 -- and it is performed
 assign_performs : (may : List ℕ → Bool) (c : Context) (results : List ℕ → Option (Kind × Place)) (z : Surroundings) (call : Callee) (d number : ℕ) (x : List ℕ) (there : At)
-    (e : Tree) (at : At) (k need : ℕ) → MayCall may c.scope z d call → is_stored_name z.setting k (c.scope.names x) (c.scope.places x) ≡ true → is_covered may c.scope z.setting e k ≡ true
+    (e : Tree) (at : At) (k need : ℕ) → MayCall may c.scope z d call → (r : IsTarget z.setting k (c.scope.names x) (c.scope.places x))
+    → LeadsTo c.scope results z.setting x r.type r.place → is_covered may c.scope z.setting e k ≡ true
     → most c.scope.names e + 8 ≤ need
     → Performs z d k need (statement c (stat.Statement.assign (stat.Target.plain (tree.Tree.named x tree.Trees.none there)) e at) k)
     (λ s. run (read_with c.scope results z.setting) call d number (stat.Statement.assign (stat.Target.plain (tree.Tree.named x tree.Trees.none there)) e at) k s)
-assign_performs may c results z call d number x there e at k need links target covered enough =
-    let r = target_case z.setting k (c.scope.names x) (c.scope.places x) target in
+assign_performs may c results z call d number x there e at k need links r leads covered enough =
     let h = read_with c.scope results z.setting in
     let word = subst (λ (j : ℕ). Simulates z d as_value j k need (code c.scope e as_value k) (λ s. value h call e k s)) (covered_width may c.scope z.setting e k covered)
     (covered_gives may c.scope results z call d e k need links covered enough) in
@@ -157,78 +204,93 @@ assign_performs may c results z call d number x there e at k need links target c
     (assign_code c z.setting x there e at k r)
     (λ s. stopping_same number at s (λ u. assign h call (stat.Target.plain (tree.Tree.named x tree.Trees.none there)) e k u)
     (λ u. then_go (value h call e k u) (λ vs v. store (variable_located r.type (address_of r.place v.now)) (kept r.type vs) v))
-    (assign_is may c.scope results z.setting call x there e k r covered))
+    (assign_is may c.scope results z.setting call x there e k r.type r.place leads covered))
     (assignments z d k need number at r.type r.place (code c.scope e as_value k) (λ u. value h call e k u) r.word r.reached (omega (arith, enough))
     (covered_whole may c.scope z.setting e k covered) word)
 
 -- ---- along the target
 
-pub store_whole : (may : List ℕ → Bool) (c : Context) (st : Setting) (to : Target) (v : Tree) (at : At) (k : ℕ) → is_covered_store may c.scope st to v k ≡ true
+pub store_whole : (may : List ℕ → Bool) (c : Context) (results : List ℕ → Option (Kind × Place)) (st : Setting) (to : Target) (v : Tree) (at : At) (k : ℕ) → is_covered_store may c.scope results st to v k ≡ true
     → IsWhole (statement c (stat.Statement.assign to v at) k)
-store_whole may c st (stat.Target.plain (tree.Tree.named x tree.Trees.none there)) v at k e =
+store_whole may c results st (stat.Target.plain (tree.Tree.named x tree.Trees.none there)) v at k e =
     let to = stat.Target.plain (tree.Tree.named x tree.Trees.none there) in
     let names = is_stored_name st k (c.scope.names x) (c.scope.places x) in
-    let two = both (names || is_led_target may c.scope st to k) (is_covered may c.scope st v k) e in
+    let given = is_stored_result st k (c.scope.names x) (results x) (c.scope.places x) in
+    let two = both ((names || given) || is_led_target may c.scope st to k) (is_covered may c.scope st v k) e in
     ⊎_elim
-    (λ own. let r = target_case st k (c.scope.names x) (c.scope.places x) own in
-    subst (λ (a : Part). IsWhole a) (sym (assign_code c st x there v at k r))
-    (assigned_whole at (code c.scope v as_value k) (stored (its_own r.type) false k r.place) (covered_whole may c.scope st v k two.1)
-    (stored_closed st r.type k r.place r.word r.reached)))
-    (λ led. led_targets_whole may c st to v at k led two.1) (either names (is_led_target may c.scope st to k) two.0)
-store_whole may c st (stat.Target.plain (tree.Tree.named x (tree.Trees.and i tree.Trees.none) there)) v at k e =
+    (λ own. ⊎_elim (λ variable. target_whole (target_case st k (c.scope.names x) (c.scope.places x) variable) two.1)
+    (λ result. let parts = both (is_word_result (result_kind (c.scope.names x))) (is_result st k (result_kind (c.scope.names x)) (results x) (c.scope.places x)) result in
+    target_whole (result_target st k (c.scope.names x) (results x) (c.scope.places x)
+    (result_case st k (result_kind (c.scope.names x)) (results x) (c.scope.places x) parts.1) parts.0) two.1) (either names given own))
+    (λ led. led_targets_whole may c st to v at k led two.1) (either (names || given) (is_led_target may c.scope st to k) two.0) where
+      target_whole : IsTarget st k (c.scope.names x) (c.scope.places x) → is_covered may c.scope st v k ≡ true
+          → IsWhole (statement c (stat.Statement.assign (stat.Target.plain (tree.Tree.named x tree.Trees.none there)) v at) k)
+      target_whole r covered =
+          subst (λ (a : Part). IsWhole a) (sym (assign_code c st x there v at k r))
+          (assigned_whole at (code c.scope v as_value k) (stored (its_own r.type) false k r.place) (covered_whole may c.scope st v k covered)
+          (stored_closed st r.type k r.place r.word r.reached))
+store_whole may c results st (stat.Target.plain (tree.Tree.named x (tree.Trees.and i tree.Trees.none) there)) v at k e =
     let to = stat.Target.plain (tree.Tree.named x (tree.Trees.and i tree.Trees.none) there) in
     let two = both (is_led_target may c.scope st to k) (is_covered may c.scope st v (k + 1)) e in
     led_targets_whole may c st to v at k two.0 two.1
-store_whole may c st (stat.Target.plain (tree.Tree.named x (tree.Trees.and i (tree.Trees.and j js)) there)) v at k e = absurd (false≢true e)
-store_whole may c st (stat.Target.plain (tree.Tree.number w)) v at k e = absurd (false≢true e)
-store_whole may c st (stat.Target.plain (tree.Tree.wide w)) v at k e = absurd (false≢true e)
-store_whole may c st (stat.Target.plain (tree.Tree.text bytes)) v at k e = absurd (false≢true e)
-store_whole may c st (stat.Target.plain (tree.Tree.truth b)) v at k e = absurd (false≢true e)
-store_whole may c st (stat.Target.plain (tree.Tree.address x es there)) v at k e = absurd (false≢true e)
-store_whole may c st (stat.Target.plain (tree.Tree.unary o a there)) v at k e = absurd (false≢true e)
-store_whole may c st (stat.Target.plain (tree.Tree.binary o a b there)) v at k e = absurd (false≢true e)
-store_whole may c st (stat.Target.plain (tree.Tree.shift o a by there)) v at k e = absurd (false≢true e)
-store_whole may c st (stat.Target.plain (tree.Tree.field a start size there)) v at k e = absurd (false≢true e)
-store_whole may c st (stat.Target.plain (tree.Tree.transfer t a there)) v at k e = absurd (false≢true e)
-store_whole may c st (stat.Target.plain (tree.Tree.bytes o a b count there)) v at k e = absurd (false≢true e)
-store_whole may c st (stat.Target.field r start size) v at k e =
+store_whole may c results st (stat.Target.plain (tree.Tree.named x (tree.Trees.and i (tree.Trees.and j js)) there)) v at k e = absurd (false≢true e)
+store_whole may c results st (stat.Target.plain (tree.Tree.number w)) v at k e = absurd (false≢true e)
+store_whole may c results st (stat.Target.plain (tree.Tree.wide w)) v at k e = absurd (false≢true e)
+store_whole may c results st (stat.Target.plain (tree.Tree.text bytes)) v at k e = absurd (false≢true e)
+store_whole may c results st (stat.Target.plain (tree.Tree.truth b)) v at k e = absurd (false≢true e)
+store_whole may c results st (stat.Target.plain (tree.Tree.address x es there)) v at k e = absurd (false≢true e)
+store_whole may c results st (stat.Target.plain (tree.Tree.unary o a there)) v at k e = absurd (false≢true e)
+store_whole may c results st (stat.Target.plain (tree.Tree.binary o a b there)) v at k e = absurd (false≢true e)
+store_whole may c results st (stat.Target.plain (tree.Tree.shift o a by there)) v at k e = absurd (false≢true e)
+store_whole may c results st (stat.Target.plain (tree.Tree.field a start size there)) v at k e = absurd (false≢true e)
+store_whole may c results st (stat.Target.plain (tree.Tree.transfer t a there)) v at k e = absurd (false≢true e)
+store_whole may c results st (stat.Target.plain (tree.Tree.bytes o a b count there)) v at k e = absurd (false≢true e)
+store_whole may c results st (stat.Target.field r start size) v at k e =
     let to = stat.Target.field r start size in
     let two = both (is_led_target may c.scope st to k) (is_covered may c.scope st v (waiting to k)) e in
     led_targets_whole may c st to v at k two.0 two.1
-store_whole may c st (stat.Target.address x there) v at k e =
+store_whole may c results st (stat.Target.address x there) v at k e =
     let two = both (is_led_target may c.scope st (stat.Target.address x there) k) (is_covered may c.scope st v k) e in
     led_targets_whole may c st (stat.Target.address x there) v at k two.0 two.1
 
 pub store_performs : (may : List ℕ → Bool) (c : Context) (results : List ℕ → Option (Kind × Place)) (z : Surroundings) (call : Callee) (d number : ℕ) (to : Target) (v : Tree)
-    (at : At) (k need : ℕ) → MayCall may c.scope z d call → is_covered_store may c.scope z.setting to v k ≡ true → statement_most c.scope.names (stat.Statement.assign to v at) + 8 ≤ need
+    (at : At) (k need : ℕ) → MayCall may c.scope z d call → ResultsAgree c.scope results → is_covered_store may c.scope results z.setting to v k ≡ true → statement_most c.scope.names (stat.Statement.assign to v at) + 8 ≤ need
     → Performs z d k need (statement c (stat.Statement.assign to v at) k)
     (λ s. run (read_with c.scope results z.setting) call d number (stat.Statement.assign to v at) k s)
-store_performs may c results z call d number (stat.Target.plain (tree.Tree.named x tree.Trees.none there)) v at k need links e enough =
+unfolding result_target
+store_performs may c results z call d number (stat.Target.plain (tree.Tree.named x tree.Trees.none there)) v at k need links agrees e enough =
     let to = stat.Target.plain (tree.Tree.named x tree.Trees.none there) in
     let names = is_stored_name z.setting k (c.scope.names x) (c.scope.places x) in
-    let two = both (names || is_led_target may c.scope z.setting to k) (is_covered may c.scope z.setting v k) e in
-    ⊎_elim (λ own. assign_performs may c results z call d number x there v at k need links own two.1 (omega (arith, enough)))
-    (λ led. led_targets may c results z call d number to v at k need links led two.1 enough) (either names (is_led_target may c.scope z.setting to k) two.0)
-store_performs may c results z call d number (stat.Target.plain (tree.Tree.named x (tree.Trees.and i tree.Trees.none) there)) v at k need links e enough =
+    let given = is_stored_result z.setting k (c.scope.names x) (results x) (c.scope.places x) in
+    let two = both ((names || given) || is_led_target may c.scope z.setting to k) (is_covered may c.scope z.setting v k) e in
+    ⊎_elim
+    (λ own. ⊎_elim (λ variable. assign_performs may c results z call d number x there v at k need links
+    (target_case z.setting k (c.scope.names x) (c.scope.places x) variable) (name_leads c.scope results z.setting x k variable) two.1 (omega (arith, enough)))
+    (λ result. let parts = both (is_word_result (result_kind (c.scope.names x))) (is_result z.setting k (result_kind (c.scope.names x)) (results x) (c.scope.places x)) result in
+    let r = result_case z.setting k (result_kind (c.scope.names x)) (results x) (c.scope.places x) parts.1 in
+    assign_performs may c results z call d number x there v at k need links (result_target z.setting k (c.scope.names x) (results x) (c.scope.places x) r parts.0)
+    (result_leads c.scope results z.setting x k agrees r) two.1 (omega (arith, enough))) (either names given own))
+    (λ led. led_targets may c results z call d number to v at k need links led two.1 enough) (either (names || given) (is_led_target may c.scope z.setting to k) two.0)
+store_performs may c results z call d number (stat.Target.plain (tree.Tree.named x (tree.Trees.and i tree.Trees.none) there)) v at k need links agrees e enough =
     let to = stat.Target.plain (tree.Tree.named x (tree.Trees.and i tree.Trees.none) there) in
     let two = both (is_led_target may c.scope z.setting to k) (is_covered may c.scope z.setting v (k + 1)) e in
     led_targets may c results z call d number to v at k need links two.0 two.1 enough
-store_performs may c results z call d number (stat.Target.plain (tree.Tree.named x (tree.Trees.and i (tree.Trees.and j js)) there)) v at k need links e enough = absurd (false≢true e)
-store_performs may c results z call d number (stat.Target.plain (tree.Tree.number w)) v at k need links e enough = absurd (false≢true e)
-store_performs may c results z call d number (stat.Target.plain (tree.Tree.wide w)) v at k need links e enough = absurd (false≢true e)
-store_performs may c results z call d number (stat.Target.plain (tree.Tree.text bytes)) v at k need links e enough = absurd (false≢true e)
-store_performs may c results z call d number (stat.Target.plain (tree.Tree.truth b)) v at k need links e enough = absurd (false≢true e)
-store_performs may c results z call d number (stat.Target.plain (tree.Tree.address x es there)) v at k need links e enough = absurd (false≢true e)
-store_performs may c results z call d number (stat.Target.plain (tree.Tree.unary o a there)) v at k need links e enough = absurd (false≢true e)
-store_performs may c results z call d number (stat.Target.plain (tree.Tree.binary o a b there)) v at k need links e enough = absurd (false≢true e)
-store_performs may c results z call d number (stat.Target.plain (tree.Tree.shift o a by there)) v at k need links e enough = absurd (false≢true e)
-store_performs may c results z call d number (stat.Target.plain (tree.Tree.field a start size there)) v at k need links e enough = absurd (false≢true e)
-store_performs may c results z call d number (stat.Target.plain (tree.Tree.transfer t a there)) v at k need links e enough = absurd (false≢true e)
-store_performs may c results z call d number (stat.Target.plain (tree.Tree.bytes o a b count there)) v at k need links e enough = absurd (false≢true e)
-store_performs may c results z call d number (stat.Target.field r start size) v at k need links e enough =
+store_performs may c results z call d number (stat.Target.plain (tree.Tree.named x (tree.Trees.and i (tree.Trees.and j js)) there)) v at k need links agrees e enough = absurd (false≢true e)
+store_performs may c results z call d number (stat.Target.plain (tree.Tree.number w)) v at k need links agrees e enough = absurd (false≢true e)
+store_performs may c results z call d number (stat.Target.plain (tree.Tree.wide w)) v at k need links agrees e enough = absurd (false≢true e)
+store_performs may c results z call d number (stat.Target.plain (tree.Tree.text bytes)) v at k need links agrees e enough = absurd (false≢true e)
+store_performs may c results z call d number (stat.Target.plain (tree.Tree.truth b)) v at k need links agrees e enough = absurd (false≢true e)
+store_performs may c results z call d number (stat.Target.plain (tree.Tree.address x es there)) v at k need links agrees e enough = absurd (false≢true e)
+store_performs may c results z call d number (stat.Target.plain (tree.Tree.unary o a there)) v at k need links agrees e enough = absurd (false≢true e)
+store_performs may c results z call d number (stat.Target.plain (tree.Tree.binary o a b there)) v at k need links agrees e enough = absurd (false≢true e)
+store_performs may c results z call d number (stat.Target.plain (tree.Tree.shift o a by there)) v at k need links agrees e enough = absurd (false≢true e)
+store_performs may c results z call d number (stat.Target.plain (tree.Tree.field a start size there)) v at k need links agrees e enough = absurd (false≢true e)
+store_performs may c results z call d number (stat.Target.plain (tree.Tree.transfer t a there)) v at k need links agrees e enough = absurd (false≢true e)
+store_performs may c results z call d number (stat.Target.plain (tree.Tree.bytes o a b count there)) v at k need links agrees e enough = absurd (false≢true e)
+store_performs may c results z call d number (stat.Target.field r start size) v at k need links agrees e enough =
     let to = stat.Target.field r start size in
     let two = both (is_led_target may c.scope z.setting to k) (is_covered may c.scope z.setting v (waiting to k)) e in
     led_targets may c results z call d number to v at k need links two.0 two.1 enough
-store_performs may c results z call d number (stat.Target.address x there) v at k need links e enough =
+store_performs may c results z call d number (stat.Target.address x there) v at k need links agrees e enough =
     let two = both (is_led_target may c.scope z.setting (stat.Target.address x there) k) (is_covered may c.scope z.setting v k) e in
     led_targets may c results z call d number (stat.Target.address x there) v at k need links two.0 two.1 enough

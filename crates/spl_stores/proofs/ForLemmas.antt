@@ -48,19 +48,19 @@ use Rattle.spl_stores.specs.Covered.{is_counted_name, is_covered_step, is_covere
 -- ---- the parts
 
 -- a FOR that is covered, by its parts
-pub record ForParts (may : List ℕ → Bool) (returns : Bool) (c : Scope) (st : Setting) (x : List ℕ) (a : Tree) (b : Trees) (v : Tree) (s : Statement) (k : ℕ) : Type 0 where
+pub record ForParts (may : List ℕ → Bool) (returns : Bool) (c : Scope) (results : List ℕ → Option (Kind × Place)) (st : Setting) (x : List ℕ) (a : Tree) (b : Trees) (v : Tree) (s : Statement) (k : ℕ) : Type 0 where
   pub counted : is_counted_name st k (c.names x) (c.places x) ≡ true
   pub first : is_covered may c st a k ≡ true
   pub step : is_covered_step may c st b (k + 1) ≡ true
   pub last : is_covered may c st v (k + 2) ≡ true
-  pub inside : is_covered_statement may returns c st s (k + 3) ≡ true
+  pub inside : is_covered_statement may returns c results st s (k + 3) ≡ true
 
-pub for_parts : (may : List ℕ → Bool) (returns : Bool) (c : Scope) (st : Setting) (x : List ℕ) (first : Tree) (step : Trees) (last : Tree) (s : Statement) (k : ℕ)
+pub for_parts : (may : List ℕ → Bool) (returns : Bool) (c : Scope) (results : List ℕ → Option (Kind × Place)) (st : Setting) (x : List ℕ) (first : Tree) (step : Trees) (last : Tree) (s : Statement) (k : ℕ)
     → (is_counted_name st k (c.names x) (c.places x) && is_covered may c st first k && is_covered_step may c st step (k + 1) && is_covered may c st last (k + 2)
-    && is_covered_statement may returns c st s (k + 3)) ≡ true → ForParts may returns c st x first step last s k
-for_parts may returns c st x first step last s k e =
+    && is_covered_statement may returns c results st s (k + 3)) ≡ true → ForParts may returns c results st x first step last s k
+for_parts may returns c results st x first step last s k e =
     let a = both (is_counted_name st k (c.names x) (c.places x) && is_covered may c st first k && is_covered_step may c st step (k + 1) && is_covered may c st last (k + 2))
-    (is_covered_statement may returns c st s (k + 3)) e in
+    (is_covered_statement may returns c results st s (k + 3)) e in
     let b = both (is_counted_name st k (c.names x) (c.places x) && is_covered may c st first k && is_covered_step may c st step (k + 1)) (is_covered may c st last (k + 2)) a.0 in
     let d = both (is_counted_name st k (c.names x) (c.places x) && is_covered may c st first k) (is_covered_step may c st step (k + 1)) b.0 in
     let f = both (is_counted_name st k (c.names x) (c.places x)) (is_covered may c st first k) d.0 in

@@ -1,5 +1,6 @@
 -- Which statements are proved: those whose every part has a law. A further construct makes it larger.
 use Rattle.std.specs.Prelude.{ℕ, ◌+◌, ◌&&◌, Bool, true, false, List, Option, Some, ◌||◌}
+use Rattle.spl_tree.specs.declared.expressions.Kind.{Kind}
 use Rattle.spl_tree.specs.declared.expressions.Kind.TheVariants as kind
 use Rattle.spl_tree.specs.Trees as tree
 use Rattle.spl_tree.specs.Trees.{Tree, Trees}
@@ -13,7 +14,8 @@ use Rattle.spl_meaning.specs.References.{Setting}
 use Rattle.spl_code.specs.Calls.{Scope}
 use Rattle.spl_operators.specs.Laws.{is_single}
 use Rattle.spl_names.specs.Names.{has_reached}
-use Rattle.spl_covered.specs.Covered.{is_covered}
+use Rattle.spl_covered.specs.Covered.{is_word_result, is_covered}
+use Rattle.spl_targets.specs.Results.{result_kind, is_result}
 use Rattle.spl_targets.specs.Targets.{is_led_target}
 use Rattle.spl_calls.specs.Covered.{is_covered_call, is_covered_answer}
 use Rattle.spl_wide.specs.Wide.{is_wide_assignment}
@@ -24,15 +26,20 @@ is_stored_name st k (Some (n.simple t own)) place = is_single t && has_reached s
 is_stored_name st k (Some (n.value t)) place = is_single t && has_reached st k place
 is_stored_name st k _ place = false
 
+-- a name that means a result of one word or BYTE
+abbrev pub is_stored_result : Setting → ℕ → Option Sort → Option (Kind × Place) → Option Place → Bool
+is_stored_result st k o r place = is_word_result (result_kind o) && is_result st k (result_kind o) r place
+
 -- a target: such a name without an index, or what a name's word leads to
-abbrev pub is_covered_target : (List ℕ → Bool) → Scope → Setting → Target → ℕ → Bool
-is_covered_target may c st (stat.Target.plain (tree.Tree.named x tree.Trees.none at)) k =
-    is_stored_name st k (c.names x) (c.places x) || is_led_target may c st (stat.Target.plain (tree.Tree.named x tree.Trees.none at)) k
-is_covered_target may c st to k = is_led_target may c st to k
+abbrev pub is_covered_target : (List ℕ → Bool) → Scope → (List ℕ → Option (Kind × Place)) → Setting → Target → ℕ → Bool
+is_covered_target may c results st (stat.Target.plain (tree.Tree.named x tree.Trees.none at)) k =
+    (is_stored_name st k (c.names x) (c.places x) || is_stored_result st k (c.names x) (results x) (c.places x))
+    || is_led_target may c st (stat.Target.plain (tree.Tree.named x tree.Trees.none at)) k
+is_covered_target may c results st to k = is_led_target may c st to k
 
 -- a value that is covered, in a target that is
-abbrev pub is_covered_store : (List ℕ → Bool) → Scope → Setting → Target → Tree → ℕ → Bool
-is_covered_store may c st to e k = is_covered_target may c st to k && is_covered may c st e (waiting to k)
+abbrev pub is_covered_store : (List ℕ → Bool) → Scope → (List ℕ → Option (Kind × Place)) → Setting → Target → Tree → ℕ → Bool
+is_covered_store may c results st to e k = is_covered_target may c results st to k && is_covered may c st e (waiting to k)
 
 -- the variable of a FOR: an INTEGER one, simple or a parameter by value, where it is reached
 abbrev pub is_counted_name : Setting → ℕ → Option Sort → Option Place → Bool
@@ -50,31 +57,35 @@ abbrev mutual
   -- answers, blocks of such, IF, WHILE and DO of such with a condition that is covered, IF on the condition code, CASE of such with a value
   -- that is, calls, GO TO, RETURN where it may stand, such behind labels, and
   -- FOR of such with values that are, each while as many words more wait as stand before it.
-  pub is_covered_statement : (List ℕ → Bool) → Bool → Scope → Setting → Statement → ℕ → Bool
-  is_covered_statement may returns c st stat.Statement.empty k = true
-  is_covered_statement may returns c st (stat.Statement.block ss) k = are_covered may returns c st ss k
-  is_covered_statement may returns c st (stat.Statement.assign to e at) k =
-      is_covered_store may c st to e k || (is_wide_assignment may c st to e k || is_covered_answer may c st to e k)
-  is_covered_statement may returns c st (stat.Statement.if_test (stat.Test.condition e) s stat.Statements.none at) k =
-      is_covered may c st e k && is_covered_statement may returns c st s k
-  is_covered_statement may returns c st (stat.Statement.if_test (stat.Test.condition e) s (stat.Statements.and other stat.Statements.none) at) k =
-      is_covered may c st e k && is_covered_statement may returns c st s k && is_covered_statement may returns c st other k
-  is_covered_statement may returns c st (stat.Statement.if_test (stat.Test.code o) s stat.Statements.none at) k = is_covered_statement may returns c st s k
-  is_covered_statement may returns c st (stat.Statement.if_test (stat.Test.code o) s (stat.Statements.and other stat.Statements.none) at) k =
-      is_covered_statement may returns c st s k && is_covered_statement may returns c st other k
-  is_covered_statement may returns c st (stat.Statement.while_true e s at) k = is_covered may c st e k && is_covered_statement may returns c st s k
-  is_covered_statement may returns c st (stat.Statement.until_true s e at) k = is_covered may c st e k && is_covered_statement may returns c st s k
-  is_covered_statement may returns c st (stat.Statement.for_values x first step last s at) k =
+  pub is_covered_statement : (List ℕ → Bool) → Bool → Scope → (List ℕ → Option (Kind × Place)) → Setting → Statement → ℕ → Bool
+  is_covered_statement may returns c results st stat.Statement.empty k = true
+  is_covered_statement may returns c results st (stat.Statement.block ss) k = are_covered may returns c results st ss k
+  is_covered_statement may returns c results st (stat.Statement.assign to e at) k =
+      is_covered_store may c results st to e k || (is_wide_assignment may c results st to e k || is_covered_answer may c st to e k)
+  is_covered_statement may returns c results st (stat.Statement.if_test (stat.Test.condition e) s stat.Statements.none at) k =
+      is_covered may c st e k && is_covered_statement may returns c results st s k
+  is_covered_statement may returns c results st (stat.Statement.if_test (stat.Test.condition e) s (stat.Statements.and other stat.Statements.none) at) k =
+      is_covered may c st e k && is_covered_statement may returns c results st s k && is_covered_statement may returns c results st other k
+  is_covered_statement may returns c results st
+    (stat.Statement.if_test (stat.Test.code o) s stat.Statements.none at) k = is_covered_statement may returns c results st s k
+  is_covered_statement may returns c results st (stat.Statement.if_test (stat.Test.code o) s (stat.Statements.and other stat.Statements.none) at) k =
+      is_covered_statement may returns c results st s k && is_covered_statement may returns c results st other k
+  is_covered_statement may returns c results st
+    (stat.Statement.while_true e s at) k = is_covered may c st e k && is_covered_statement may returns c results st s k
+  is_covered_statement may returns c results st
+    (stat.Statement.until_true s e at) k = is_covered may c st e k && is_covered_statement may returns c results st s k
+  is_covered_statement may returns c results st (stat.Statement.for_values x first step last s at) k =
       is_counted_name st k (c.names x) (c.places x) && is_covered may c st first k && is_covered_step may c st step (k + 1) && is_covered may c st last (k + 2)
-      && is_covered_statement may returns c st s (k + 3)
-  is_covered_statement may returns c st (stat.Statement.case_of e ss at) k = is_covered may c st e k && are_covered may returns c st ss k
-  is_covered_statement may returns c st (stat.Statement.call x es at) k = is_covered_call may c st x (c.names x) es k
-  is_covered_statement may returns c st (stat.Statement.labelled y at s) k = is_covered_statement may returns c st s k
-  is_covered_statement may returns c st (stat.Statement.go_to y at) k = true
-  is_covered_statement may returns c st (stat.Statement.return at) k = returns
-  is_covered_statement may returns c st _ k = false
+      && is_covered_statement may returns c results st s (k + 3)
+  is_covered_statement may returns c results st (stat.Statement.case_of e ss at) k = is_covered may c st e k && are_covered may returns c results st ss k
+  is_covered_statement may returns c results st (stat.Statement.call x es at) k = is_covered_call may c st x (c.names x) es k
+  is_covered_statement may returns c results st (stat.Statement.labelled y at s) k = is_covered_statement may returns c results st s k
+  is_covered_statement may returns c results st (stat.Statement.go_to y at) k = true
+  is_covered_statement may returns c results st (stat.Statement.return at) k = returns
+  is_covered_statement may returns c results st _ k = false
 
   -- a list of such
-  pub are_covered : (List ℕ → Bool) → Bool → Scope → Setting → Statements → ℕ → Bool
-  are_covered may returns c st stat.Statements.none k = true
-  are_covered may returns c st (stat.Statements.and s ss) k = is_covered_statement may returns c st s k && are_covered may returns c st ss k
+  pub are_covered : (List ℕ → Bool) → Bool → Scope → (List ℕ → Option (Kind × Place)) → Setting → Statements → ℕ → Bool
+  are_covered may returns c results st stat.Statements.none k = true
+  are_covered may returns c results st
+    (stat.Statements.and s ss) k = is_covered_statement may returns c results st s k && are_covered may returns c results st ss k

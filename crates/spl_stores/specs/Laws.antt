@@ -23,6 +23,7 @@ use Rattle.spl_operators.specs.Laws.{is_single}
 use Rattle.spl_names.specs.Names.{read_with}
 use Rattle.spl_links.specs.Links.{MayCall}
 use Rattle.spl_jumps.specs.Landed.{is_landed, are_landed, MayJump}
+use Rattle.spl_targets.specs.Results.{ResultsAgree}
 use Rattle.spl_stores.specs.Covered.{is_covered_statement, are_covered}
 
 -- ---- constructs
@@ -44,22 +45,27 @@ pub record MayReturn (leave : ℕ) (z : Surroundings) : Type 0 where
 
 -- what is covered has whole code, where its jumps lead somewhere
 abbrev pub CoveredStatementsAreWhole : Type 0
-CoveredStatementsAreWhole = (may : List ℕ → Bool) (returns : Bool) (c : Context) (st : Setting) (s : Statement) (k : ℕ) → is_covered_statement may returns c.scope st s k ≡ true
+CoveredStatementsAreWhole = (may : List ℕ → Bool) (returns : Bool) (c : Context) (results : List ℕ → Option (Kind × Place)) (st : Setting) (s : Statement)
+    (k : ℕ) → is_covered_statement may returns c.scope results st s k ≡ true
     → (labels : List (List ℕ)) → is_landed c.landings labels s k ≡ true → IsWhole (statement c s k)
 
 -- The code of a statement that is covered performs it, wherever it stands, where its calls find what they name, RETURN leads to the way
 -- out, and its labels and jumps lead somewhere, by those of the lists around it.
 abbrev pub CoveredStatementsPerform : Type 0
-CoveredStatementsPerform = (may : List ℕ → Bool) (returns : Bool) (c : Context) (results : List ℕ → Option (Kind × Place)) (z : Surroundings) (call : Callee) (d number : ℕ)
-    (labels : List (List ℕ)) (st : Statement) (k need : ℕ) → is_covered_statement may returns c.scope z.setting st k ≡ true
-    → statement_most c.scope.names st + 8 ≤ need → MayCall may c.scope z d call → (returns ≡ true → MayReturn c.leave z) → MayJump c.landings z labels k → is_landed c.landings labels st k ≡ true
+CoveredStatementsPerform = (may : List ℕ → Bool) (returns : Bool) (c : Context) (results : List ℕ → Option (Kind × Place)) (z : Surroundings) (call : Callee)
+    (d number : ℕ)
+    (labels : List (List ℕ)) (st : Statement) (k need : ℕ) → is_covered_statement may returns c.scope results z.setting st k ≡ true
+    → statement_most c.scope.names st + 8 ≤ need → MayCall may c.scope z d call → ResultsAgree c.scope results → (returns ≡ true → MayReturn c.leave z)
+    → MayJump c.landings z labels k → is_landed c.landings labels st k ≡ true
     → Performs z d k need (statement c st k) (λ s. run (read_with c.scope results z.setting) call d number st k s)
 
 -- and so does that of a list of such, that takes the jumps to its labels
 abbrev pub CoveredListsPerform : Type 0
-CoveredListsPerform = (may : List ℕ → Bool) (returns : Bool) (c : Context) (results : List ℕ → Option (Kind × Place)) (z : Surroundings) (call : Callee) (d number : ℕ)
-    (labels : List (List ℕ)) (ss : Statements) (k need : ℕ) → are_covered may returns c.scope z.setting ss k ≡ true
-    → statements_most c.scope.names ss + 8 ≤ need → MayCall may c.scope z d call → (returns ≡ true → MayReturn c.leave z) → MayJump c.landings z labels k
+CoveredListsPerform = (may : List ℕ → Bool) (returns : Bool) (c : Context) (results : List ℕ → Option (Kind × Place)) (z : Surroundings) (call : Callee)
+    (d number : ℕ)
+    (labels : List (List ℕ)) (ss : Statements) (k need : ℕ) → are_covered may returns c.scope results z.setting ss k ≡ true
+    → statements_most c.scope.names ss + 8 ≤ need → MayCall may c.scope z d call → ResultsAgree c.scope results → (returns ≡ true → MayReturn c.leave z)
+    → MayJump c.landings z labels k
     → are_landed c.landings (labels ++ list_labels ss) ss k ≡ true
     → PerformsAll z d k need (listed c ss k) (λ s. landing d (bears_among ss)
     (λ x t. run_from (read_with c.scope results z.setting) call d number ss x k t) (run_all (read_with c.scope results z.setting) call d number ss k s))

@@ -3,3 +3,4 @@ pub mod SameLemmas
 pub mod ElementLemmas
 pub mod FieldLemmas
 pub mod TargetLemmas
+pub mod ResultLemmas

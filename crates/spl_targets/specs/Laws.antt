@@ -26,8 +26,10 @@ LedTargetsAreWhole = (may : List ℕ → Bool) (c : Context) (st : Setting) (to 
 
 -- It performs the assignment, wherever it stands, with the room that a body's depth has.
 abbrev pub LedTargetsPerform : Type 0
-LedTargetsPerform = (may : List ℕ → Bool) (c : Context) (results : List ℕ → Option (Kind × Place)) (z : Surroundings) (call : Callee) (d number : ℕ) (to : Target) (e : Tree)
-    (at : At) (k need : ℕ) → MayCall may c.scope z d call → is_led_target may c.scope z.setting to k ≡ true → is_covered may c.scope z.setting e (waiting to k) ≡ true
+LedTargetsPerform = (may : List ℕ → Bool) (c : Context) (results : List ℕ → Option (Kind × Place)) (z : Surroundings) (call : Callee) (d number : ℕ)
+    (to : Target) (e : Tree)
+    (at : At) (k need : ℕ) → MayCall may c.scope z d call → is_led_target may c.scope z.setting to k ≡ true → is_covered may c.scope z.setting e
+    (waiting to k) ≡ true
     → statement_most c.scope.names (stat.Statement.assign to e at) + 8 ≤ need
     → Performs z d k need (statement c (stat.Statement.assign to e at) k)
     (λ s. run (read_with c.scope results z.setting) call d number (stat.Statement.assign to e at) k s)

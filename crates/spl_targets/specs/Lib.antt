@@ -1,3 +1,4 @@
 -- In reading order.
 pub mod Targets
+pub mod Results
 pub mod Laws

@@ -16,16 +16,20 @@ use Rattle.spl_follow.specs.Simulating.{Surroundings, Performs}
 use Rattle.spl_values.specs.Reached.{IsWhole}
 use Rattle.spl_links.specs.Links.{MayCall}
 use Rattle.spl_names.specs.Names.{read_with}
+use Rattle.spl_targets.specs.Results.{ResultsAgree}
 use Rattle.spl_wide.specs.Wide.{is_wide_assignment}
 
 -- an assignment of a DOUBLE expression that is covered has whole code
 abbrev pub WideAssignmentsAreWhole : Type 0
-WideAssignmentsAreWhole = (may : List ℕ → Bool) (c : Context) (st : Setting) (to : Target) (e : Tree) (at : At) (k : ℕ) → is_wide_assignment may c.scope st to e k ≡ true
+WideAssignmentsAreWhole = (may : List ℕ → Bool) (c : Context) (results : List ℕ → Option (Kind × Place)) (st : Setting) (to : Target) (e : Tree) (at : At)
+    (k : ℕ) → is_wide_assignment may c.scope results st to e k ≡ true
     → IsWhole (statement c (stat.Statement.assign to e at) k)
 
 -- and it performs the assignment
 abbrev pub WideAssignmentsPerform : Type 0
-WideAssignmentsPerform = (may : List ℕ → Bool) (c : Context) (results : List ℕ → Option (Kind × Place)) (z : Surroundings) (call : Callee) (d number : ℕ) (to : Target) (e : Tree)
-    (at : At) (k need : ℕ) → MayCall may c.scope z d call → is_wide_assignment may c.scope z.setting to e k ≡ true → statement_most c.scope.names (stat.Statement.assign to e at) + 8 ≤ need
+WideAssignmentsPerform = (may : List ℕ → Bool) (c : Context) (results : List ℕ → Option (Kind × Place)) (z : Surroundings) (call : Callee) (d number : ℕ)
+    (to : Target) (e : Tree)
+    (at : At) (k need : ℕ) → MayCall may c.scope z d call → ResultsAgree c.scope results → is_wide_assignment may c.scope results z.setting to e k ≡ true
+    → statement_most c.scope.names (stat.Statement.assign to e at) + 8 ≤ need
     → Performs z d k need (statement c (stat.Statement.assign to e at) k)
     (λ s. run (read_with c.scope results z.setting) call d number (stat.Statement.assign to e at) k s)

@@ -24,17 +24,17 @@ use Rattle.spl_callable.specs.Callable.{is_among}
 use Rattle.spl_targets.specs.Targets.{is_led_target}
 use Rattle.spl_calls.specs.Covered.{is_covered_call, is_covered_answer}
 use Rattle.spl_wide.specs.Wide.{is_wide_assignment}
-use Rattle.spl_stores.specs.Covered.{is_stored_name, is_covered_store, is_covered_statement, are_covered}
+use Rattle.spl_stores.specs.Covered.{is_stored_name, is_stored_result, is_covered_store, is_covered_statement, are_covered}
 use Rattle.thin_jobs.specs.ThinUnits as u
 use Rattle.thin_jobs.specs.ThinTrees.{tree_sum, tree_call, tree_assignment, tree_statement}
 use Rattle.thin_jobs.specs.ThinShapes.{is_sum, is_short, is_statement}
-use Rattle.thin_covered.specs.Shown.{Shows}
+use Rattle.thin_covered.specs.Shown.{Shows, no_results}
 use Rattle.thin_covered.proofs.NameLemmas.{never, same_as}
 use Rattle.thin_covered.proofs.SumLemmas.{true_or, sum_fits}
 
 -- a statement is covered where nothing waits, and at most one word waits in it
 pub record Runs (c : Scope) (st : Setting) (s : Statement) : Type 0 where
-  pub covered : is_covered_statement (is_among []) false c st s 0 ≡ true
+  pub covered : is_covered_statement (is_among []) false c no_results st s 0 ≡ true
   pub waits : statement_most c.names s ≤ 1
 
 -- both of two tests
@@ -61,10 +61,12 @@ stored_fits {names} c st shows x a at e is short =
     let target = ap (λ (o : Option Sort). is_stored_name st 0 o (c.places x)) (shows.variable x is) ∙ shows.reached x is 0 in
     let to = stat.Target.plain (tree.Tree.named x tree.Trees.none a) in
     let led = is_led_target (is_among []) c st to 0 in
+    let own = is_stored_name st 0 (c.names x) (c.places x) in
+    let given = is_stored_result st 0 (c.names x) (no_results x) (c.places x) in
     let few = sum.waits in
     record {
-      covered = true_or (is_covered_store (is_among []) c st to e 0) (is_wide_assignment (is_among []) c st to e 0 || is_covered_answer (is_among []) c st to e 0)
-          (all_true (is_stored_name st 0 (c.names x) (c.places x) || led) (is_covered (is_among []) c st e 0) (true_or (is_stored_name st 0 (c.names x) (c.places x)) led target) (sum.covered 0));
+      covered = true_or (is_covered_store (is_among []) c no_results st to e 0) (is_wide_assignment (is_among []) c no_results st to e 0 || is_covered_answer (is_among []) c st to e 0)
+          (all_true ((own || given) || led) (is_covered (is_among []) c st e 0) (true_or (own || given) led (true_or own given target)) (sum.covered 0));
       waits = max-le (omega arith) few;
     }
 
@@ -166,7 +168,7 @@ statement_fits c st shows (stat.Statement.do_effect e at) is = never is
 
 -- so it is with a list
 pub record AllRun (c : Scope) (st : Setting) (ss : Statements) : Type 0 where
-  pub covered : are_covered (is_among []) false c st ss 0 ≡ true
+  pub covered : are_covered (is_among []) false c no_results st ss 0 ≡ true
   pub waits : statements_most c.names ss ≤ 1
 
 -- one behind the other
@@ -178,6 +180,6 @@ list_fits {names} {gates} c st shows (s ∷ ss) is =
     let one = statement_fits c st shows s two.0 in
     let rest = list_fits c st shows ss two.1 in
     record {
-      covered = all_true (is_covered_statement (is_among []) false c st s 0) (are_covered (is_among []) false c st (statements ss) 0) one.covered rest.covered;
+      covered = all_true (is_covered_statement (is_among []) false c no_results st s 0) (are_covered (is_among []) false c no_results st (statements ss) 0) one.covered rest.covered;
       waits = max-le one.waits rest.waits;
     }

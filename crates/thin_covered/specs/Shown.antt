@@ -1,5 +1,7 @@
 -- The scope that the statements of a thin unit ask for.
-use Rattle.std.specs.Prelude.{◌≡◌, ℕ, true, false, codes, List, Some}
+use Rattle.std.specs.Prelude.{◌≡◌, ℕ, true, false, codes, List, Option, Some, None}
+use Rattle.spl_tree.specs.declared.expressions.Kind.{Kind}
+use Rattle.spl_meaning.specs.Places.{Place}
 use Rattle.hp_word.specs.declared.intrinsics.Intrinsic.TheVariants as gate
 use Rattle.spl_tree.specs.declared.expressions.Kind.TheVariants as kind
 use Rattle.spl_meaning.specs.Names as n
@@ -7,6 +9,10 @@ use Rattle.spl_meaning.specs.References.{Setting}
 use Rattle.spl_code.specs.Calls.{Scope}
 use Rattle.spl_names.specs.Names.{has_reached}
 use Rattle.thin_jobs.specs.ThinUnits as u
+
+-- no name means a result, in a main body
+abbrev pub no_results : List ℕ → Option (Kind × Place)
+no_results x = None
 
 -- A scope, with the setting of a body that is not split, shows the names of a thin unit: each variable is an INTEGER, whose word is reached
 -- however many words wait, and each intrinsic that is declared stands for itself.
