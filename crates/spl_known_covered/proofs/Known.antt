@@ -1,7 +1,7 @@
 -- Known programs, computed.
 use Rattle.std.proofs.Common.{refl, true, false}
 use Rattle.spl_known.proofs.Computing.{all}
-use Rattle.spl_known_covered.specs.Programs.{AllSo, covered_texts, other_texts}
+use Rattle.spl_known_covered.specs.Programs.{AllSo, EachSo, covered_texts, other_texts, calling_texts, uncalled_texts}
 
 pub all_covered : AllSo true covered_texts
 unfolding all
@@ -10,3 +10,11 @@ all_covered = (refl, (refl, (refl, (refl, (refl, (refl, (refl, (refl, (refl, (re
 pub none_covered : AllSo false other_texts
 unfolding all
 none_covered = (refl, (refl, (refl, tt)))
+
+pub all_calling : EachSo true calling_texts
+unfolding all
+all_calling = (refl, (refl, (refl, (refl, (refl, (refl, (refl, (refl, (refl, (refl, (refl, tt)))))))))))
+
+pub none_calling : EachSo false uncalled_texts
+unfolding all
+none_calling = (refl, (refl, (refl, (refl, tt))))

@@ -1,17 +1,23 @@
 -- Which programs are covered, of some that are given by their texts.
-use Rattle.std.specs.Prelude.{◌≡◌, Bool, true, false, List, [], ◌∷◌, Option, Some, option_map}
+use Rattle.std.specs.Prelude.{◌≡◌, Bool, List, [], ◌∷◌, map, codes, Some, option_map}
 use Prim.Native.String.{String}
 use Rattle.spl_meaning.specs.Tables.{Source}
 use Rattle.spl_known.specs.Programs.{sources_from}
 use Rattle.spl_carried.specs.Covered.{is_covered_program}
 
--- the program of one unit with this text is covered, or it is not
-abbrev pub IsSo : Bool → String → Type 0
-IsSo covered text = option_map is_covered_program (sources_from 1 [] (text ∷ [])) ≡ Some covered
+-- the program of one unit with this text, of which procedures of these names may be called, is covered, or it is not
+abbrev pub IsSo : Bool → List String → String → Type 0
+IsSo covered names text = option_map (λ us. is_covered_program (map codes names) us) (sources_from 1 [] (text ∷ [])) ≡ Some covered
 
+-- so it is with each text, where none may be called
 abbrev pub AllSo : Bool → List String → Type 0
 AllSo covered [] = Unit {0}
-AllSo covered (t ∷ ts) = IsSo covered t × AllSo covered ts
+AllSo covered (t ∷ ts) = IsSo covered [] t × AllSo covered ts
+
+-- and with each by its names
+abbrev pub EachSo : Bool → List (List String × String) → Type 0
+EachSo covered [] = Unit {0}
+EachSo covered (c ∷ cs) = IsSo covered c.0 c.1 × EachSo covered cs
 
 -- sums, loops, choices, elements of arrays, BYTEs, bit fields, pointers, DOUBLEs, their relations and their elements, what is declared and not called,
 -- calls of intrinsics, IF on the condition code; and jumps: backwards, forwards, out of a FOR, inside one, and from one arm of a CASE to another
@@ -42,9 +48,35 @@ covered_texts =
     ∷ "BEGIN INTEGER I,K; FOR I:=1 UNTIL 3 DO BEGIN M: K:=K+1; IF K<I THEN GO TO M END END."
     ∷ "BEGIN INTEGER I; CASE I OF BEGIN GO TO M; M: I:=2 END END." ∷ []
 
--- a call of a procedure, an intrinsic within an expression, and a unit without a main body
+-- an intrinsic within an expression, a move, and a unit without a main body
 abbrev pub other_texts : List String
 other_texts =
-    "BEGIN INTEGER I; PROCEDURE P; I:=1; P END."
-    ∷ "BEGIN LOGICAL ARRAY W(0:3); INTEGER N; INTRINSIC READ; N:=READ(W,4)+1 END."
+    "BEGIN LOGICAL ARRAY W(0:3); INTEGER N; INTRINSIC READ; N:=READ(W,4)+1 END."
+    ∷ "BEGIN BYTE ARRAY B(0:3); MOVE B:=\"AB\" END."
     ∷ "$CONTROL SUBPROGRAM\nBEGIN INTEGER I; PROCEDURE P; I:=1; END." ∷ []
+
+-- ---- calls
+
+-- a procedure without parameters; one that is recursive, with a local item; parameters by value and by reference; a result; two that call each other; an
+-- array and an element passed; an OWN item; DOUBLEs; a call within an argument; a local array, a view and an initial value; and a split procedure
+abbrev pub calling_texts : List (List String × String)
+calling_texts =
+    ("P" ∷ [], "BEGIN INTEGER I; PROCEDURE P; I:=1; P END.")
+    ∷ ("P" ∷ [], "BEGIN INTEGER I; PROCEDURE P; BEGIN INTEGER K; K:=I; IF K>0 THEN BEGIN I:=K-1; P; RETURN END END; I:=3; P END.")
+    ∷ ("SWAP" ∷ [], "BEGIN INTEGER I,J; PROCEDURE SWAP(A,B); INTEGER A,B; BEGIN INTEGER T; T:=A; A:=B; B:=T END; I:=3; J:=8; SWAP(I,J) END.")
+    ∷ ("F" ∷ [], "BEGIN INTEGER K; INTRINSIC QUIT; INTEGER PROCEDURE F(N); VALUE N; INTEGER N; BEGIN IF N<2 THEN F:=1 ELSE F:=N*F(N-1); END; K:=F(7); QUIT(K) END.")
+    ∷ ("ODD" ∷ "EVEN" ∷ [], "BEGIN INTEGER K; LOGICAL PROCEDURE ODD(A); VALUE A; INTEGER A; OPTION FORWARD; LOGICAL PROCEDURE EVEN(A); VALUE A; INTEGER A; IF A=0 THEN EVEN:=TRUE ELSE EVEN:=ODD(A-1); LOGICAL PROCEDURE ODD(A); VALUE A; INTEGER A; IF A=0 THEN ODD:=FALSE ELSE ODD:=EVEN(A-1); IF ODD(7) THEN K:=1 END.")
+    ∷ ("F" ∷ [], "BEGIN INTEGER ARRAY A(-1:4):=1,2,3,4,5,6; INTRINSIC QUIT; INTEGER PROCEDURE F(R,K); VALUE K; INTEGER ARRAY R; INTEGER K; F:=R(K)*10+R; QUIT(F(A,-1)*100+F(A(2),2)) END.")
+    ∷ ("P" ∷ [], "BEGIN INTEGER K; PROCEDURE P; BEGIN OWN INTEGER C:=5; INTEGER D; C:=C+1; D:=D+1; K:=K*100+C*10+D; END; P; P END.")
+    ∷ ("F" ∷ [], "BEGIN DOUBLE E; INTRINSIC QUIT; DOUBLE PROCEDURE F(C,D); VALUE C; DOUBLE C,D; BEGIN D:=D+C; F:=D-1D; END; E:=70000D; QUIT(INTEGER(F(-69990D,E))*100+INTEGER(E)) END.")
+    ∷ ("F" ∷ [], "BEGIN INTEGER K; INTEGER PROCEDURE F(N); VALUE N; INTEGER N; F:=N+1; K:=F(F(F(1))) END.")
+    ∷ ("P" ∷ [], "BEGIN PROCEDURE P; BEGIN INTEGER ARRAY A(0:3); BYTE ARRAY B(*)=A; INTEGER I:=2; A(I):=7; B(1):=65 END; P END.")
+    ∷ ("P" ∷ [], "BEGIN INTRINSIC QUIT; INTEGER PROCEDURE P(A); VALUE A; INTEGER A; OPTION SPLIT; BEGIN INTEGER POINTER Q; INTEGER I,J; Q:=3; J:=A; I:=J+Q; J:=0; P:=I*10+Q(1); END; QUIT(P(4)) END.") ∷ []
+
+-- a procedure that may not be called, one that moves, one that calls another that may not be called, and a subroutine
+abbrev pub uncalled_texts : List (List String × String)
+uncalled_texts =
+    ([], "BEGIN INTEGER I; PROCEDURE P; I:=1; P END.")
+    ∷ ("P" ∷ [], "BEGIN BYTE ARRAY B(0:3); PROCEDURE P; MOVE B:=\"AB\"; P END.")
+    ∷ ("P" ∷ [], "BEGIN INTEGER I; PROCEDURE Q; I:=1; PROCEDURE P; Q; P END.")
+    ∷ ("P" ∷ [], "BEGIN INTEGER I; PROCEDURE P; I:=1; SUBROUTINE S; I:=1; S END.") ∷ []

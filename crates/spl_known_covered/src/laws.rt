@@ -1,9 +1,11 @@
 //! What is known, as the contract of a function that does nothing.
 ghost use Rattle.std.specs.Prelude.{true, false};
-ghost use Rattle.spl_known_covered.specs.Programs.{AllSo, covered_texts, other_texts};
+ghost use Rattle.spl_known_covered.specs.Programs.{AllSo, EachSo, covered_texts, other_texts, calling_texts, uncalled_texts};
 
 /// These programs are covered, and those are not.
 pub fn programs_are_covered()
     ensures covered { AllSo true covered_texts }
     ensures others { AllSo false other_texts }
+    ensures calling { EachSo true calling_texts }
+    ensures uncalled { EachSo false uncalled_texts }
 {}

@@ -1,5 +1,5 @@
 -- Each is computed.
-use Rattle.spl_known_covered.proofs.Known.{all_covered, none_covered}
+use Rattle.spl_known_covered.proofs.Known.{all_covered, none_covered, all_calling, none_calling}
 use Rattle.spl_known_covered.proofs.laws.programs_are_covered.Goals as goal
 
 pub returns-clause-covered : goal.returns-clause-covered
@@ -7,3 +7,9 @@ returns-clause-covered c = all_covered
 
 pub returns-clause-others : goal.returns-clause-others
 returns-clause-others c = none_covered
+
+pub returns-clause-calling : goal.returns-clause-calling
+returns-clause-calling c = all_calling
+
+pub returns-clause-uncalled : goal.returns-clause-uncalled
+returns-clause-uncalled c = none_calling
