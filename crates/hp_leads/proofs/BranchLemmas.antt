@@ -62,7 +62,7 @@ branch_step g p by t direct has to m at =
 pub direct_leads : (g : Ground) (p : Point) (by : Instr) (t : ℕ) → is_direct by ≡ true → HasInstr g p by
     → displaced (goes_back by) (distance by) p.at.offset ≡ t
     → Leads g p (next_word p.at) (turning by (word_at p.at t) (next_word p.at))
-direct_leads g p by t direct has to = one_step g p (next_word p.at) _ has.start (next_rises p.at) (λ m at runs. branch_step g p by t direct has to m at)
+direct_leads g p by t direct has to = one_step g p (next_word p.at) _ has.start (next_rises p.at) refl (λ m at runs. branch_step g p by t direct has to m at)
 
 -- ---- branches by their aim
 
@@ -148,7 +148,7 @@ pub toward_leads : (g : Ground) (p : Point) (by : Instr) (t : ℕ) → is_direct
     → Leads g p (next_word p.at) (turning by (word_at p.at t) (next_word p.at))
 toward_leads g p by t direct small has =
     let here = near g p _ has in
-    one_step g p (next_word p.at) _ has.start (next_rises p.at) (λ m at runs.
+    one_step g p (next_word p.at) _ has.start (next_rises p.at) refl (λ m at runs.
     aimed_step g p by (nat_lt t p.at.offset) (gap p.at.offset t) t direct has (gap_leads p.at.offset t (omega (arith, here)) small) m at)
 
 -- ---- BR through a word
@@ -175,7 +175,7 @@ past_step g p has small m at =
 pub far_jump_leads : (g : Ground) (p : Point) (t : ℕ) (back : Bool) (d : ℕ) → HasInstr g p through → Points g p.at.seg (p.at.offset + 1) t
     → Leads g p (word_at p.at (p.at.offset + 2)) (turning (i.Branch false back d) (word_at p.at t) (word_at p.at (p.at.offset + 2)))
 far_jump_leads g p t back d has points =
-    one_step g p _ _ has.start (two_rise p.at) (λ m at runs. through_step g p t has points m at)
+    one_step g p _ _ has.start (two_rise p.at) refl (λ m at runs. through_step g p t has points m at)
   where
     two_rise : (q : Spot) → pos q < pos (word_at q (q.offset + 2))
     two_rise q = by q.right where
@@ -273,6 +273,7 @@ module _ (g : Ground) (p : Point) (by : Instr) (t : ℕ) (direct : is_direct by 
     far_leads = record {
       start = has.start;
       rise = rises;
+      inside = refl;
       goes = λ m at runs.
           let reached = by_choice m (choice by (at_left m)) runs (choice_stays by (at_left m))
           (first_step m at ∙ ap (ended m) (turned_by_choice two one by (at_left m) direct)) in

@@ -78,7 +78,7 @@ scal_rowed segments n m = refl
 pub procedure_leads : (g : Ground) (p : Point) (n e : ℕ) (way : Way) → HasInstr g p (i.Control 0 n)
     → entry_way g.segments p.at.seg n ≡ Some way
     → Leads g p (next_word p.at) (calling (i.Control 0 e) way (next_word p.at))
-procedure_leads g p n e way has is = one_step g p (next_word p.at) _ has.start (next_rises p.at) (λ m at runs. stepped m at) where
+procedure_leads g p n e way has is = one_step g p (next_word p.at) _ has.start (next_rises p.at) refl (λ m at runs. stepped m at) where
   stepped : (m : Machine) → spot m ≡ p.at → step g.segments m ≡ calling (i.Control 0 e) way (next_word p.at) m
   stepped m at =
       word_step g p (i.Control 0 n) has m at
@@ -122,7 +122,7 @@ scal_goes segments p k n e way seg at near is =
 pub subroutine_leads : (g : Ground) (p : Point) (n e : ℕ) (way : Way) → HasInstr g p (i.Control 3 n)
     → subroutine_way g.segments p.at.seg n ≡ Some way
     → Leads g p (next_word p.at) (calling (i.Control 3 e) way (next_word p.at))
-subroutine_leads g p n e way has is = one_step g p (next_word p.at) _ has.start (next_rises p.at) (λ m at runs. stepped m at) where
+subroutine_leads g p n e way has is = one_step g p (next_word p.at) _ has.start (next_rises p.at) refl (λ m at runs. stepped m at) where
   stepped : (m : Machine) → spot m ≡ p.at → step g.segments m ≡ calling (i.Control 3 e) way (next_word p.at) m
   stepped m at =
       word_step g p (i.Control 3 n) has m at

@@ -48,10 +48,11 @@ reached_once g b m n some runs stepped = record {
 
 -- a place that leads on by one step
 pub one_step : (g : Ground) (p : Point) (r : Spot) (F : Machine → Machine) → start_at g p.at ≡ p.due → pos p.at < pos r
-    → ((m : Machine) → spot m ≡ p.at → m.ending ≡ Running → step g.segments m ≡ F m) → Leads g p r F
-one_step g p r F start rise does = record {
+    → r.seg ≡ p.at.seg → ((m : Machine) → spot m ≡ p.at → m.ending ≡ Running → step g.segments m ≡ F m) → Leads g p r F
+one_step g p r F start rise inside does = record {
   start = start;
   rise = rise;
+  inside = inside;
   goes = λ m at runs. reached_once g (pos r - pos p.at) m (F m) (omega (arith, rise)) runs (does m at runs);
 }
 

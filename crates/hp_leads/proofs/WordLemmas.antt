@@ -1,24 +1,27 @@
 -- Words that are no branch and no call, as what leads from their place on: pairs in both halves, and whole words.
 use Rattle.std.proofs.Common.{◌≡◌, ℕ, ◌+◌, ◌*◌, ◌<◌, Bool, true, false, refl, sym, ap, ◌∙◌, arith}
-use Rattle.std.specs.Prelude.{◌==◌, ◌&&◌, nat_le, if◌then◌else◌, Ok}
-use Rattle.std.proofs.lemmas.Bool.{cond-true, cond-false}
+use Rattle.std.specs.Prelude.{◌==◌, ◌&&◌, nat_le, if◌then◌else◌, Ok, Err}
+use Rattle.std.proofs.lemmas.Bool.{cond-true, cond-false, eq-eqb, ne_eqb}
+use Rattle.std.proofs.Math.Logic.{⊎_elim}
 use Rattle.std.proofs.lemmas.Bool.Decides.{nat_tests}
 use Rattle.hp_instr.specs.declared.instruction.Instr.{Instr}
 use Rattle.hp_instr.specs.declared.instruction.Instr.TheVariants as i
 use Rattle.hp_instr.specs.declared.instruction.Mode.{Mode}
 use Rattle.hp_instr.specs.declared.instruction.Op.{Op}
-use Rattle.hp_session.specs.State.{Machine, Outcome, then_with, passing}
+use Rattle.hp_session.specs.State.{Machine, Outcome, then_with, wrapped, passing, passed}
 use Rattle.hp_stack_rows.specs.StackRows.{operated}
 use Rattle.hp_word_rows.specs.WordRows.{count_row}
+use Rattle.hp_memory_rows.specs.MoveRows.{move_row}
 use Rattle.hp_flat.specs.Step.{at_left, pair_row, control_row, word_row, row, ended, step}
-use Rattle.hp_steady.specs.Rest.{Stays}
+use Rattle.hp_steady.specs.Rest.{seat, Stays, StaysOrPasses}
 use Rattle.hp_steady.proofs.StackStays.{operated-stays}
 use Rattle.hp_steady.proofs.WordStays.{shifting-stays, immediate_row-stays, count_row-stays}
 use Rattle.hp_steady.proofs.MemoryStays.{memory_row-stays, code_loaded-stays}
+use Rattle.hp_steady.proofs.MoveStays.{move_row-stays}
 use Rattle.spl_follow.specs.Spots.{Spot, spot, landed, next_word, pos, Point, Ground}
 use Rattle.spl_follow.specs.Leading.{Leads}
-use Rattle.spl_follow.specs.Doing.{effect, counts, doing}
-use Rattle.hp_leads.specs.Words.{right_half, HasInstr, is_whole}
+use Rattle.spl_follow.specs.Doing.{effect, counts, is_move, moving, doing}
+use Rattle.hp_leads.specs.Words.{right_half, HasInstr, is_whole, moves}
 use Rattle.hp_leads.proofs.StepLemmas.{at_seg, at_offset, at_half, word_step, one_step, seated, passing_lands, half_lands}
 
 -- a word that is there is followed by an offset of sixteen bits
@@ -44,7 +47,7 @@ half_rises p left = by p.right left where
 pub right_leads : (g : Ground) (p : Point) (a b c : Op) → p.at.right ≡ true → HasInstr g p (i.Pair a b)
     → Leads g p (next_word p.at) (doing g.segments (i.Pair b c) (next_word p.at))
 unfolding row pair_row
-right_leads g p a b c half has = one_step g p (next_word p.at) _ has.start (next_rises p.at) (λ m at runs. stepped m at) where
+right_leads g p a b c half has = one_step g p (next_word p.at) _ has.start (next_rises p.at) refl (λ m at runs. stepped m at) where
   stepped : (m : Machine) → spot m ≡ p.at → step g.segments m ≡ doing g.segments (i.Pair b c) (next_word p.at) m
   stepped m at =
       word_step g p (i.Pair a b) has m at
@@ -54,7 +57,7 @@ right_leads g p a b c half has = one_step g p (next_word p.at) _ has.start (next
 pub left_leads : (g : Ground) (p : Point) (a b c : Op) → p.at.right ≡ false → (b.code == 0) ≡ false → HasInstr g p (i.Pair a b)
     → Leads g p (right_half p.at) (doing g.segments (i.Pair a c) (right_half p.at))
 unfolding row pair_row
-left_leads g p a b c half other has = one_step g p (right_half p.at) _ has.start (half_rises p.at half) (λ m at runs. stepped m at) where
+left_leads g p a b c half other has = one_step g p (right_half p.at) _ has.start (half_rises p.at half) refl (λ m at runs. stepped m at) where
   stepped : (m : Machine) → spot m ≡ p.at → step g.segments m ≡ doing g.segments (i.Pair a c) (right_half p.at) m
   stepped m at =
       word_step g p (i.Pair a b) has m at
@@ -64,7 +67,7 @@ left_leads g p a b c half other has = one_step g p (right_half p.at) _ has.start
 pub single_leads : (g : Ground) (p : Point) (a b c : Op) → p.at.right ≡ false → (b.code == 0) ≡ true → HasInstr g p (i.Pair a b)
     → Leads g p (next_word p.at) (doing g.segments (i.Pair a c) (next_word p.at))
 unfolding row pair_row
-single_leads g p a b c half none has = one_step g p (next_word p.at) _ has.start (next_rises p.at) (λ m at runs. stepped m at) where
+single_leads g p a b c half none has = one_step g p (next_word p.at) _ has.start (next_rises p.at) refl (λ m at runs. stepped m at) where
   stepped : (m : Machine) → spot m ≡ p.at → step g.segments m ≡ doing g.segments (i.Pair a c) (next_word p.at) m
   stepped m at =
       word_step g p (i.Pair a b) has m at
@@ -77,7 +80,7 @@ passing_leads : (g : Ground) (p : Point) (by : Instr) (F : Machine → Machine) 
     → ((m : Machine) → row g.segments by m ≡ passing (effects (at_left m)))
     → ((m : Machine) → F m ≡ ended m (then_with (effects (at_left m)) (λ n. Ok (landed (next_word p.at) n))))
     → ((m : Machine) → Stays m (effects m)) → Leads g p (next_word p.at) F
-passing_leads g p by F effects has is does stays = one_step g p (next_word p.at) F has.start (next_rises p.at) (λ m at runs.
+passing_leads g p by F effects has is does stays = one_step g p (next_word p.at) F has.start (next_rises p.at) refl (λ m at runs.
     word_step g p by has m at ∙ ap (ended m) (is m
     ∙ passing_lands p.at (at_left m) (effects (at_left m)) (at_seg p.at m at) (at_offset p.at m at) (near g p by has) (seated (at_left m) _ (stays (at_left m))))
     ∙ sym (does m))
@@ -85,7 +88,7 @@ passing_leads g p by F effects has is does stays = one_step g p (next_word p.at)
 -- an instruction that goes where its row says
 by_row_leads : (g : Ground) (p : Point) (by : Instr) (F : Machine → Machine) → HasInstr g p by
     → ((m : Machine) → F m ≡ ended m (row g.segments by m)) → Leads g p (next_word p.at) F
-by_row_leads g p by F has does = one_step g p (next_word p.at) F has.start (next_rises p.at) (λ m at runs. word_step g p by has m at ∙ sym (does m))
+by_row_leads g p by F has does = one_step g p (next_word p.at) F has.start (next_rises p.at) refl (λ m at runs. word_step g p by has m at ∙ sym (does m))
 
 first_of_two : (a b : Bool) → a && b ≡ true → a ≡ true
 first_of_two true b h = refl
@@ -114,20 +117,70 @@ count_leads g p which n count has = passing_leads g p (i.Control which n) _ (cou
       let most : nat_le which 8 ≡ true = second_of_two (nat_le 4 which) (nat_le which 8) count in
       rw (zero, one, two, three, most) refl
 
--- a return, or a step of a move
-row_leads : (g : Ground) (p : Point) (which n : ℕ) → counts which ≡ false → HasInstr g p (i.Control which n)
+-- a return
+row_leads : (g : Ground) (p : Point) (which n : ℕ) → counts which ≡ false → is_move which ≡ false → HasInstr g p (i.Control which n)
     → Leads g p (next_word p.at) (doing g.segments (i.Control which n) (next_word p.at))
 unfolding row word_row
-row_leads g p which n other has = by_row_leads g p (i.Control which n) _ has does where
+row_leads g p which n other none has = by_row_leads g p (i.Control which n) _ has does where
   does : (m : Machine) → doing g.segments (i.Control which n) (next_word p.at) m ≡ ended m (row g.segments (i.Control which n) m)
-  does m = rw other refl
+  does m = rw (other, none) refl
 
-control_leads : (g : Ground) (p : Point) (which n : ℕ) → HasInstr g p (i.Control which n)
+-- places by their parts
+same_spot : (a b : Spot) → a.seg ≡ b.seg → a.offset ≡ b.offset → a.right ≡ b.right → a ≡ b
+same_spot a b segs offsets halves j = record { seg = segs j; offset = offsets j; right = halves j }
+
+-- what a row leaves that stays or passes its word is, at a left half, where a move lets it be
+stays_or_passes : (p : Spot) (m : Machine) (o : Outcome) → spot m ≡ p → p.right ≡ false → p.offset < 65535 → StaysOrPasses (at_left m) o
+    → o ≡ then_with o (λ n. Ok (landed (if n.regs.p == m.regs.p then spot m else next_word p) n))
+stays_or_passes p m (Err t) at half low stays = refl
+stays_or_passes p m (Ok n) at half low stays = ⊎_elim (λ same. stayed (ap (λ r. r.seat) same)) (λ past. passed_by (ap (λ r. r.seat) past)) stays where
+  lands : Spot → Outcome
+  lands q = Ok (landed q n)
+
+  offset : m.regs.p ≡ p.offset
+  offset = at_offset p m at
+
+  stayed : seat n ≡ seat (at_left m) → lands (spot n) ≡ lands (if n.regs.p == m.regs.p then spot m else next_word p)
+  stayed same =
+      let here : n.regs.p ≡ m.regs.p = ap (λ s. s.p) same in
+      let right : n.regs.right ≡ m.regs.right = ap (λ s. s.right) same ∙ sym (at_half p m at ∙ half) in
+      let place : spot n ≡ spot m = same_spot (spot n) (spot m) (ap (λ s. s.seg) same) here right in
+      ap lands (place ∙ sym (cond-true (n.regs.p == m.regs.p) (spot m) (next_word p) (eq-eqb n.regs.p m.regs.p here)))
+
+  passed_by : seat n ≡ seat (passed (at_left m)) → lands (spot n) ≡ lands (if n.regs.p == m.regs.p then spot m else next_word p)
+  passed_by same =
+      let next : wrapped (m.regs.p + 1) ≡ p.offset + 1 = omega (arith, offset, low) in
+      let there : n.regs.p ≡ p.offset + 1 = ap (λ s. s.p) same ∙ next in
+      let place : spot n ≡ next_word p = same_spot (spot n) (next_word p) (ap (λ s. s.seg) same ∙ at_seg p m at) there (ap (λ s. s.right) same) in
+      ap lands (place ∙ sym (cond-false (n.regs.p == m.regs.p) (spot m) (next_word p) (ne_eqb n.regs.p m.regs.p (λ e. absurd (omega (arith, e, there, offset))))))
+
+-- a step of a move, which stands in no right half
+move_leads : (g : Ground) (p : Point) (which n : ℕ) → counts which ≡ false → is_move which ≡ true → p.at.right ≡ false
+    → HasInstr g p (i.Control which n) → Leads g p (next_word p.at) (doing g.segments (i.Control which n) (next_word p.at))
+unfolding row word_row control_row
+move_leads g p which n other move half has = one_step g p (next_word p.at) _ has.start (next_rises p.at) refl (λ m at runs.
+    word_step g p (i.Control which n) has m at ∙ ap (ended m) (by_move m
+    ∙ stays_or_passes p.at m (move_row g.segments which n (at_left m)) at half (near g p _ has) (move_row-stays (at_left m) g.segments which n))
+    ∙ sym (does m)) where
+      by_move : (m : Machine) → row g.segments (i.Control which n) m ≡ move_row g.segments which n (at_left m)
+      by_move m =
+          let zero : (which == 0) ≡ false = grind (arith, nat_tests, move) in
+          let one : (which == 1) ≡ false = grind (arith, nat_tests, move) in
+          let two : (which == 2) ≡ false = grind (arith, nat_tests, move) in
+          let three : (which == 3) ≡ false = grind (arith, nat_tests, move) in
+          let most : nat_le which 8 ≡ false = grind (arith, nat_tests, move) in
+          rw (zero, one, two, three, most) refl
+
+      does : (m : Machine) → doing g.segments (i.Control which n) (next_word p.at) m ≡ moving (next_word p.at) (move_row g.segments which n (at_left m)) m
+      does m = rw (other, move) refl
+
+control_leads : (g : Ground) (p : Point) (which n : ℕ) → (is_move which ≡ true → p.at.right ≡ false) → HasInstr g p (i.Control which n)
     → Leads g p (next_word p.at) (doing g.segments (i.Control which n) (next_word p.at))
-control_leads g p which n has = by (counts which) refl where
-  by : (c : Bool) → counts which ≡ c → Leads g p (next_word p.at) (doing g.segments (i.Control which n) (next_word p.at))
-  by true is = count_leads g p which n is has
-  by false is = row_leads g p which n is has
+control_leads g p which n left has = by (counts which) (is_move which) refl refl where
+  by : (c v : Bool) → counts which ≡ c → is_move which ≡ v → Leads g p (next_word p.at) (doing g.segments (i.Control which n) (next_word p.at))
+  by true v is e = count_leads g p which n is has
+  by false true is e = move_leads g p which n is e (left e) has
+  by false false is e = row_leads g p which n is e has
 
 shift_leads : (g : Ground) (p : Point) (kind count : ℕ) → HasInstr g p (i.Shifted kind count)
     → Leads g p (next_word p.at) (doing g.segments (i.Shifted kind count) (next_word p.at))
@@ -156,16 +209,16 @@ code_leads g p back d has =
     passing_leads g p (i.LoadCode back d) _ (effect g.segments (i.LoadCode back d)) has (λ m. refl) (λ m. refl) (λ m. code_loaded-stays m g.segments back d)
 
 -- each of them
-pub whole_leads : (g : Ground) (p : Point) (by : Instr) → is_whole by ≡ true → HasInstr g p by
+pub whole_leads : (g : Ground) (p : Point) (by : Instr) → is_whole by ≡ true → (moves by ≡ true → p.at.right ≡ false) → HasInstr g p by
     → Leads g p (next_word p.at) (doing g.segments by (next_word p.at))
-whole_leads g p (i.Pair a b) whole has = cc
-whole_leads g p (i.Shifted kind count) whole has = shift_leads g p kind count has
-whole_leads g p (i.Short test back d) whole has = cc
-whole_leads g p (i.Immediate which n) whole has = immediate_leads g p which n has
-whole_leads g p (i.Control which n) whole has = control_leads g p which n has
-whole_leads g p (i.Memory major second x indirect mode) whole has = memory_leads g p major second x indirect mode has
-whole_leads g p (i.LoadCode back d) whole has = code_leads g p back d has
-whole_leads g p (i.Branch indirect back d) whole has = cc
-whole_leads g p (i.OnCode mask back d) whole has = cc
-whole_leads g p (i.Loop modify back d) whole has = cc
-whole_leads g p (i.Illegal w) whole has = cc
+whole_leads g p (i.Pair a b) whole left has = cc
+whole_leads g p (i.Shifted kind count) whole left has = shift_leads g p kind count has
+whole_leads g p (i.Short test back d) whole left has = cc
+whole_leads g p (i.Immediate which n) whole left has = immediate_leads g p which n has
+whole_leads g p (i.Control which n) whole left has = control_leads g p which n left has
+whole_leads g p (i.Memory major second x indirect mode) whole left has = memory_leads g p major second x indirect mode has
+whole_leads g p (i.LoadCode back d) whole left has = code_leads g p back d has
+whole_leads g p (i.Branch indirect back d) whole left has = cc
+whole_leads g p (i.OnCode mask back d) whole left has = cc
+whole_leads g p (i.Loop modify back d) whole left has = cc
+whole_leads g p (i.Illegal w) whole left has = cc

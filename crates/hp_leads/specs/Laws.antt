@@ -8,7 +8,7 @@ use Rattle.spl_branch.specs.Pieces.{is_direct}
 use Rattle.spl_follow.specs.Spots.{next_word, Point, on, Ground}
 use Rattle.spl_follow.specs.Leading.{Leads}
 use Rattle.spl_follow.specs.Doing.{doing, turning, Way, calling}
-use Rattle.hp_leads.specs.Words.{right_half, word_at, HasInstr, is_whole, Points, entry_way, subroutine_way}
+use Rattle.hp_leads.specs.Words.{right_half, word_at, HasInstr, is_whole, moves, Points, entry_way, subroutine_way}
 
 -- ---- instructions
 
@@ -27,9 +27,9 @@ abbrev pub RightOperationsLead : Type 0
 RightOperationsLead = (g : Ground) (p : Point) (left right any : Op) → p.at.right ≡ true → HasInstr g p (i.Pair left right)
     → Leads g p (next_word p.at) (doing g.segments (i.Pair right any) (next_word p.at))
 
--- a word of one instruction: shifts, immediate numbers, operands in memory and code, counts, returns, and steps of moves
+-- a word of one instruction: shifts, immediate numbers, operands in memory and code, counts, returns, and steps of moves, which begin in no right half
 abbrev pub WholeWordsLead : Type 0
-WholeWordsLead = (g : Ground) (p : Point) (by : Instr) → is_whole by ≡ true → HasInstr g p by
+WholeWordsLead = (g : Ground) (p : Point) (by : Instr) → is_whole by ≡ true → (moves by ≡ true → p.at.right ≡ false) → HasInstr g p by
     → Leads g p (next_word p.at) (doing g.segments by (next_word p.at))
 
 -- ---- branches

@@ -10,7 +10,7 @@ use Rattle.hp_instr.specs.Labels.{label}
 use Rattle.hp_program.specs.Programs.{code_word, words_of}
 use Rattle.hp_program.specs.Valid.{entries_of, label_of}
 use Rattle.spl_follow.specs.Spots.{Spot, Point, Ground, start_at}
-use Rattle.spl_follow.specs.Doing.{Way, gate, body}
+use Rattle.spl_follow.specs.Doing.{Way, gate, body, is_move}
 
 -- ---- places
 
@@ -39,6 +39,11 @@ is_whole (i.Control which n) = true
 is_whole (i.Memory major second x indirect mode) = true
 is_whole (i.LoadCode back d) = true
 is_whole by = false
+
+-- a step of a move, which stays at its word while elements are left
+abbrev pub moves : Instr → Bool
+moves (i.Control which n) = is_move which
+moves by = false
 
 -- the word at an offset of a segment, with that offset added, is an offset: a BR through it goes there
 pub record Points (g : Ground) (seg offset to : ℕ) : Type 0 where

@@ -10,10 +10,11 @@ use Rattle.hp_session.specs.Places.{read_at}
 use Rattle.hp_stack_rows.specs.StackRows.{operated}
 use Rattle.hp_word_rows.specs.WordRows.{shifting, range_code, is_equal, immediate_row, count_row}
 use Rattle.hp_memory_rows.specs.MemoryRows.{settled_at, memory_row, code_loaded, is_named, goes_on}
+use Rattle.hp_memory_rows.specs.MoveRows.{move_row}
 use Rattle.hp_call_rows.specs.CallRows.{entered}
 use Rattle.hp_call_rows.specs.GateRows.{served}
 use Rattle.hp_flat.specs.Step.{at_left, control_row, ended}
-use Rattle.spl_follow.specs.Spots.{Spot, landed}
+use Rattle.spl_follow.specs.Spots.{Spot, spot, landed}
 
 -- a row, and then on at a place; a trap ends the machine, which else stays as it is
 abbrev pub going : Spot → Outcome → Machine → Machine
@@ -33,12 +34,22 @@ effect segments by m = Err Illegal
 abbrev pub counts : ℕ → Bool
 counts which = nat_le 4 which && nat_le which 8
 
--- What an instruction does that goes on at r: a stack operation by itself, in either half of its word. Returns go where they lead, and a move
--- stays at its word or passes it, as their rows say.
+-- steps of moves, scans and byte comparisons
+abbrev pub is_move : ℕ → Bool
+is_move which = nat_le 9 which
+
+-- A step of a move: behind an element the next step is at the same place, and behind the last one it is at r.
+abbrev pub moving : Spot → Outcome → Machine → Machine
+moving r o m = ended m (then_with o (λ n. Ok (landed (if n.regs.p == m.regs.p then spot m else r) n)))
+
+-- What an instruction does that goes on at r: a stack operation by itself, in either half of its word. Returns go where they lead, as their rows
+-- say, and a move stays at its word or passes it.
 abbrev pub doing : List (List ℕ) → Instr → Spot → Machine → Machine
 doing segments (i.Pair left right) r m = going r (operated left.code m) m
 doing segments (i.Control which n) r m =
-    if counts which then going r (count_row which n (at_left m)) m else ended m (control_row segments which n (at_left m))
+    if counts which then going r (count_row which n (at_left m)) m
+    else if is_move which then moving r (move_row segments which n (at_left m)) m
+    else ended m (control_row segments which n (at_left m))
 doing segments by r m = going r (effect segments by (at_left m)) m
 
 -- ---- branches

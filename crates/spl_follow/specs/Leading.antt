@@ -15,8 +15,9 @@ pub record Reaches (g : Ground) (b : ℕ) (m n : Machine) : Type 0 where
   pub wrote : prints g (suc more) m ≡ print_between m n
 
 -- From p each running machine becomes what F says of it, wherever F lets it go on. What is due at p starts there, and nothing else does.
--- r is behind p, and it takes at most one step for each half of a word from p to r.
+-- r is behind p in its segment, and it takes at most one step for each half of a word from p to r.
 pub record Leads (g : Ground) (p : Point) (r : Spot) (F : Machine → Machine) : Type 0 where
   pub start : start_at g p.at ≡ p.due
   pub rise : pos p.at < pos r
+  pub inside : r.seg ≡ p.at.seg
   pub goes : (m : Machine) → spot m ≡ p.at → m.ending ≡ Running → Reaches g (pos r - pos p.at) m (F m)

@@ -74,20 +74,20 @@ module _ (g : Ground) (seg : ℕ) (words : List ℕ) (there : slice_get g.segmen
   pair_leads p due left right next start does = in_half_leads p due left right next p.right start refl does
 
   whole_word_leads : (p : module_spot.Spot) (due : Option At) (by : Instr) → start_at g (placed seg p) ≡ due → is_whole by ≡ true
-      → Has words p.offset by
+      → p.right ≡ false → Has words p.offset by
       → Leads g (point seg p due) (placed seg (at_left (p.offset + 1))) (doing g.segments by (placed seg (at_left (p.offset + 1))))
-  whole_word_leads p due by start whole has = whole_leads g (point seg p due) by whole (has_instr (point seg p due) by refl start has)
+  whole_word_leads p due by start whole left has = whole_leads g (point seg p due) by whole (λ m. left) (has_instr (point seg p due) by refl start has)
 
   plain_leads : (p : module_spot.Spot) (due : Option At) (by : Instr) (next : Op) → start_at g (placed seg p) ≡ due
       → is_plain by ≡ true → Does words p by next
       → Leads g (point seg p due) (placed seg (past_instr p by next)) (doing g.segments by (placed seg (past_instr p by next)))
   plain_leads p due (i.Pair left right) next start plain does = pair_leads p due left right next start does
-  plain_leads p due (i.Shifted kind count) next start plain does = whole_word_leads p due (i.Shifted kind count) start plain does.1
+  plain_leads p due (i.Shifted kind count) next start plain does = whole_word_leads p due (i.Shifted kind count) start plain does.0 does.1
   plain_leads p due (i.Short test back d) next start plain does = cc
-  plain_leads p due (i.Immediate which n) next start plain does = whole_word_leads p due (i.Immediate which n) start plain does.1
-  plain_leads p due (i.Control which n) next start plain does = whole_word_leads p due (i.Control which n) start plain does.1
-  plain_leads p due (i.Memory major second x indirect mode) next start plain does = whole_word_leads p due (i.Memory major second x indirect mode) start plain does.1
-  plain_leads p due (i.LoadCode back d) next start plain does = whole_word_leads p due (i.LoadCode back d) start plain does.1
+  plain_leads p due (i.Immediate which n) next start plain does = whole_word_leads p due (i.Immediate which n) start plain does.0 does.1
+  plain_leads p due (i.Control which n) next start plain does = whole_word_leads p due (i.Control which n) start plain does.0 does.1
+  plain_leads p due (i.Memory major second x indirect mode) next start plain does = whole_word_leads p due (i.Memory major second x indirect mode) start plain does.0 does.1
+  plain_leads p due (i.LoadCode back d) next start plain does = whole_word_leads p due (i.LoadCode back d) start plain does.0 does.1
   plain_leads p due (i.Branch indirect back d) next start plain does = cc
   plain_leads p due (i.OnCode mask back d) next start plain does = cc
   plain_leads p due (i.Loop modify back d) next start plain does = cc
