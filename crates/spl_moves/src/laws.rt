@@ -1,0 +1,7 @@
+//! The laws of this crate, as the contracts of functions that do nothing.
+ghost use Rattle.spl_moves.specs.Laws.{CountedMovesPerform};
+
+/// MOVE of so many elements.
+pub fn counted_moves_perform()
+    ensures { CountedMovesPerform }
+{}
