@@ -1,5 +1,5 @@
 -- MOVE by a count: both addresses and the count, and then one element after the other.
-use Rattle.std.proofs.Common.{◌≡◌, ℕ, ◌+◌, ◌-◌, ◌≤◌, Bool, true, false, List, [], ◌∷◌, ◌++◌, length, refl, sym, subst, ◌∙◌, arith}
+use Rattle.std.proofs.Common.{◌≡◌, ℕ, ◌+◌, ◌-◌, ◌≤◌, Bool, false, List, [], ◌∷◌, ◌++◌, length, refl, sym, subst, ◌∙◌, arith}
 use Rattle.hp_word.specs.Words.{signed}
 use Rattle.hp_session.specs.State.{Machine}
 use Rattle.spl_tree.specs.declared.expressions.Kind.{Kind}
@@ -21,22 +21,17 @@ use Rattle.spl_follow.proofs.KeepLemmas.{values_join}
 use Rattle.spl_follow.proofs.PartLemmas.{stand_in_order}
 use Rattle.spl_values.specs.Reached.{IsWhole}
 use Rattle.spl_values.proofs.SumLemmas.{front_on}
-use Rattle.spl_values.proofs.WholeLemmas.{whole_then, whole_pieces, then_same}
+use Rattle.spl_values.proofs.WholeLemmas.{whole_then, then_same}
 use Rattle.spl_moves.specs.Moving.{IsReference}
 use Rattle.spl_moves.specs.Laws.{AreUnits, CountedMovesPerform}
 use Rattle.spl_moves.proofs.CountLemmas.{at_address, counts_by}
 use Rattle.spl_moves.proofs.MoveLemmas.{data_follows}
-use Rattle.spl_moves.proofs.PartLemmas.{go_go, same_performs, IsLocation, reference_follows, IsSource, move_leads, next_ready, moves_perform}
+use Rattle.spl_moves.proofs.PartLemmas.{go_go, same_performs, IsLocation, reference_follows, IsSource, move_whole, move_leads, next_ready, moves_perform}
 
 -- what is moved, from the target's location on
 abbrev counted_move : (State → Outcome Located) → (State → Outcome (List ℕ)) → Located → State → Outcome Located
 counted_move from count p s =
     then_go (from s) (λ q u. then_go (count u) (λ vs v. with_one vs v (λ size x. moved_by size p q x)))
-
--- a move closes, whatever was before it
-move_whole : (bytes : Bool) (n : ℕ) → IsWhole (piece (move_of bytes n))
-move_whole true n = whole_pieces (move_of true n ∷ []) refl
-move_whole false n = whole_pieces (move_of false n ∷ []) refl
 
 -- the move behind both addresses and its count
 counted_follows : (z : Surroundings) (k need : ℕ) (bytes : Bool) (t o : Kind) (p q : Spot) (c b : ℕ) (vs : List ℕ) (s : State) (m : Machine) (d0 : Data) (m0 : Machine)

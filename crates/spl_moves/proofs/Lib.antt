@@ -5,3 +5,5 @@ pub mod CountLemmas
 pub mod MoveLemmas
 pub mod PartLemmas
 pub mod CountedLemmas
+pub mod SpellLemmas
+pub mod TextLemmas

@@ -74,6 +74,12 @@ value_with_left st p n k d0 m0 vs s m left x = record {
   silent = x.silent;
 }
 
+-- the elements of a string stand in the code of a segment, where a move finds them
+abbrev pub Spelled : Ground → Bool → ℕ → ℕ → List ℕ → Type 0
+Spelled g bytes seg b [] = Unit {0}
+Spelled g bytes seg b (v ∷ vs) =
+    ((n : Machine) → n.regs.seg ≡ seg → source bytes g.segments true b n ≡ Ok v) × IsUnit bytes v × Spelled g bytes seg ((b + 1) % 65536) vs
+
 -- ---- one element
 
 module _ (g : Ground) (w : Rate) (st : Setting) (p r : Spot) (k : ℕ) (d0 : Data) (m0 : Machine) (bytes : Bool) (number : ℕ)
@@ -240,19 +246,13 @@ module _ (g : Ground) (w : Rate) (st : Setting) (p r : Spot) (k : ℕ) (d0 : Dat
 
   -- ---- a string
 
-  -- the elements of a string stand in the code of a segment, where the move finds them
-  abbrev pub Spelled : ℕ → ℕ → List ℕ → Type 0
-  Spelled seg b [] = Unit {0}
-  Spelled seg b (v ∷ vs) =
-      ((n : Machine) → n.regs.seg ≡ seg → source bytes g.segments (number == 1) b n ≡ Ok v) × IsUnit bytes v × Spelled seg ((b + 1) % 65536) vs
-
-  pub text_follows : (far : Bool) (t : Kind) → is_byte (Some t) ≡ bytes → width t ≡ 1 → st.split ≡ far → pos r - pos p ≤ w.step
-      → (vs : List ℕ) (c b : ℕ) (s : State) (m : Machine) → length vs < 32768 → Spelled p.seg b vs → Waiting c b (length vs) s m
+  pub text_follows : (far : Bool) (t : Kind) → is_byte (Some t) ≡ bytes → width t ≡ 1 → st.split ≡ far → (number == 1) ≡ true
+      → pos r - pos p ≤ w.step → (vs : List ℕ) (c b : ℕ) (s : State) (m : Machine) → length vs < 32768 → Spelled g bytes p.seg b vs → Waiting c b (length vs) s m
       → Follows g w (pos r - pos p) 1 w.reach (tally s) m Lands NoExit (moved_list vs (at_address far t c) s)
-  text_follows far t same one side pays [] c b s m few spelled x =
+  text_follows far t same one side code pays [] c b s m few spelled x =
       let f = move_ends c b 0 s m x refl in
       widen g w (pos r - pos p) 0 w.reach (pos r - pos p) 1 w.reach (tally s) m Lands NoExit (done (at_address far t c) s) f (omega arith) (omega arith) (omega arith)
-  text_follows far t same one side pays (v ∷ vs) c b s m few spelled x =
+  text_follows far t same one side code pays (v ∷ vs) c b s m few spelled x =
       let fits : Fits true (suc (length vs)) = few in
       let next = counted_onward true (length vs) c fits in
       let after = counted_onward true (length vs) b fits in
@@ -263,10 +263,10 @@ module _ (g : Ground) (w : Rate) (st : Setting) (p r : Spot) (k : ℕ) (d0 : Dat
       (runs c b (suc (length vs)) s m x) (inl refl)
       (λ n is. store_then far t c b (suc (length vs)) v (record s { left = n }) m Lands (λ u. moved_list vs (at_address far t ((c + 1) % 65536)) u) same one side
       (value_with_left st p 3 k d0 m0 (c ∷ b ∷ suc (length vs) ∷ []) s m n x) (counted_some true (length vs) fits)
-      (spelled.0 (at_left m) (ap (λ (q : Spot). q.seg) x.at)) spelled.1
+      (subst (λ (q : Bool). source bytes g.segments q b (at_left m) ≡ Ok v) (sym code) (spelled.0 (at_left m) (ap (λ (q : Spot). q.seg) x.at))) spelled.1
       (subst (λ (z : ℕ). z < 65536) (sym next) (omega arith)) (subst (λ (z : ℕ). z < 65536) (sym after) (omega arith))
       (subst (λ (z : ℕ). z < 65536) (sym less) (omega (arith, low)))
-      (λ u m1 y. text_follows far t same one side pays vs ((c + 1) % 65536) ((b + 1) % 65536) u m1 low spelled.2
+      (λ u m1 y. text_follows far t same one side code pays vs ((c + 1) % 65536) ((b + 1) % 65536) u m1 low spelled.2
       (subst (λ (z : ℕ). Waiting z ((b + 1) % 65536) (length vs) u m1) next
       (subst (λ (z : ℕ). Waiting (onward (suc (length vs)) c) z (length vs) u m1) after
       (subst (λ (z : ℕ). Waiting (onward (suc (length vs)) c) (onward (suc (length vs)) b) z u m1) less y)))))

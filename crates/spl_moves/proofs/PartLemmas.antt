@@ -33,7 +33,7 @@ use Rattle.spl_follow.proofs.RowLemmas.{row_drops}
 use Rattle.spl_values.specs.Reached.{IsWhole}
 use Rattle.spl_values.proofs.GiveLemmas.{last_leads}
 use Rattle.spl_values.proofs.SumLemmas.{front_on}
-use Rattle.spl_values.proofs.WholeLemmas.{whole_then, whole_last, last_simulates, then_same}
+use Rattle.spl_values.proofs.WholeLemmas.{whole_pieces, whole_then, whole_last, last_simulates, then_same}
 use Rattle.spl_moves.specs.Moving.{LeadsTo, IsReference}
 use Rattle.spl_moves.proofs.UnitLemmas.{move_code}
 use Rattle.spl_moves.proofs.CountLemmas.{at_address}
@@ -111,6 +111,11 @@ pub move_leads : (g : Ground) (w : Sites) (p : Point) (bytes : Bool) (n : ℕ) (
     → Leads g p q (doing g.segments (i.Control (move_code bytes) n) q)
 move_leads g w p true n q stands = last_leads g w p (i.Control 10 n) q stands
 move_leads g w p false n q stands = last_leads g w p (i.Control 9 n) q stands
+
+-- a move closes, whatever was before it
+pub move_whole : (bytes : Bool) (n : ℕ) → IsWhole (piece (move_of bytes n))
+move_whole true n = whole_pieces (move_of true n ∷ []) refl
+move_whole false n = whole_pieces (move_of false n ∷ []) refl
 
 -- behind a value that waits the next part is ready
 pub next_ready : (st : Setting) (d : ℕ) (p : Spot) (n k need more : ℕ) (vs : List ℕ) (d0 : Data) (m0 : Machine) (s : State) (m : Machine)

@@ -1,16 +1,18 @@
 -- The laws of this crate: MOVE as a statement, over the code of its operands.
-use Rattle.std.specs.Prelude.{◌≡◌, ℕ, ◌+◌, ◌≤◌, Bool, false, List, Some}
+use Rattle.std.specs.Prelude.{◌≡◌, ℕ, ◌+◌, ◌%◌, ◌<◌, ◌≤◌, Bool, false, List, Some}
 use Rattle.spl_tree.specs.declared.expressions.Kind.{Kind}
 use Rattle.spl_tree.specs.declared.names_and_places.At.{At}
 use Rattle.spl_branch.specs.declared.pieces.Piece.TheVariants.{Begin}
-use Rattle.spl_meaning.specs.Elements.{with_one, moved_by}
+use Rattle.spl_meaning.specs.Elements.{with_one, moved_by, moved_text}
 use Rattle.spl_meaning.specs.Kinds.{width, is_byte}
 use Rattle.spl_meaning.specs.References.{Located}
 use Rattle.spl_meaning.specs.States.{State, Outcome, then_go, stopping}
 use Rattle.spl_meaning.specs.Statements.{value_dropped, moved_far}
 use Rattle.spl_code.specs.Code.{as_value}
+use Rattle.spl_code.specs.Constants.{constant, text_offset}
 use Rattle.spl_code.specs.Parts.{Part, pieces, piece, ◌⨟◌}
-use Rattle.spl_statement_code.specs.Effects.{kept_first, told, move_of}
+use Rattle.spl_statement_code.specs.Effects.{kept_first, told, move_of, text_scaled, text_count}
+use Rattle.spl_frames.specs.Words.{AllOf}
 use Rattle.spl_follow.specs.Simulating.{Surroundings, Simulates, Performs}
 use Rattle.spl_values.specs.Reached.{IsWhole}
 use Rattle.spl_moves.specs.Moving.{IsReference}
@@ -18,6 +20,14 @@ use Rattle.spl_moves.specs.Moving.{IsReference}
 -- elements of a kind are bytes, or words: a double is neither
 abbrev pub AreUnits : Bool → Kind → Type 0
 AreUnits bytes t = (is_byte (Some t) ≡ bytes) × (width t ≡ 1)
+
+-- a string is of bytes
+abbrev pub AreBytes : List ℕ → Type 0
+AreBytes text = AllOf (λ b. b < 256) text
+
+-- the code that moves a string
+abbrev pub text_moved : Bool → List ℕ → Part
+text_moved bytes text = text_offset text ⨟ pieces (text_scaled bytes) ⨟ pieces (constant (text_count bytes text % 65536)) ⨟ piece (move_of bytes 1)
 
 -- MOVE by a count, of bytes or of words: upwards where the count is positive, downwards where it is negative. Each element takes a step of the run,
 -- and one of the machine at the word of the move. The end address is deleted.
@@ -29,3 +39,11 @@ CountedMovesPerform = (z : Surroundings) (d k need more most number : ℕ) (at :
     (piece (Begin at) ⨟ (a ⨟ pieces (kept_first false) ⨟ (b ⨟ c ⨟ piece (move_of bytes 0)) ⨟ pieces (told false)))
     (λ s. stopping number at s (λ u. value_dropped (then_go (to u) (λ p v. then_go (from v) (λ q x. then_go (count x) (λ vs y.
     with_one vs y (λ size h. moved_far p (moved_by size p q h))))))))
+
+-- MOVE of a string, which lies in the code.
+abbrev pub TextMovesPerform : Type 0
+TextMovesPerform = (z : Surroundings) (d k need number : ℕ) (at : At) (bytes : Bool) (t : Kind) (a : Part) (to : State → Outcome Located) (text : List ℕ)
+    → AreUnits bytes t → AreBytes text → IsReference z d k need t a to → 3 ≤ need
+    → Performs z d k need
+    (piece (Begin at) ⨟ (a ⨟ pieces (kept_first false) ⨟ (text_moved bytes text) ⨟ pieces (told false)))
+    (λ s. stopping number at s (λ u. value_dropped (then_go (to u) (λ p v. moved_far p (moved_text text p v)))))
