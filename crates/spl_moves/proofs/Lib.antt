@@ -7,3 +7,6 @@ pub mod PartLemmas
 pub mod CountedLemmas
 pub mod SpellLemmas
 pub mod TextLemmas
+pub mod PairLemmas
+pub mod ClassLemmas
+pub mod WhileLemmas
