@@ -10,3 +10,4 @@ pub mod TextLemmas
 pub mod PairLemmas
 pub mod ClassLemmas
 pub mod WhileLemmas
+pub mod ByteLemmas

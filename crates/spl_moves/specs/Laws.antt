@@ -1,9 +1,9 @@
--- The laws of this crate: MOVE as a statement, over the code of its operands.
-use Rattle.std.specs.Prelude.{◌≡◌, ℕ, ◌+◌, ◌%◌, ◌<◌, ◌≤◌, Bool, false, List, Some}
+-- The laws of this crate: MOVE and SCAN as statements, over the code of its operands.
+use Rattle.std.specs.Prelude.{◌≡◌, ℕ, suc, ◌+◌, ◌%◌, ◌<◌, ◌≤◌, Bool, true, false, List, Some}
 use Rattle.spl_tree.specs.declared.expressions.Kind.{Kind}
 use Rattle.spl_tree.specs.declared.names_and_places.At.{At}
 use Rattle.spl_branch.specs.declared.pieces.Piece.TheVariants.{Begin}
-use Rattle.spl_meaning.specs.Elements.{with_one, moved_by, moved_text}
+use Rattle.spl_meaning.specs.Elements.{with_one, moved_by, moved_text, moved_while, scanned}
 use Rattle.spl_meaning.specs.Kinds.{width, is_byte}
 use Rattle.spl_meaning.specs.References.{Located}
 use Rattle.spl_meaning.specs.States.{State, Outcome, then_go, stopping}
@@ -11,7 +11,8 @@ use Rattle.spl_meaning.specs.Statements.{value_dropped, moved_far}
 use Rattle.spl_code.specs.Code.{as_value}
 use Rattle.spl_code.specs.Constants.{constant, text_offset}
 use Rattle.spl_code.specs.Parts.{Part, pieces, piece, ◌⨟◌}
-use Rattle.spl_statement_code.specs.Effects.{kept_first, told, move_of, text_scaled, text_count}
+use Rattle.spl_statement_code.specs.Effects.{kept_first, told, move_of, text_scaled, text_count, class_letters, scan_of}
+use Rattle.spl_statement_code.specs.Instructions.{MVBW}
 use Rattle.spl_frames.specs.Words.{AllOf}
 use Rattle.spl_follow.specs.Simulating.{Surroundings, Simulates, Performs}
 use Rattle.spl_values.specs.Reached.{IsWhole}
@@ -47,3 +48,21 @@ TextMovesPerform = (z : Surroundings) (d k need number : ℕ) (at : At) (bytes :
     → Performs z d k need
     (piece (Begin at) ⨟ (a ⨟ pieces (kept_first false) ⨟ (text_moved bytes text) ⨟ pieces (told false)))
     (λ s. stopping number at s (λ u. value_dropped (then_go (to u) (λ p v. moved_far p (moved_text text p v)))))
+
+-- MOVE of bytes WHILE these are of a class.
+abbrev pub ClassMovesPerform : Type 0
+ClassMovesPerform = (z : Surroundings) (d k need more number : ℕ) (at : At) (t o : Kind) (class : ℕ) (a b : Part) (to from : State → Outcome Located)
+    → AreUnits true t → AreUnits true o → IsReference z d k need t a to → IsReference z d (k + 1) more o b from → more + 1 ≤ need → 2 ≤ need
+    → Performs z d k need
+    (piece (Begin at) ⨟ (a ⨟ pieces (kept_first false) ⨟ (b ⨟ piece (MVBW (class_letters class))) ⨟ pieces (told false)))
+    (λ s. stopping number at s (λ u. value_dropped (then_go (to u) (λ p v. then_go (from v) (λ q x. moved_far p (moved_while (suc d) class p q x))))))
+
+-- SCAN of bytes, by a test word.
+abbrev pub ScansPerform : Type 0
+ScansPerform = (z : Surroundings) (d k need more number : ℕ) (at : At) (t : Kind) (until : Bool) (a b : Part) (from : State → Outcome Located)
+    (value : State → Outcome (List ℕ)) → AreUnits true t → IsReference z d k need t a from → IsWhole b → Simulates z d as_value 1 (k + 1) more b value
+    → more + 1 ≤ need → 2 ≤ need
+    → Performs z d k need
+    (piece (Begin at) ⨟ (a ⨟ pieces (kept_first false) ⨟ b ⨟ piece (scan_of until) ⨟ pieces (told false)))
+    (λ s. stopping number at s (λ u. value_dropped (then_go (from u) (λ p v. then_go (value v) (λ vs x.
+    with_one vs x (λ w y. moved_far p (scanned (suc d) until w p y)))))))

@@ -3,4 +3,4 @@
 
 mod laws;
 
-pub use laws::{counted_moves_perform, text_moves_perform};
+pub use laws::{class_moves_perform, counted_moves_perform, scans_perform, text_moves_perform};
