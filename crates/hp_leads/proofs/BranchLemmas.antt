@@ -193,6 +193,7 @@ unfolding after
 reached_twice g b m k n some runs first runs_on same none second still = record {
   more = 1;
   few = some;
+  brief = omega arith;
   goes = cond-true (is_running m.ending) (after g.segments 1 (step g.segments m)) m (ap is_running runs) ∙ ap (after g.segments 1) first ∙ onward;
   quiet = ap (visits g 1) first ∙ cond-true (is_running k.ending) (met g k ++ []) [] (ap is_running runs_on) ∙ append-nil (met g k) ∙ ap (λ o. visit_of o k) none;
   wrote =

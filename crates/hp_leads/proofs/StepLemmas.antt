@@ -39,6 +39,7 @@ unfolding after
 reached_once g b m n some runs stepped = record {
   more = 0;
   few = some;
+  brief = omega arith;
   goes = cond-true (is_running m.ending) (step g.segments m) m (ap is_running runs) ∙ stepped;
   quiet = refl;
   wrote =

@@ -9,7 +9,7 @@ use Rattle.hp_flat.specs.Step.{step, after, is_running}
 use Rattle.hp_flat.proofs.RunLaws.{after-add}
 use Rattle.spl_meaning.specs.States.{State, Begun, all_printed}
 use Rattle.spl_follow.specs.Spots.{Spot, spot, pos, Point, Ground, start_at, Visit, visit_of, met, visits, as_print, print_between, prints, OnlyAdds}
-use Rattle.spl_follow.specs.Leading.{Leads}
+use Rattle.spl_follow.specs.Leading.{Reaches, Leads}
 use Rattle.spl_follow.specs.Following.{Logged, Owes, Rate, Tally, tally, tally_with, Goes}
 
 -- ---- steps
@@ -143,13 +143,11 @@ visits_first g n m runs quiet =
     ap (λ (b : Bool). if b then met g m ++ visits g n (step g.segments m) else []) (ap is_running runs)
     ∙ ap (λ (vs : List Visit). met g m ++ vs) quiet ∙ append-nil (met g m)
 
--- Through one piece: what was due is met, and what the machine prints is one print, if any.
-pub lead_printing : (g : Ground) (w : Rate) (p : Point) (r : Spot) (F : Machine → Machine) (l : List Begun) (s : State) (m n : Machine) → Leads g p r F
-    → spot m ≡ p.at → m.ending ≡ Running → Owes p.due l s m → F m ≡ n
-    → Goes g w (pos r - pos p.at) 0 w.reach (tally_with l s) m (record (tally s) { printed = s.now.printed ++ print_between m n }) n
-lead_printing g w p r F l s m n leads at runs owes is =
-    let x = leads.goes m at runs in
-    let few : x.more < pos r - pos p.at = x.few in
+-- Through one piece, whatever it is charged: what was due is met, and what the machine prints is one print, if any.
+lead_charged : (g : Ground) (w : Rate) (p : Point) (r : Spot) (F : Machine → Machine) (l : List Begun) (s : State) (m n : Machine) (c : ℕ)
+    → Leads g p r F → (x : Reaches g (pos r - pos p.at) m (F m)) → x.more < c → spot m ≡ p.at → m.ending ≡ Running → Owes p.due l s m → F m ≡ n
+    → Goes g w c 0 w.reach (tally_with l s) m (record (tally s) { printed = s.now.printed ++ print_between m n }) n
+lead_charged g w p r F l s m n c leads x few at runs owes is =
     let start : start_at g (spot m) ≡ p.due = ap (λ (q : Spot). start_at g q) at ∙ leads.start in
     record {
       n = suc x.more;
@@ -161,6 +159,23 @@ lead_printing g w p r F l s m n leads at runs owes is =
           (sym (visits_first g x.more m runs x.quiet ∙ ap (λ (o : Option At). visit_of o m) start)) (lead_logged p.due l s m owes);
       wrote = ap (λ ps. s.now.printed ++ ps) (x.wrote ∙ ap (λ (k : Machine). print_between m k) is);
     }
+
+-- it is charged its halves of words
+pub lead_printing : (g : Ground) (w : Rate) (p : Point) (r : Spot) (F : Machine → Machine) (l : List Begun) (s : State) (m n : Machine) → Leads g p r F
+    → spot m ≡ p.at → m.ending ≡ Running → Owes p.due l s m → F m ≡ n
+    → Goes g w (pos r - pos p.at) 0 w.reach (tally_with l s) m (record (tally s) { printed = s.now.printed ++ print_between m n }) n
+lead_printing g w p r F l s m n leads at runs owes is =
+    let x = leads.goes m at runs in
+    lead_charged g w p r F l s m n (pos r - pos p.at) leads x x.few at runs owes is
+
+-- or two steps, which it never takes more of; it prints nothing
+pub lead_briefly : (g : Ground) (w : Rate) (p : Point) (r : Spot) (F : Machine → Machine) (l : List Begun) (s : State) (m n : Machine) → Leads g p r F
+    → spot m ≡ p.at → m.ending ≡ Running → Owes p.due l s m → F m ≡ n → print_between m n ≡ []
+    → Goes g w 2 0 w.reach (tally_with l s) m (tally s) n
+lead_briefly g w p r F l s m n leads at runs owes is nothing =
+    let x = leads.goes m at runs in
+    subst (λ (ps : List (List ℕ)). Goes g w 2 0 w.reach (tally_with l s) m (record (tally s) { printed = ps }) n)
+    (ap (λ ps. s.now.printed ++ ps) nothing ∙ append-nil s.now.printed) (lead_charged g w p r F l s m n 2 leads x x.brief at runs owes is)
 
 -- through one piece that prints nothing
 pub lead : (g : Ground) (w : Rate) (p : Point) (r : Spot) (F : Machine → Machine) (l : List Begun) (s : State) (m n : Machine) → Leads g p r F

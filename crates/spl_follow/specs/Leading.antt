@@ -5,11 +5,12 @@ use Rattle.hp_session.specs.State.{Machine}
 use Rattle.hp_flat.specs.Step.{step, after}
 use Rattle.spl_follow.specs.Spots.{Spot, spot, pos, Point, Ground, start_at, visits, print_between, prints}
 
--- One machine becomes another in at least one step and at most b. On the way, behind its first step, it is at no start; and all that it
+-- One machine becomes another in at least one step, at most b, and never more than two. On the way, behind its first step, it is at no start; and all that it
 -- prints is one print, if any.
 pub record Reaches (g : Ground) (b : ℕ) (m n : Machine) : Type 0 where
   pub more : ℕ
   pub few : more < b
+  pub brief : more < 2
   pub goes : after g.segments (suc more) m ≡ n
   pub quiet : visits g more (step g.segments m) ≡ []
   pub wrote : prints g (suc more) m ≡ print_between m n
