@@ -44,7 +44,7 @@ pub class_source : (z : Surroundings) (d k need more : ℕ) (t o : Kind) (class 
     → IsSource z d k need t (b ⨟ piece (MVBW (class_letters class))) (class_move d class from)
 class_source z d k need more t o class b from one other r few enough = record {
   whole = whole_behind b (MVBW (class_letters class) ∷ []) r.whole refl;
-  does = λ h ws p q c s m d0 m0 stands front pays v room fuel.
+  does = λ h ws p q c s m d0 m0 stands front v room fuel.
       let x = b h ws in
       let cut = stand_in_order z.ground z.sites x.pieces (MVBW (class_letters class) ∷ []) (on p) q (r.whole.closed h ws) stands in
       let rise = cut.3 in
@@ -58,7 +58,7 @@ class_source z d k need more t o class b from one other r few enough = record {
       subst (λ (f : Located). Follows z.ground z.rate (pos q - pos cut.0) 1 z.rate.reach (tally u) m1 (λ end u n. IsValue z.setting q 1 k d0 m0 (end.address ∷ []) u n) NoExit
       (moved_while (suc d) class (at_address z.setting.split t c) f u)) (sym is.is)
       (while_follows z.ground z.rate z.setting cut.0 q k d0 m0 class (last_leads z.ground z.sites (on cut.0) (i.Control 11 (class_letters class)) q cut.2)
-      (omega (arith, room, enough)) z.setting.split t o one.0 one.1 other.0 other.1 refl (omega (arith, pays)) (suc d) c l.address u m1 (omega (arith, fuel, fewer))
+      (omega (arith, room, enough)) z.setting.split t o one.0 one.1 other.0 other.1 refl (suc d) c l.address u m1 (omega (arith, fuel, fewer))
       (values_join z.setting p cut.0 1 1 k d0 m0 (c ∷ []) (l.address ∷ []) s m u m1 v is.stands)))
       (omega (arith, rise, last)) (omega arith) (omega (arith, many)) (omega (arith, many));
 }
@@ -93,22 +93,22 @@ scan_whole false = whole_pieces (scan_of false ∷ []) refl
 
 -- the scan behind its address and its test word
 tested_follows : (z : Surroundings) (d k need : ℕ) (t : Kind) (until : Bool) (p q : Spot) (b : ℕ) (vs : List ℕ) (s : State) (m : Machine) (d0 : Data) (m0 : Machine)
-    → AreUnits true t → Stands z.ground z.sites (on p) (scan_of until ∷ []) q → pos q ≤ z.rate.step → d0.top + k + need ≤ d0.stack → 2 ≤ need
+    → AreUnits true t → Stands z.ground z.sites (on p) (scan_of until ∷ []) q → d0.top + k + need ≤ d0.stack → 2 ≤ need
     → s.left < suc d → length vs ≡ 1 → IsValue z.setting p 2 k d0 m0 (b ∷ vs) s m
     → Follows z.ground z.rate (pos q - pos p) 1 z.rate.reach (tally s) m (λ end u n. IsValue z.setting q 1 k d0 m0 (end.address ∷ []) u n) NoExit
     (with_one vs s (λ w x. scanned (suc d) until w (at_address z.setting.split t b) x))
-tested_follows z d k need t until p q b [] s m d0 m0 one stands pays room enough fuel wide x = absurd (omega (arith, wide))
-tested_follows z d k need t until p q b (a ∷ []) s m d0 m0 one stands pays room enough fuel wide x =
+tested_follows z d k need t until p q b [] s m d0 m0 one stands room enough fuel wide x = absurd (omega (arith, wide))
+tested_follows z d k need t until p q b (a ∷ []) s m d0 m0 one stands room enough fuel wide x =
     scan_follows z.ground z.rate z.setting p q k d0 m0 until (scan_leads z.ground z.sites (on p) until q stands) (omega (arith, room, enough)) z.setting.split t
-    one.0 one.1 refl (omega (arith, pays)) (suc d) b a s m fuel x
-tested_follows z d k need t until p q b (a ∷ e ∷ vs) s m d0 m0 one stands pays room enough fuel wide x = absurd (omega (arith, wide))
+    one.0 one.1 refl (suc d) b a s m fuel x
+tested_follows z d k need t until p q b (a ∷ e ∷ vs) s m d0 m0 one stands room enough fuel wide x = absurd (omega (arith, wide))
 
 pub scan_source : (z : Surroundings) (d k need more : ℕ) (t : Kind) (until : Bool) (b : Part) (value : State → Outcome (List ℕ)) → AreUnits true t → IsWhole b
     → Simulates z d as_value 1 (k + 1) more b value → more + 1 ≤ need → 2 ≤ need
     → IsSource z d k need t (b ⨟ piece (scan_of until)) (scan_move d until value)
 scan_source z d k need more t until b value one wb sb few enough = record {
   whole = whole_then b (piece (scan_of until)) wb (scan_whole until);
-  does = λ h ws p q c s m d0 m0 stands front pays v room fuel.
+  does = λ h ws p q c s m d0 m0 stands front v room fuel.
       let x = b h ws in
       let cut = stand_in_order z.ground z.sites x.pieces (scan_of until ∷ []) (on p) q (wb.closed h ws) stands in
       let rise = cut.3 in
@@ -119,7 +119,7 @@ scan_source z d k need more t until b value one wb sb few enough = record {
       (λ vs u. with_one vs u (λ w x. scanned (suc d) until w (at_address z.setting.split t c) x))
       (sb.does h ws (on p) cut.0 s s.begun m cut.1 front (next_ready z.setting d p 1 k need more (c ∷ []) d0 m0 s m v room few fuel))
       (λ vs u m1 is fewer.
-      tested_follows z d k need t until cut.0 q c vs u m1 d0 m0 one cut.2 pays room enough (omega (arith, fuel, fewer)) is.wide
+      tested_follows z d k need t until cut.0 q c vs u m1 d0 m0 one cut.2 room enough (omega (arith, fuel, fewer)) is.wide
       (values_join z.setting p cut.0 1 1 k d0 m0 (c ∷ []) vs s m u m1 v is))
       (omega (arith, rise, last)) (omega arith) (omega (arith, many)) (omega (arith, many));
 }

@@ -29,23 +29,23 @@ use Rattle.spl_moves.proofs.MoveLemmas.{data_follows}
 use Rattle.spl_moves.proofs.PartLemmas.{go_go, same_performs, IsLocation, reference_follows, IsSource, move_whole, move_leads, next_ready, moves_perform}
 
 -- what is moved, from the target's location on
-abbrev counted_move : (State → Outcome Located) → (State → Outcome (List ℕ)) → Located → State → Outcome Located
+abbrev pub counted_move : (State → Outcome Located) → (State → Outcome (List ℕ)) → Located → State → Outcome Located
 counted_move from count p s =
     then_go (from s) (λ q u. then_go (count u) (λ vs v. with_one vs v (λ size x. moved_by size p q x)))
 
 -- the move behind both addresses and its count
 counted_follows : (z : Surroundings) (k need : ℕ) (bytes : Bool) (t o : Kind) (p q : Spot) (c b : ℕ) (vs : List ℕ) (s : State) (m : Machine) (d0 : Data) (m0 : Machine)
-    → AreUnits bytes t → AreUnits bytes o → Stands z.ground z.sites (on p) (move_of bytes 0 ∷ []) q → pos q ≤ z.rate.step → d0.top + k + need ≤ d0.stack
+    → AreUnits bytes t → AreUnits bytes o → Stands z.ground z.sites (on p) (move_of bytes 0 ∷ []) q → d0.top + k + need ≤ d0.stack
     → 3 ≤ need → length vs ≡ 1 → IsValue z.setting p 3 k d0 m0 (c ∷ b ∷ vs) s m
     → Follows z.ground z.rate (pos q - pos p) 1 z.rate.reach (tally s) m (λ end u n. IsValue z.setting q 1 k d0 m0 (end.address ∷ []) u n) NoExit
     (with_one vs s (λ size x. moved_by size (at_address z.setting.split t c) (at_address z.setting.split o b) x))
-counted_follows z k need bytes t o p q c b [] s m d0 m0 one other stands pays room enough wide x = absurd (omega (arith, wide))
-counted_follows z k need bytes t o p q c b (a ∷ []) s m d0 m0 one other stands pays room enough wide x =
+counted_follows z k need bytes t o p q c b [] s m d0 m0 one other stands room enough wide x = absurd (omega (arith, wide))
+counted_follows z k need bytes t o p q c b (a ∷ []) s m d0 m0 one other stands room enough wide x =
     let y = counts_by a x.small.1.1.0 in
     data_follows z.ground z.rate z.setting p q k d0 m0 bytes 0 (move_leads z.ground z.sites (on p) bytes 0 q stands) (omega (arith, room, enough)) z.setting.split
-    t o one.0 one.1 other.0 other.1 refl refl (omega (arith, pays)) (is_upward (signed a)) (count_size (signed a)) c b s m y.fits
+    t o one.0 one.1 other.0 other.1 refl refl (is_upward (signed a)) (count_size (signed a)) c b s m y.fits
     (subst (λ (j : ℕ). IsValue z.setting p 3 k d0 m0 (c ∷ b ∷ j ∷ []) s m) (sym y.word) x)
-counted_follows z k need bytes t o p q c b (a ∷ e ∷ vs) s m d0 m0 one other stands pays room enough wide x = absurd (omega (arith, wide))
+counted_follows z k need bytes t o p q c b (a ∷ e ∷ vs) s m d0 m0 one other stands room enough wide x = absurd (omega (arith, wide))
 
 pub counted_source : (z : Surroundings) (d k need more most : ℕ) (bytes : Bool) (t o : Kind) (b c : Part) (from : State → Outcome Located)
     (count : State → Outcome (List ℕ)) → AreUnits bytes t → AreUnits bytes o → IsReference z d (k + 1) more o b from → IsWhole c
@@ -53,7 +53,7 @@ pub counted_source : (z : Surroundings) (d k need more most : ℕ) (bytes : Bool
     → IsSource z d k need t (b ⨟ c ⨟ piece (move_of bytes 0)) (counted_move from count)
 counted_source z d k need more most bytes t o b c from count one other r wc sc few less enough = record {
   whole = whole_then (b ⨟ c) (piece (move_of bytes 0)) (whole_then b c r.whole wc) (move_whole bytes 0);
-  does = λ h ws p q e s m d0 m0 stands front pays v room fuel.
+  does = λ h ws p q e s m d0 m0 stands front v room fuel.
       let x = b h ws in
       let y = c (h + x.marks) x.wants in
       let cut = stand_in_order z.ground z.sites (x.pieces ++ y.pieces) (move_of bytes 0 ∷ []) (on p) q ((whole_then b c r.whole wc).closed h ws) stands in
@@ -77,14 +77,14 @@ counted_source z d k need more most bytes t o b c from count one other r wc sc f
       (sc.does (h + x.marks) x.wants (on first.0) cut.0 u u.begun m1 first.2 front
       (next_ready z.setting d first.0 2 k need most (e ∷ l.address ∷ []) d0 m0 u m1 two room less (omega (arith, fuel, fewer))))
       (λ vs v m2 is2 fewer2.
-      counted_follows z k need bytes t o cut.0 q e l.address vs v m2 d0 m0 one other cut.2 pays room enough is2.wide
+      counted_follows z k need bytes t o cut.0 q e l.address vs v m2 d0 m0 one other cut.2 room enough is2.wide
       (values_join z.setting first.0 cut.0 2 1 k d0 m0 (e ∷ l.address ∷ []) vs u m1 v m2 two is2))
       (omega (arith, middle, last)) (omega arith) (omega (arith, many)) (omega (arith, many))))
       (omega (arith, rise, middle, last)) (omega arith) (omega (arith, many)) (omega (arith, many));
 }
 
 -- the answer is told behind all parts
-counted_meaning : (o : State → Outcome Located) (count : State → Outcome (List ℕ)) (p : Located) (s : State)
+pub counted_meaning : (o : State → Outcome Located) (count : State → Outcome (List ℕ)) (p : Located) (s : State)
     → then_go (o s) (λ q x. then_go (count x) (λ vs y. with_one vs y (λ size h. moved_far p (moved_by size p q h))))
     ≡ moved_far p (counted_move o count p s)
 counted_meaning from count p s =

@@ -11,3 +11,5 @@ pub mod PairLemmas
 pub mod ClassLemmas
 pub mod WhileLemmas
 pub mod ByteLemmas
+pub mod ValueLemmas
+pub mod AnswerLemmas

@@ -1,5 +1,5 @@
 -- MOVE and MVB, one element after the other: what the machine does at the word of a move is what the run does with an element.
-use Rattle.std.proofs.Common.{◌≡◌, ℕ, zero, suc, ◌+◌, ◌-◌, ◌*◌, ◌%◌, ◌<◌, ◌≤◌, Bool, true, false, List, [], ◌∷◌, ◌++◌, length, take, refl, sym, ap, subst, ◌∙◌, arith, inl}
+use Rattle.std.proofs.Common.{◌≡◌, ℕ, zero, suc, ◌+◌, ◌-◌, ◌%◌, ◌<◌, ◌≤◌, Bool, true, false, List, [], ◌∷◌, ◌++◌, length, take, refl, sym, ap, subst, ◌∙◌, arith, inl}
 use Rattle.std.specs.Prelude.{◌==◌, Some, Ok, Err, slice_set}
 use Rattle.hp_word.specs.declared.endings.Trap.TheVariants.{Bounds}
 use Rattle.hp_word.specs.declared.endings.Ending.TheVariants.{Running}
@@ -21,7 +21,7 @@ use Rattle.spl_follow.specs.Doing.{moving, doing}
 use Rattle.spl_follow.proofs.FollowLemmas.{then_follows, widen, spend_follows}
 use Rattle.spl_follow.proofs.KeepLemmas.{kept_top, kept_stack, value_word}
 use Rattle.spl_follow.proofs.RowLemmas.{no_print, shown, stray_here, row_trap}
-use Rattle.spl_follow.proofs.WayLemmas.{lead}
+use Rattle.spl_follow.proofs.WayLemmas.{lead, lead_briefly}
 use Rattle.spl_operands.specs.Operands.{Seen}
 use Rattle.spl_operands.proofs.SeeLemmas.{see}
 use Rattle.spl_moves.proofs.StepLemmas.{stays, passes, placed_matched, placed_kept, value_left, first_left}
@@ -151,14 +151,14 @@ module _ (g : Ground) (w : Rate) (st : Setting) (p r : Spot) (k : ℕ) (d0 : Dat
   element_goes : (far : Bool) (c b a v old : ℕ) (s : State) (m : Machine) → st.split ≡ far → Waiting c b a s m → (a == 0) ≡ false
       → source bytes g.segments (number == 1) b (at_left m) ≡ Ok v → IsUnit bytes v → Seen far (unit_word bytes c) old s (at_left m)
       → onward a c < 65536 → onward a b < 65536 → nearer a < 65536
-      → (n : Machine) × Goes g w (pos r - pos p) 0 w.reach (tally s) m (tally (stored far c v old s)) n
+      → (n : Machine) × Goes g w 2 0 w.reach (tally s) m (tally (stored far c v old s)) n
       × Waiting (onward a c) (onward a b) (nearer a) (stored far c v old s) n
   unfolding element_done
   element_goes far c b a v old s m side x some is one seen sc sb sa = (
     n,
-    subst (λ (t : Tally). Goes g w (pos r - pos p) 0 w.reach (tally s) m t n)
+    subst (λ (t : Tally). Goes g w 2 0 w.reach (tally s) m t n)
         (sym (placed_tally far (unit_word bytes c) (with_unit bytes c v old) s))
-        (lead g w (on p) r (doing g.segments (i.Control (move_code bytes) number) r) s.begun s m n leads x.at (runs c b a s m x).ending refl
+        (lead_briefly g w (on p) r (doing g.segments (i.Control (move_code bytes) number) r) s.begun s m n leads x.at (runs c b a s m x).ending refl
         (does m ∙ ap (λ (o : Row). moving r o m) (goes_row far c b a v old s m side x some is one seen) ∙ stays r e m (held_place far ys (at_left m)))
         (no_print m n (held_printed far ys (at_left m)))),
     value_left st p k 3 3 (onward a c ∷ onward a b ∷ nearer a ∷ []) d0 m0 (stored far c v old s) (with_held far ys (at_left m)) n x.at refl refl
@@ -218,17 +218,17 @@ module _ (g : Ground) (w : Rate) (st : Setting) (p r : Spot) (k : ℕ) (d0 : Dat
       → source bytes g.segments (number == 1) b (at_left m) ≡ Ok v → IsUnit bytes v
       → onward a c < 65536 → onward a b < 65536 → nearer a < 65536
       → ((u : State) (n : Machine) → Waiting (onward a c) (onward a b) (nearer a) u n → Follows g w (pos r - pos p) 1 w.reach (tally u) n P NoExit (X u))
-      → Follows g w (2 * (pos r - pos p)) 0 w.reach (tally s) m P NoExit (then_go (store_by t far c (v ∷ []) s) (λ _ u. X u))
+      → Follows g w (2 + (pos r - pos p)) 0 w.reach (tally s) m P NoExit (then_go (store_by t far c (v ∷ []) s) (λ _ u. X u))
   unfolding row
   store_then {A = A} far t c b a v s m P X same one side x some is unit sc sb sa rest =
-      subst (λ (o : Outcome A). Follows g w (2 * (pos r - pos p)) 0 w.reach (tally s) m P NoExit o) (sym by_word)
-      (see (λ (o : Outcome A). Follows g w (2 * (pos r - pos p)) 0 w.reach (tally s) m P NoExit o) far (unit_word bytes c) (k + 3) st s (at_left m)
+      subst (λ (o : Outcome A). Follows g w (2 + (pos r - pos p)) 0 w.reach (tally s) m P NoExit o) (sym by_word)
+      (see (λ (o : Outcome A). Follows g w (2 + (pos r - pos p)) 0 w.reach (tally s) m P NoExit o) far (unit_word bytes c) (k + 3) st s (at_left m)
       (λ old u. X (stored far c v old u)) x.matches (room_here c b a s m x)
       (λ old seen. let f = element_goes far c b a v old s m side x some is unit seen sc sb sa in
-      then_follows g w (pos r - pos p) 0 w.reach (pos r - pos p) 1 w.reach (2 * (pos r - pos p)) 0 w.reach (tally s) m (tally (stored far c v old s)) f.0 P NoExit
+      then_follows g w 2 0 w.reach (pos r - pos p) 1 w.reach (2 + (pos r - pos p)) 0 w.reach (tally s) m (tally (stored far c v old s)) f.0 P NoExit
       (X (stored far c v old s)) f.1 (rest (stored far c v old s) f.0 f.2) (omega arith) (omega (arith, many)) (omega (arith, many)))
-      (stray_here g w (2 * (pos r - pos p)) 0 w.reach st (on p) (k + 3) s s.begun m P NoExit leads.start x.at refl x.matches)
-      (λ past. widen g w (pos r - pos p) 0 w.reach (2 * (pos r - pos p)) 0 w.reach (tally s) m P NoExit (ends (trapped Bounds) s)
+      (stray_here g w (2 + (pos r - pos p)) 0 w.reach st (on p) (k + 3) s s.begun m P NoExit leads.start x.at refl x.matches)
+      (λ past. widen g w (pos r - pos p) 0 w.reach (2 + (pos r - pos p)) 0 w.reach (tally s) m P NoExit (ends (trapped Bounds) s)
       (element_traps c b a s m P x (row_stores_none bytes g.segments number v Bounds (at_left m) (three c b a s m x)
       (subst (λ (z : ℕ). (z == 0) ≡ false) (sym (count_word c b a s m x)) some)
       (subst (λ (z : ℕ). source bytes g.segments (number == 1) z (at_left m) ≡ Ok v) (sym (source_word c b a s m x)) is)
@@ -247,18 +247,18 @@ module _ (g : Ground) (w : Rate) (st : Setting) (p r : Spot) (k : ℕ) (d0 : Dat
   -- ---- a string
 
   pub text_follows : (far : Bool) (t : Kind) → is_byte (Some t) ≡ bytes → width t ≡ 1 → st.split ≡ far → (number == 1) ≡ true
-      → pos r - pos p ≤ w.step → (vs : List ℕ) (c b : ℕ) (s : State) (m : Machine) → length vs < 32768 → Spelled g bytes p.seg b vs → Waiting c b (length vs) s m
+      → (vs : List ℕ) (c b : ℕ) (s : State) (m : Machine) → length vs < 32768 → Spelled g bytes p.seg b vs → Waiting c b (length vs) s m
       → Follows g w (pos r - pos p) 1 w.reach (tally s) m Lands NoExit (moved_list vs (at_address far t c) s)
-  text_follows far t same one side code pays [] c b s m few spelled x =
+  text_follows far t same one side code [] c b s m few spelled x =
       let f = move_ends c b 0 s m x refl in
       widen g w (pos r - pos p) 0 w.reach (pos r - pos p) 1 w.reach (tally s) m Lands NoExit (done (at_address far t c) s) f (omega arith) (omega arith) (omega arith)
-  text_follows far t same one side code pays (v ∷ vs) c b s m few spelled x =
+  text_follows far t same one side code (v ∷ vs) c b s m few spelled x =
       let fits : Fits true (suc (length vs)) = few in
       let next = counted_onward true (length vs) c fits in
       let after = counted_onward true (length vs) b fits in
       let less = counted_nearer true (length vs) fits in
       let low : length vs < 32768 = omega (arith, few) in
-      spend_follows g w (2 * (pos r - pos p)) 0 (pos r - pos p) 1 w.reach s s.begun m Lands NoExit
+      spend_follows g w (2 + (pos r - pos p)) 0 (pos r - pos p) 1 w.reach s s.begun m Lands NoExit
       (λ s1. then_go (store (at_address far t c) (v ∷ []) s1) (λ _ s2. moved_list vs (at_address far t ((c + 1) % 65536)) s2))
       (runs c b (suc (length vs)) s m x) (inl refl)
       (λ n is. store_then far t c b (suc (length vs)) v (record s { left = n }) m Lands (λ u. moved_list vs (at_address far t ((c + 1) % 65536)) u) same one side
@@ -266,11 +266,11 @@ module _ (g : Ground) (w : Rate) (st : Setting) (p r : Spot) (k : ℕ) (d0 : Dat
       (subst (λ (q : Bool). source bytes g.segments q b (at_left m) ≡ Ok v) (sym code) (spelled.0 (at_left m) (ap (λ (q : Spot). q.seg) x.at))) spelled.1
       (subst (λ (z : ℕ). z < 65536) (sym next) (omega arith)) (subst (λ (z : ℕ). z < 65536) (sym after) (omega arith))
       (subst (λ (z : ℕ). z < 65536) (sym less) (omega (arith, low)))
-      (λ u m1 y. text_follows far t same one side code pays vs ((c + 1) % 65536) ((b + 1) % 65536) u m1 low spelled.2
+      (λ u m1 y. text_follows far t same one side code vs ((c + 1) % 65536) ((b + 1) % 65536) u m1 low spelled.2
       (subst (λ (z : ℕ). Waiting z ((b + 1) % 65536) (length vs) u m1) next
       (subst (λ (z : ℕ). Waiting (onward (suc (length vs)) c) z (length vs) u m1) after
       (subst (λ (z : ℕ). Waiting (onward (suc (length vs)) c) (onward (suc (length vs)) b) z u m1) less y)))))
-      (omega (arith, pays)) (omega arith)
+      (let word = w.word in omega (arith, word)) (omega arith)
 
   -- ---- data
 
@@ -279,18 +279,18 @@ module _ (g : Ground) (w : Rate) (st : Setting) (p r : Spot) (k : ℕ) (d0 : Dat
       → is_byte (Some t) ≡ bytes → width t ≡ 1 → is_byte (Some o) ≡ bytes → width o ≡ 1 → st.split ≡ far → (number == 1) ≡ false
       → Waiting c b a s m → (a == 0) ≡ false → onward a c < 65536 → onward a b < 65536 → nearer a < 65536
       → ((u : State) (n : Machine) → Waiting (onward a c) (onward a b) (nearer a) u n → Follows g w (pos r - pos p) 1 w.reach (tally u) n P NoExit (X u))
-      → Follows g w (2 * (pos r - pos p)) 0 w.reach (tally s) m P NoExit
+      → Follows g w (2 + (pos r - pos p)) 0 w.reach (tally s) m P NoExit
       (then_go (read (at_address far o b) s) (λ vs v. then_go (store (at_address far t c) vs v) (λ _ z. X z)))
   unfolding row
   read_then {A = A} far t o c b a s m P X same one other narrow side stack x some sc sb sa rest =
-      subst (λ (z : Outcome A). Follows g w (2 * (pos r - pos p)) 0 w.reach (tally s) m P NoExit z) (sym by_word)
-      (see (λ (z : Outcome A). Follows g w (2 * (pos r - pos p)) 0 w.reach (tally s) m P NoExit z) far (unit_word bytes b) (k + 3) st s (at_left m)
+      subst (λ (z : Outcome A). Follows g w (2 + (pos r - pos p)) 0 w.reach (tally s) m P NoExit z) (sym by_word)
+      (see (λ (z : Outcome A). Follows g w (2 + (pos r - pos p)) 0 w.reach (tally s) m P NoExit z) far (unit_word bytes b) (k + 3) st s (at_left m)
       (λ v z. then_go (store_by t far c (unit_of bytes b v ∷ []) z) (λ _ z. X z)) x.matches (room_here c b a s m x)
       (λ v seen. store_then far t c b a (unit_of bytes b v) s m P X same one side x some
       (subst (λ (q : Bool). source bytes g.segments q b (at_left m) ≡ Ok (unit_of bytes b v)) (sym stack)
       (unit_read bytes far g.segments b v s (at_left m) split seen)) (unit_small bytes b v seen.small) sc sb sa rest)
-      (stray_here g w (2 * (pos r - pos p)) 0 w.reach st (on p) (k + 3) s s.begun m P NoExit leads.start x.at refl x.matches)
-      (λ past. widen g w (pos r - pos p) 0 w.reach (2 * (pos r - pos p)) 0 w.reach (tally s) m P NoExit (ends (trapped Bounds) s)
+      (stray_here g w (2 + (pos r - pos p)) 0 w.reach st (on p) (k + 3) s s.begun m P NoExit leads.start x.at refl x.matches)
+      (λ past. widen g w (pos r - pos p) 0 w.reach (2 + (pos r - pos p)) 0 w.reach (tally s) m P NoExit (ends (trapped Bounds) s)
       (element_traps c b a s m P x (row_reads_none bytes g.segments number Bounds (at_left m) (three c b a s m x)
       (subst (λ (z : ℕ). (z == 0) ≡ false) (sym (count_word c b a s m x)) some)
       (subst (λ (z : ℕ). source bytes g.segments (number == 1) z (at_left m) ≡ Err Bounds) (sym (source_word c b a s m x))
@@ -309,19 +309,19 @@ module _ (g : Ground) (w : Rate) (st : Setting) (p r : Spot) (k : ℕ) (d0 : Dat
 
   -- so many elements of the data, upwards or downwards
   pub data_follows : (far : Bool) (t o : Kind) → is_byte (Some t) ≡ bytes → width t ≡ 1 → is_byte (Some o) ≡ bytes → width o ≡ 1 → st.split ≡ far
-      → (number == 1) ≡ false → pos r - pos p ≤ w.step
+      → (number == 1) ≡ false
       → (up : Bool) (j c b : ℕ) (s : State) (m : Machine) → Fits up j → Waiting c b (counted up j) s m
       → Follows g w (pos r - pos p) 1 w.reach (tally s) m Lands NoExit (moved up j (at_address far t c) (at_address far o b) s)
-  data_follows far t o same one other narrow side stack pays up zero c b s m fits x =
+  data_follows far t o same one other narrow side stack up zero c b s m fits x =
       let f = move_ends c b (counted up 0) s m x (counted_none up) in
       widen g w (pos r - pos p) 0 w.reach (pos r - pos p) 1 w.reach (tally s) m Lands NoExit (done (at_address far t c) s) f (omega arith) (omega arith) (omega arith)
-  data_follows far t o same one other narrow side stack pays up (suc j) c b s m fits x =
+  data_follows far t o same one other narrow side stack up (suc j) c b s m fits x =
       let a = counted up (suc j) in
       let next = counted_onward up j c fits in
       let after = counted_onward up j b fits in
       let less = counted_nearer up j fits in
       let rest : State → Outcome Located = λ u. moved up j (neighbour up (at_address far t c)) (neighbour up (at_address far o b)) u in
-      spend_follows g w (2 * (pos r - pos p)) 0 (pos r - pos p) 1 w.reach s s.begun m Lands NoExit
+      spend_follows g w (2 + (pos r - pos p)) 0 (pos r - pos p) 1 w.reach s s.begun m Lands NoExit
       (λ s1. then_go (read (at_address far o b) s1) (λ vs s2. then_go (store (at_address far t c) vs s2) (λ _ s3. rest s3)))
       (runs c b a s m x) (inl refl)
       (λ n is. read_then far t o c b a (record s { left = n }) m Lands rest same one other narrow side stack
@@ -333,8 +333,8 @@ module _ (g : Ground) (w : Rate) (st : Setting) (p r : Spot) (k : ℕ) (d0 : Dat
       (sym (neighbour_at up far t c))
       (subst (λ (q : Located). Follows g w (pos r - pos p) 1 w.reach (tally u) m1 Lands NoExit (moved up j (at_address far t (beside up c)) q u))
       (sym (neighbour_at up far o b))
-      (data_follows far t o same one other narrow side stack pays up j (beside up c) (beside up b) u m1 (fits_less up j fits)
+      (data_follows far t o same one other narrow side stack up j (beside up c) (beside up b) u m1 (fits_less up j fits)
       (subst (λ (z : ℕ). Waiting z (beside up b) (counted up j) u m1) next
       (subst (λ (z : ℕ). Waiting (onward a c) z (counted up j) u m1) after
       (subst (λ (z : ℕ). Waiting (onward a c) (onward a b) z u m1) less y)))))))
-      (omega (arith, pays)) (omega arith)
+      (let word = w.word in omega (arith, word)) (omega arith)

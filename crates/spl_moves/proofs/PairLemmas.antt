@@ -16,7 +16,7 @@ use Rattle.spl_follow.specs.Following.{Rate, Tally, tally, Goes, Follows, NoExit
 use Rattle.spl_follow.specs.Doing.{moving, doing}
 use Rattle.spl_follow.proofs.KeepLemmas.{kept_top, kept_stack, value_word}
 use Rattle.spl_follow.proofs.RowLemmas.{no_print, shown, row_trap}
-use Rattle.spl_follow.proofs.WayLemmas.{lead}
+use Rattle.spl_follow.proofs.WayLemmas.{lead, lead_briefly}
 use Rattle.spl_moves.proofs.StepLemmas.{stays, passes, value_left, first_left}
 
 module _ (g : Ground) (w : Rate) (st : Setting) (p r : Spot) (k : ℕ) (d0 : Data) (m0 : Machine) (which number : ℕ)
@@ -49,12 +49,12 @@ module _ (g : Ground) (w : Rate) (st : Setting) (p r : Spot) (k : ℕ) (d0 : Dat
   pub pair_goes : (b a x y : ℕ) (s t : State) (m e : Machine) → Pair b a s m
       → move_row g.segments which number (at_left m) ≡ Ok (replaced 2 (x ∷ y ∷ []) e) → e.regs.p ≡ m.regs.p → e.printed ≡ m.printed → tally t ≡ tally s
       → Matched st t.now e (k + 2) → Kept (d0.top + k) d0 m0.stack t.now e.stack → t.code ≡ None → x < 65536 → y < 65536
-      → (n : Machine) × Goes g w (pos r - pos p) 0 w.reach (tally s) m (tally t) n × Pair x y t n
+      → (n : Machine) × Goes g w 2 0 w.reach (tally s) m (tally t) n × Pair x y t n
   pair_goes b a x y s t m e v row place printed same matches kept silent small less =
       let n : Machine = landed (spot m) (replaced 2 (x ∷ y ∷ []) e) in (
         n,
-        subst (λ (u : Tally). Goes g w (pos r - pos p) 0 w.reach (tally s) m u n) (sym same)
-            (lead g w (on p) r (doing g.segments (i.Control which number) r) s.begun s m n leads v.at (pair_runs b a s m v).ending refl
+        subst (λ (u : Tally). Goes g w 2 0 w.reach (tally s) m u n) (sym same)
+            (lead_briefly g w (on p) r (doing g.segments (i.Control which number) r) s.begun s m n leads v.at (pair_runs b a s m v).ending refl
             (does m ∙ ap (λ (o : Row). moving r o m) row ∙ stays r (replaced 2 (x ∷ y ∷ []) e) m place) (no_print m n printed)),
         value_left st p k 2 2 (x ∷ y ∷ []) d0 m0 t e n v.at refl refl matches kept silent (small, (less, tt)) refl,
       )

@@ -101,7 +101,7 @@ reference_follows z d k need t part to x h ws p q s l m stands front ready =
 pub record IsSource (z : Surroundings) (d k need : ℕ) (t : Kind) (part : Part) (move : Located → State → Outcome Located) : Type 0 where
   pub whole : IsWhole part
   pub does : (h : ℕ) (ws : List Wanted) (p q : Spot) (c : ℕ) (s : State) (m : Machine) (d0 : Data) (m0 : Machine)
-      → Stands z.ground z.sites (on p) (part h ws).pieces q → IsFront (part h ws).wants z.wants → pos q ≤ z.rate.step
+      → Stands z.ground z.sites (on p) (part h ws).pieces q → IsFront (part h ws).wants z.wants
       → IsValue z.setting p 1 k d0 m0 (c ∷ []) s m → d0.top + k + need ≤ d0.stack → s.left ≤ d
       → Follows z.ground z.rate (pos q - pos p) 1 z.rate.reach (tally s) m (λ end u n. IsValue z.setting q 1 k d0 m0 (end.address ∷ []) u n) NoExit
       (move (at_address z.setting.split t c) s)
@@ -178,7 +178,7 @@ moves_perform z d k need number at t a source to move r f = record {
       (λ end x n. IsValue z.setting cut.0 1 k u.now m (end.address ∷ []) x n) (Completes z.setting q k u.now m) NoExit (move e v) (λ end x. done tt x)
       (subst (λ (l : Located). Follows z.ground z.rate (pos cut.0 - pos first.0) 1 z.rate.reach (tally v) m1 (λ end x n. IsValue z.setting cut.0 1 k u.now m (end.address ∷ []) x n) NoExit (move l v))
       (sym is.is)
-      (f.does (h + 0 + x.marks) x.wants first.0 cut.0 e.address v m1 u.now m first.2 front (omega (arith, pays, last)) is.stands ready.room (omega (arith, fuel, less))))
+      (f.does (h + 0 + x.marks) x.wants first.0 cut.0 e.address v m1 u.now m first.2 front is.stands ready.room (omega (arith, fuel, less))))
       (λ end x n there fewer. end_deleted z.ground z.rate z.sites z.setting cut.0 q k (end.address ∷ []) x n u.now m cut.2 there)
       (omega (arith, middle, last)) (omega arith) (omega (arith, many)) (omega (arith, many)))
       (omega (arith, rise, middle, last, pays)) (omega arith) (omega (arith, many)) (omega (arith, many)))));

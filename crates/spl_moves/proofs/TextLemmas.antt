@@ -239,7 +239,7 @@ pub text_source : (z : Surroundings) (d k need : ℕ) (bytes : Bool) (t : Kind) 
     → IsSource z d k need t (text_moved bytes text) (λ p s. moved_text text p s)
 text_source z d k need bytes t text one small enough = record {
   whole = whole_then front (piece (move_of bytes 1)) front_whole (move_whole bytes 1);
-  does = λ h ws p q c s m d0 m0 stands wanted pays v room fuel.
+  does = λ h ws p q c s m d0 m0 stands wanted v room fuel.
       let a = text_offset text ⨟ pieces (text_scaled bytes) in
       let cut = stand_in_order z.ground z.sites (front h ws).pieces (move_of bytes 1 ∷ []) (on p) q (front_whole.closed h ws) stands in
       let first = stand_in_order z.ground z.sites (a h ws).pieces (constant (text_count bytes text % 65536)) (on p) cut.0 ((scaled_whole bytes text).closed h ws) cut.1 in
@@ -265,7 +265,7 @@ text_source z d k need bytes t text one small enough = record {
       (subst (λ (vs : List ℕ). Follows z.ground z.rate (pos q - pos cut.0) 1 z.rate.reach (tally s) g.0 (λ end u n. IsValue z.setting q 1 k d0 m0 (end.address ∷ []) u n) NoExit
       (moved_list vs (at_address z.setting.split t c) s)) (sym (units_of_kind bytes t text one.0))
       (text_follows z.ground z.rate z.setting cut.0 q k d0 m0 bytes 1 (move_leads z.ground z.sites (on cut.0) bytes 1 q cut.2) (omega (arith, room, enough)) z.setting.split
-      t one.0 one.1 refl refl (omega (arith, pays)) (text_units bytes text) c x.offset s g.0 few
+      t one.0 one.1 refl refl (text_units bytes text) c x.offset s g.0 few
       (subst (λ (n : ℕ). Spelled z.ground bytes n x.offset (text_units bytes text)) inside x.spelled)
       (subst (λ (n : ℕ). IsValue z.setting cut.0 3 k d0 m0 (c ∷ x.offset ∷ n ∷ []) s g.0) count three)))
       (omega (arith, middle, last)) (omega (arith, many)) (omega (arith, many)))

@@ -1,5 +1,5 @@
 -- MVBW, and SCW and SCU: bytes one after the other, until one is not of the class, or is not passed by.
-use Rattle.std.proofs.Common.{◌≡◌, ℕ, zero, suc, ◌+◌, ◌-◌, ◌*◌, ◌/◌, ◌%◌, ◌<◌, ◌≤◌, Bool, true, false, List, [], ◌∷◌, length, Ok, Err, refl, sym, ap, subst, ◌∙◌, arith, inl}
+use Rattle.std.proofs.Common.{◌≡◌, ℕ, zero, suc, ◌+◌, ◌-◌, ◌/◌, ◌%◌, ◌<◌, ◌≤◌, Bool, true, false, List, [], ◌∷◌, length, Ok, Err, refl, sym, ap, subst, ◌∙◌, arith, inl}
 use Rattle.std.specs.Prelude.{Some, ◌==◌, ◌&&◌, ◌||◌, not, if◌then◌else◌, slice_set}
 use Rattle.hp_word.specs.Bytes.{byte_at}
 use Rattle.hp_word.specs.declared.endings.Trap.TheVariants.{Bounds}
@@ -51,7 +51,7 @@ byte_is_not_read far segments a m side past = unit_not_read true far segments a 
 module _ (g : Ground) (w : Rate) (st : Setting) (p r : Spot) (k : ℕ) (d0 : Data) (m0 : Machine) (class : ℕ)
     (leads : Leads g (on p) r (doing g.segments (i.Control 11 (class_letters class)) r)) (room : d0.top + (k + 2) ≤ d0.stack)
     (far : Bool) (t o : Kind) (one : is_byte (Some t) ≡ true) (narrow : width t ≡ 1) (other : is_byte (Some o) ≡ true) (slim : width o ≡ 1)
-    (side : st.split ≡ far) (pays : pos r - pos p ≤ w.step) where
+    (side : st.split ≡ far) where
   -- the addresses of target and source on k words
   abbrev Both : ℕ → ℕ → State → Machine → Type 0
   Both c b s m = IsValue st p 2 k d0 m0 (c ∷ b ∷ []) s m
@@ -83,17 +83,17 @@ module _ (g : Ground) (w : Rate) (st : Setting) (p r : Spot) (k : ℕ) (d0 : Dat
   class_store : {A : Type 0} (c b v : ℕ) (s : State) (m : Machine) (P : A → State → Machine → Type 0) (X : State → Outcome A) → Both c b s m
       → byte_read (Db b) (at_left m) ≡ Ok v → v < 256 → is_of_class class v ≡ true
       → ((u : State) (n : Machine) → Both ((c + 1) % 65536) ((b + 1) % 65536) u n → u.left ≡ s.left → Follows g w (pos r - pos p) 1 w.reach (tally u) n P NoExit (X u))
-      → Follows g w (2 * (pos r - pos p)) 0 w.reach (tally s) m P NoExit (then_go (store_by t far c (of_class class v ∷ []) s) (λ _ u. X u))
+      → Follows g w (2 + (pos r - pos p)) 0 w.reach (tally s) m P NoExit (then_go (store_by t far c (of_class class v ∷ []) s) (λ _ u. X u))
   class_store {A = A} c b v s m P X x is small same rest =
-      subst (λ (z : Outcome A). Follows g w (2 * (pos r - pos p)) 0 w.reach (tally s) m P NoExit z) (sym by_word)
-      (see (λ (z : Outcome A). Follows g w (2 * (pos r - pos p)) 0 w.reach (tally s) m P NoExit z) far (c / 2) (k + 2) st s (at_left m)
+      subst (λ (z : Outcome A). Follows g w (2 + (pos r - pos p)) 0 w.reach (tally s) m P NoExit z) (sym by_word)
+      (see (λ (z : Outcome A). Follows g w (2 + (pos r - pos p)) 0 w.reach (tally s) m P NoExit z) far (c / 2) (k + 2) st s (at_left m)
       (λ old u. X (placed_word far (c / 2) (with_unit true c a old) u)) x.matches (free c b s m x)
       (λ old seen.
       let f = goes old seen in
-      then_follows g w (pos r - pos p) 0 w.reach (pos r - pos p) 1 w.reach (2 * (pos r - pos p)) 0 w.reach (tally s) m (tally (left old)) f.0 P NoExit
+      then_follows g w 2 0 w.reach (pos r - pos p) 1 w.reach (2 + (pos r - pos p)) 0 w.reach (tally s) m (tally (left old)) f.0 P NoExit
       (X (left old)) f.1 (rest (left old) f.0 f.2 (placed_left far (c / 2) (with_unit true c a old) s)) (omega arith) (omega (arith, many)) (omega (arith, many)))
-      (stray_here g w (2 * (pos r - pos p)) 0 w.reach st (on p) (k + 2) s s.begun m P NoExit leads.start x.at refl x.matches)
-      (λ past. widen g w (pos r - pos p) 0 w.reach (2 * (pos r - pos p)) 0 w.reach (tally s) m P NoExit (ends (trapped Bounds) s)
+      (stray_here g w (2 + (pos r - pos p)) 0 w.reach st (on p) (k + 2) s s.begun m P NoExit leads.start x.at refl x.matches)
+      (λ past. widen g w (pos r - pos p) 0 w.reach (2 + (pos r - pos p)) 0 w.reach (tally s) m P NoExit (ends (trapped Bounds) s)
       (pair_traps g w st p r k d0 m0 11 (class_letters class) leads (λ m. refl) room c b s m P x
       (rows.while_stores_none g.segments (class_letters class) v Bounds (at_left m) (enough c b s m x) (reads_byte c b v s m x is) (same_class class v ∙ same)
       (written (λ (z : Row). z ≡ Err Bounds) (unit_not_put true far c a (at_left m) (split c b s m x) past))))
@@ -120,7 +120,7 @@ module _ (g : Ground) (w : Rate) (st : Setting) (p r : Spot) (k : ℕ) (d0 : Dat
               ∙ then_done (word_at far (c / 2) s) (λ old. tt) (λ old u. placed_word far (c / 2) (with_unit true c a old) u) (λ _ u. X u)
 
           goes : (old : ℕ) → Seen far (c / 2) old s (at_left m)
-              → (n : Machine) × Goes g w (pos r - pos p) 0 w.reach (tally s) m (tally (left old)) n × Both ((c + 1) % 65536) ((b + 1) % 65536) (left old) n
+              → (n : Machine) × Goes g w 2 0 w.reach (tally s) m (tally (left old)) n × Both ((c + 1) % 65536) ((b + 1) % 65536) (left old) n
           goes old seen =
               let ys = slice_set (held far (at_left m)) (c / 2) (with_unit true c a old) in
               let e : Machine = with_held far ys (at_left m) in
@@ -180,12 +180,12 @@ module _ (g : Ground) (w : Rate) (st : Setting) (p r : Spot) (k : ℕ) (d0 : Dat
               → Follows g w (pos r - pos p) 1 w.reach (tally s) m Ends NoExit
               (if q then stepping s (λ z. then_go (store_by t far c (of_class class v ∷ []) z) (λ _ y. rest y)) else done (at_address far t c) s)
           by v is small goes true same =
-              spend_follows g w (2 * (pos r - pos p)) 0 (pos r - pos p) 1 w.reach s s.begun m Ends NoExit
+              spend_follows g w (2 + (pos r - pos p)) 0 (pos r - pos p) 1 w.reach s s.begun m Ends NoExit
               (λ z. then_go (store_by t far c (of_class class v ∷ []) z) (λ _ y. rest y))
               (pair_runs g w st p r k d0 m0 11 (class_letters class) leads (λ m. refl) room c b s m x) (inl refl)
               (λ n e. class_store c b v (record s { left = n }) m Ends rest (value_with_left st p 2 k d0 m0 (c ∷ b ∷ []) s m n x) is small same
               (λ u m1 y l. goes u m1 y (omega (arith, few, e, l))))
-              (omega (arith, pays)) (omega arith)
+              (let word = w.word in omega (arith, word)) (omega arith)
           by v is small goes false other =
               widen g w (pos r - pos p) 0 w.reach (pos r - pos p) 1 w.reach (tally s) m Ends NoExit (done (at_address far t c) s) (class_ends c b v s m x is other)
               (omega arith) (omega arith) (omega arith)
@@ -233,7 +233,7 @@ scan_reads_none false segments m enough is = rows.scan_while_reads_none segments
 
 module _ (g : Ground) (w : Rate) (st : Setting) (p r : Spot) (k : ℕ) (d0 : Data) (m0 : Machine) (until : Bool)
     (leads : Leads g (on p) r (doing g.segments (i.Control (scan_code until) 0) r)) (room : d0.top + (k + 2) ≤ d0.stack)
-    (far : Bool) (t : Kind) (one : is_byte (Some t) ≡ true) (narrow : width t ≡ 1) (side : st.split ≡ far) (pays : pos r - pos p ≤ w.step) where
+    (far : Bool) (t : Kind) (one : is_byte (Some t) ≡ true) (narrow : width t ≡ 1) (side : st.split ≡ far) where
   -- the address and the test word on k words
   abbrev Tests : ℕ → ℕ → State → Machine → Type 0
   Tests b a s m = IsValue st p 2 k d0 m0 (b ∷ a ∷ []) s m
@@ -249,7 +249,7 @@ module _ (g : Ground) (w : Rate) (st : Setting) (p r : Spot) (k : ℕ) (d0 : Dat
 
   -- a byte is passed by
   byte_goes : (b a v : ℕ) (s : State) (m : Machine) → Tests b a s m → byte_read (Db b) (at_left m) ≡ Ok v → is_passed until a v ≡ true
-      → (n : Machine) × Goes g w (pos r - pos p) 0 w.reach (tally s) m (tally s) n × Tests ((b + 1) % 65536) a s n
+      → (n : Machine) × Goes g w 2 0 w.reach (tally s) m (tally s) n × Tests ((b + 1) % 65536) a s n
   byte_goes b a v s m x is same =
       let low = lower_word g w st p r k d0 m0 (scan_code until) 0 leads scan_does room b a s m x in
       let top = upper_word g w st p r k d0 m0 (scan_code until) 0 leads scan_does room b a s m x in
@@ -307,15 +307,15 @@ module _ (g : Ground) (w : Rate) (st : Setting) (p r : Spot) (k : ℕ) (d0 : Dat
               → (q : Bool) → is_passed until a v ≡ q
               → Follows g w (pos r - pos p) 1 w.reach (tally s) m Stops NoExit (if q then stepping s (λ z. rest z) else done (at_address far t b) s)
           by v is goes true same =
-              spend_follows g w (2 * (pos r - pos p)) 0 (pos r - pos p) 1 w.reach s s.begun m Stops NoExit (λ z. rest z)
+              spend_follows g w (2 + (pos r - pos p)) 0 (pos r - pos p) 1 w.reach s s.begun m Stops NoExit (λ z. rest z)
               (pair_runs g w st p r k d0 m0 (scan_code until) 0 leads scan_does room b a s m x) (inl refl)
               (λ n e.
               let many = w.enough in
               let u : State = record s { left = n } in
               let f = byte_goes b a v u m (value_with_left st p 2 k d0 m0 (b ∷ a ∷ []) s m n x) is same in
-              then_follows g w (pos r - pos p) 0 w.reach (pos r - pos p) 1 w.reach (2 * (pos r - pos p)) 0 w.reach (tally u) m (tally u) f.0 Stops NoExit
+              then_follows g w 2 0 w.reach (pos r - pos p) 1 w.reach (2 + (pos r - pos p)) 0 w.reach (tally u) m (tally u) f.0 Stops NoExit
               (rest u) f.1 (goes u f.0 f.2 (omega (arith, few, e))) (omega arith) (omega (arith, many)) (omega (arith, many)))
-              (omega (arith, pays)) (omega arith)
+              (let word = w.word in omega (arith, word)) (omega arith)
           by v is goes false other =
               widen g w (pos r - pos p) 0 w.reach (pos r - pos p) 1 w.reach (tally s) m Stops NoExit (done (at_address far t b) s) (byte_stops b a v s m x is other)
               (omega arith) (omega arith) (omega arith)

@@ -16,7 +16,7 @@ use Rattle.spl_statement_code.specs.Instructions.{MVBW}
 use Rattle.spl_frames.specs.Words.{AllOf}
 use Rattle.spl_follow.specs.Simulating.{Surroundings, Simulates, Performs}
 use Rattle.spl_values.specs.Reached.{IsWhole}
-use Rattle.spl_moves.specs.Moving.{IsReference}
+use Rattle.spl_moves.specs.Moving.{IsReference, Answers}
 
 -- elements of a kind are bytes, or words: a double is neither
 abbrev pub AreUnits : Bool → Kind → Type 0
@@ -66,3 +66,32 @@ ScansPerform = (z : Surroundings) (d k need more number : ℕ) (at : At) (t : Ki
     (piece (Begin at) ⨟ (a ⨟ pieces (kept_first false) ⨟ b ⨟ piece (scan_of until) ⨟ pieces (told false)))
     (λ s. stopping number at s (λ u. value_dropped (then_go (from u) (λ p v. then_go (value v) (λ vs x.
     with_one vs x (λ w y. moved_far p (scanned (suc d) until w p y)))))))
+
+-- ---- answers
+
+-- The same as values: the first address is kept below, and the answer is the end address less that, modulo 65,536.
+abbrev pub CountedMovesAnswer : Type 0
+CountedMovesAnswer = (z : Surroundings) (d k need more most : ℕ) (bytes : Bool) (t o : Kind) (a b c : Part) (to from : State → Outcome Located)
+    (count : State → Outcome (List ℕ)) → AreUnits bytes t → AreUnits bytes o → IsReference z d k need t a to → IsReference z d (k + 2) more o b from
+    → IsWhole c → Simulates z d as_value 1 (k + 3) most c count → more + 2 ≤ need → most + 3 ≤ need → 4 ≤ need
+    → Answers z d k need (a ⨟ pieces (kept_first true) ⨟ (b ⨟ c ⨟ piece (move_of bytes 0)) ⨟ pieces (told true))
+    (λ s. then_go (to s) (λ p v. then_go (from v) (λ q x. then_go (count x) (λ vs y. with_one vs y (λ size h. moved_far p (moved_by size p q h))))))
+
+abbrev pub TextMovesAnswer : Type 0
+TextMovesAnswer = (z : Surroundings) (d k need : ℕ) (bytes : Bool) (t : Kind) (a : Part) (to : State → Outcome Located) (text : List ℕ) → AreUnits bytes t
+    → AreBytes text → IsReference z d k need t a to → 4 ≤ need
+    → Answers z d k need (a ⨟ pieces (kept_first true) ⨟ (text_moved bytes text) ⨟ pieces (told true))
+    (λ s. then_go (to s) (λ p v. moved_far p (moved_text text p v)))
+
+abbrev pub ClassMovesAnswer : Type 0
+ClassMovesAnswer = (z : Surroundings) (d k need more : ℕ) (t o : Kind) (class : ℕ) (a b : Part) (to from : State → Outcome Located) → AreUnits true t
+    → AreUnits true o → IsReference z d k need t a to → IsReference z d (k + 2) more o b from → more + 2 ≤ need → 3 ≤ need
+    → Answers z d k need (a ⨟ pieces (kept_first true) ⨟ (b ⨟ piece (MVBW (class_letters class))) ⨟ pieces (told true))
+    (λ s. then_go (to s) (λ p v. then_go (from v) (λ q x. moved_far p (moved_while (suc d) class p q x))))
+
+abbrev pub ScansAnswer : Type 0
+ScansAnswer = (z : Surroundings) (d k need more : ℕ) (t : Kind) (until : Bool) (a b : Part) (from : State → Outcome Located)
+    (value : State → Outcome (List ℕ)) → AreUnits true t → IsReference z d k need t a from → IsWhole b → Simulates z d as_value 1 (k + 2) more b value
+    → more + 2 ≤ need → 3 ≤ need
+    → Answers z d k need (a ⨟ pieces (kept_first true) ⨟ b ⨟ piece (scan_of until) ⨟ pieces (told true))
+    (λ s. then_go (from s) (λ p v. then_go (value v) (λ vs x. with_one vs x (λ w y. moved_far p (scanned (suc d) until w p y)))))

@@ -1,5 +1,5 @@
 -- What the parts of a MOVE or a SCAN are: the code of references, as addresses, and of what is moved behind the target's address.
-use Rattle.std.specs.Prelude.{◌≡◌, ℕ, ◌<◌, Bool}
+use Rattle.std.specs.Prelude.{◌≡◌, ℕ, ◌<◌, Bool, List}
 use Rattle.spl_tree.specs.declared.expressions.Kind.{Kind}
 use Rattle.spl_meaning.specs.References.{Located}
 use Rattle.spl_meaning.specs.States.{State, Outcome, done, leaves, spent, ends, strays, then_go}
@@ -23,3 +23,8 @@ pub record IsReference (z : Surroundings) (d k need : ℕ) (t : Kind) (part : Pa
   pub whole : IsWhole part
   pub leads : (s : State) → Lies z.setting (footing s.now) → LeadsTo t z.setting.split (to s)
   pub simulates : Simulates z d as_value 1 k need part (λ s. then_go (to s) (λ p u. address_done p u))
+
+-- Code whose answer of one word is a value: it is whole, and simulates what is meant.
+pub record Answers (z : Surroundings) (d k need : ℕ) (part : Part) (meaning : State → Outcome (List ℕ)) : Type 0 where
+  pub whole : IsWhole part
+  pub simulates : Simulates z d as_value 1 k need part meaning

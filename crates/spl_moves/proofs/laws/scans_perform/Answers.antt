@@ -1,6 +1,10 @@
 -- By one byte after the other, until one decides.
 use Rattle.spl_moves.proofs.ByteLemmas.{scan_perform}
+use Rattle.spl_moves.proofs.AnswerLemmas.{scan_answer}
 use Rattle.spl_moves.proofs.laws.scans_perform.Goals as goal
 
-pub returns : goal.returns
-returns c = scan_perform
+pub returns-clause-performs : goal.returns-clause-performs
+returns-clause-performs c = scan_perform
+
+pub returns-clause-answers : goal.returns-clause-answers
+returns-clause-answers c = scan_answer
