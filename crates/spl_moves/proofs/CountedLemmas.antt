@@ -26,7 +26,8 @@ use Rattle.spl_moves.specs.Moving.{IsReference}
 use Rattle.spl_moves.specs.Laws.{AreUnits, CountedMovesPerform}
 use Rattle.spl_moves.proofs.CountLemmas.{at_address, counts_by}
 use Rattle.spl_moves.proofs.MoveLemmas.{data_follows}
-use Rattle.spl_moves.proofs.PartLemmas.{go_go, same_performs, IsLocation, reference_follows, IsSource, move_whole, move_leads, next_ready, moves_perform}
+use Rattle.spl_moves.proofs.PartLemmas.{EndsAt, go_go, same_performs, IsLocation, reference_follows}
+use Rattle.spl_moves.proofs.PartLemmas.{IsSource, move_whole, move_leads, next_ready, moves_perform}
 
 -- what is moved, from the target's location on
 abbrev pub counted_move : (State → Outcome Located) → (State → Outcome (List ℕ)) → Located → State → Outcome Located
@@ -34,15 +35,17 @@ counted_move from count p s =
     then_go (from s) (λ q u. then_go (count u) (λ vs v. with_one vs v (λ size x. moved_by size p q x)))
 
 -- the move behind both addresses and its count
-counted_follows : (z : Surroundings) (k need : ℕ) (bytes : Bool) (t o : Kind) (p q : Spot) (c b : ℕ) (vs : List ℕ) (s : State) (m : Machine) (d0 : Data) (m0 : Machine)
+counted_follows : (z : Surroundings) (k need : ℕ) (bytes : Bool) (t o : Kind) (p q : Spot) (c b : ℕ) (vs : List ℕ) (s : State) (m : Machine) (d0 : Data)
+    (m0 : Machine)
     → AreUnits bytes t → AreUnits bytes o → Stands z.ground z.sites (on p) (move_of bytes 0 ∷ []) q → d0.top + k + need ≤ d0.stack
     → 3 ≤ need → length vs ≡ 1 → IsValue z.setting p 3 k d0 m0 (c ∷ b ∷ vs) s m
-    → Follows z.ground z.rate (pos q - pos p) 1 z.rate.reach (tally s) m (λ end u n. IsValue z.setting q 1 k d0 m0 (end.address ∷ []) u n) NoExit
+    → Follows z.ground z.rate (pos q - pos p) 1 z.rate.reach (tally s) m (EndsAt z.setting q k d0 m0) NoExit
     (with_one vs s (λ size x. moved_by size (at_address z.setting.split t c) (at_address z.setting.split o b) x))
 counted_follows z k need bytes t o p q c b [] s m d0 m0 one other stands room enough wide x = absurd (omega (arith, wide))
 counted_follows z k need bytes t o p q c b (a ∷ []) s m d0 m0 one other stands room enough wide x =
     let y = counts_by a x.small.1.1.0 in
-    data_follows z.ground z.rate z.setting p q k d0 m0 bytes 0 (move_leads z.ground z.sites (on p) bytes 0 q stands) (omega (arith, room, enough)) z.setting.split
+    data_follows z.ground z.rate z.setting p q k d0 m0 bytes 0 (move_leads z.ground z.sites (on p) bytes 0 q stands)
+        (omega (arith, room, enough)) z.setting.split
     t o one.0 one.1 other.0 other.1 refl refl (is_upward (signed a)) (count_size (signed a)) c b s m y.fits
     (subst (λ (j : ℕ). IsValue z.setting p 3 k d0 m0 (c ∷ b ∷ j ∷ []) s m) (sym y.word) x)
 counted_follows z k need bytes t o p q c b (a ∷ e ∷ vs) s m d0 m0 one other stands room enough wide x = absurd (omega (arith, wide))
@@ -63,16 +66,18 @@ counted_source z d k need more most bytes t o b c from count one other r wc sc f
       let last = cut.4 in
       let many = z.rate.enough in
       bind_follows z.ground z.rate (pos first.0 - pos p) 1 z.rate.reach (pos q - pos first.0) 1 z.rate.reach (pos q - pos p) 1 z.rate.reach (tally s) m
-      (IsLocation z.setting first.0 o (k + 1) s.now m) (λ end u n. IsValue z.setting q 1 k d0 m0 (end.address ∷ []) u n) NoExit (from s)
+      (IsLocation z.setting first.0 o (k + 1) s.now m) (EndsAt z.setting q k d0 m0) NoExit (from s)
       (λ l u. then_go (count u) (λ vs v. with_one vs v (λ size x. moved_by size (at_address z.setting.split t e) l x)))
-      (reference_follows z d (k + 1) more o b from r h ws (on p) first.0 s s.begun m first.1 (front_on x.wants y.wants z.wants (wc.keeps (h + x.marks) x.wants) front)
+      (reference_follows z d (k + 1) more o b from r h ws (on p) first.0 s s.begun m first.1
+      (front_on x.wants y.wants z.wants (wc.keeps (h + x.marks) x.wants) front)
       (next_ready z.setting d p 1 k need more (e ∷ []) d0 m0 s m v room few fuel))
       (λ l u m1 is fewer.
       let two = values_join z.setting p first.0 1 1 k d0 m0 (e ∷ []) (l.address ∷ []) s m u m1 v is.stands in
-      subst (λ (f : Located). Follows z.ground z.rate (pos q - pos first.0) 1 z.rate.reach (tally u) m1 (λ end u n. IsValue z.setting q 1 k d0 m0 (end.address ∷ []) u n) NoExit
+      subst (λ (f : Located). Follows z.ground z.rate (pos q - pos first.0) 1 z.rate.reach (tally u) m1 (EndsAt z.setting q k d0 m0) NoExit
       (then_go (count u) (λ vs v. with_one vs v (λ size x. moved_by size (at_address z.setting.split t e) f x)))) (sym is.is)
-      (bind_follows z.ground z.rate (pos cut.0 - pos first.0) 1 z.rate.reach (pos q - pos cut.0) 1 z.rate.reach (pos q - pos first.0) 1 z.rate.reach (tally u) m1
-      (IsValue z.setting cut.0 1 (k + 2) u.now m1) (λ end u n. IsValue z.setting q 1 k d0 m0 (end.address ∷ []) u n) NoExit (count u)
+      (bind_follows z.ground z.rate (pos cut.0 - pos first.0) 1 z.rate.reach (pos q - pos cut.0) 1 z.rate.reach (pos q - pos first.0) 1 z.rate.reach
+      (tally u) m1
+      (IsValue z.setting cut.0 1 (k + 2) u.now m1) (EndsAt z.setting q k d0 m0) NoExit (count u)
       (λ vs v. with_one vs v (λ size x. moved_by size (at_address z.setting.split t e) (at_address z.setting.split o l.address) x))
       (sc.does (h + x.marks) x.wants (on first.0) cut.0 u u.begun m1 first.2 front
       (next_ready z.setting d first.0 2 k need most (e ∷ l.address ∷ []) d0 m0 u m1 two room less (omega (arith, fuel, fewer))))

@@ -1,5 +1,6 @@
 -- MOVE and MVB, one element after the other: what the machine does at the word of a move is what the run does with an element.
-use Rattle.std.proofs.Common.{◌≡◌, ℕ, zero, suc, ◌+◌, ◌-◌, ◌%◌, ◌<◌, ◌≤◌, Bool, true, false, List, [], ◌∷◌, ◌++◌, length, take, refl, sym, ap, subst, ◌∙◌, arith, inl}
+use Rattle.std.proofs.Common.{◌≡◌, ℕ, zero, suc, ◌+◌, ◌-◌, ◌%◌, ◌<◌, ◌≤◌, Bool, true, false}
+use Rattle.std.proofs.Common.{List, [], ◌∷◌, ◌++◌, length, take, refl, sym, ap, subst, ◌∙◌, arith, inl}
 use Rattle.std.specs.Prelude.{◌==◌, Some, Ok, Err, slice_set}
 use Rattle.hp_word.specs.declared.endings.Trap.TheVariants.{Bounds}
 use Rattle.hp_word.specs.declared.endings.Ending.TheVariants.{Running}
@@ -25,8 +26,11 @@ use Rattle.spl_follow.proofs.WayLemmas.{lead, lead_briefly}
 use Rattle.spl_operands.specs.Operands.{Seen}
 use Rattle.spl_operands.proofs.SeeLemmas.{see}
 use Rattle.spl_moves.proofs.StepLemmas.{stays, passes, placed_matched, placed_kept, value_left, first_left}
-use Rattle.spl_moves.proofs.UnitLemmas.{unit_word, unit_of, with_unit, IsUnit, unit_small, with_unit_small, reads, stores, source, unit_written, move_code, unit_read, unit_not_read, unit_put, unit_not_put, row_ends, row_goes, row_reads_none, row_stores_none}
-use Rattle.spl_moves.proofs.CountLemmas.{at_address, beside, beside_small, neighbour_at, Fits, fits_less, counted, counted_none, counted_some, counted_small, counted_onward, counted_nearer}
+use Rattle.spl_moves.proofs.UnitLemmas.{unit_word, unit_of, with_unit, IsUnit, unit_small, with_unit_small, reads, stores, source}
+use Rattle.spl_moves.proofs.UnitLemmas.{unit_written, move_code, unit_read, unit_not_read, unit_put}
+use Rattle.spl_moves.proofs.UnitLemmas.{unit_not_put, row_ends, row_goes, row_reads_none, row_stores_none}
+use Rattle.spl_moves.proofs.CountLemmas.{at_address, beside, beside_small, neighbour_at, Fits, fits_less}
+use Rattle.spl_moves.proofs.CountLemmas.{counted, counted_none, counted_some, counted_small, counted_onward, counted_nearer}
 
 -- ---- what does not change
 
@@ -251,7 +255,8 @@ module _ (g : Ground) (w : Rate) (st : Setting) (p r : Spot) (k : ℕ) (d0 : Dat
       → Follows g w (pos r - pos p) 1 w.reach (tally s) m Lands NoExit (moved_list vs (at_address far t c) s)
   text_follows far t same one side code [] c b s m few spelled x =
       let f = move_ends c b 0 s m x refl in
-      widen g w (pos r - pos p) 0 w.reach (pos r - pos p) 1 w.reach (tally s) m Lands NoExit (done (at_address far t c) s) f (omega arith) (omega arith) (omega arith)
+      widen g w (pos r - pos p) 0 w.reach (pos r - pos p) 1 w.reach (tally s) m Lands NoExit (done (at_address far t c) s) f (omega arith) (omega arith)
+          (omega arith)
   text_follows far t same one side code (v ∷ vs) c b s m few spelled x =
       let fits : Fits true (suc (length vs)) = few in
       let next = counted_onward true (length vs) c fits in
@@ -261,7 +266,8 @@ module _ (g : Ground) (w : Rate) (st : Setting) (p r : Spot) (k : ℕ) (d0 : Dat
       spend_follows g w (2 + (pos r - pos p)) 0 (pos r - pos p) 1 w.reach s s.begun m Lands NoExit
       (λ s1. then_go (store (at_address far t c) (v ∷ []) s1) (λ _ s2. moved_list vs (at_address far t ((c + 1) % 65536)) s2))
       (runs c b (suc (length vs)) s m x) (inl refl)
-      (λ n is. store_then far t c b (suc (length vs)) v (record s { left = n }) m Lands (λ u. moved_list vs (at_address far t ((c + 1) % 65536)) u) same one side
+      (λ n is. store_then far t c b (suc (length vs)) v (record s { left = n }) m Lands (λ u. moved_list vs
+      (at_address far t ((c + 1) % 65536)) u) same one side
       (value_with_left st p 3 k d0 m0 (c ∷ b ∷ suc (length vs) ∷ []) s m n x) (counted_some true (length vs) fits)
       (subst (λ (q : Bool). source bytes g.segments q b (at_left m) ≡ Ok v) (sym code) (spelled.0 (at_left m) (ap (λ (q : Spot). q.seg) x.at))) spelled.1
       (subst (λ (z : ℕ). z < 65536) (sym next) (omega arith)) (subst (λ (z : ℕ). z < 65536) (sym after) (omega arith))
@@ -314,7 +320,8 @@ module _ (g : Ground) (w : Rate) (st : Setting) (p r : Spot) (k : ℕ) (d0 : Dat
       → Follows g w (pos r - pos p) 1 w.reach (tally s) m Lands NoExit (moved up j (at_address far t c) (at_address far o b) s)
   data_follows far t o same one other narrow side stack up zero c b s m fits x =
       let f = move_ends c b (counted up 0) s m x (counted_none up) in
-      widen g w (pos r - pos p) 0 w.reach (pos r - pos p) 1 w.reach (tally s) m Lands NoExit (done (at_address far t c) s) f (omega arith) (omega arith) (omega arith)
+      widen g w (pos r - pos p) 0 w.reach (pos r - pos p) 1 w.reach (tally s) m Lands NoExit (done (at_address far t c) s) f (omega arith) (omega arith)
+          (omega arith)
   data_follows far t o same one other narrow side stack up (suc j) c b s m fits x =
       let a = counted up (suc j) in
       let next = counted_onward up j c fits in

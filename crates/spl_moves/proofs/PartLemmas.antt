@@ -95,6 +95,10 @@ reference_follows z d k need t part to x h ws p q s l m stands front ready =
     located_follows z.ground z.rate (pos q - pos p.at) 1 z.rate.reach (tally_with l s) m z.setting q t k s.now m (to s) (x.leads s ready.matches.lies)
     (x.simulates.does h ws p q s l m stands front ready)
 
+-- an end address on k words
+abbrev pub EndsAt : Setting → Spot → ℕ → Data → Machine → Located → State → Machine → Type 0
+EndsAt st q k d0 m0 end s m = IsValue st q 1 k d0 m0 (end.address ∷ []) s m
+
 -- ---- what is moved
 
 -- Code behind the target's address on k words, which waits: it moves what it moves there, and leaves the end address in its place.
@@ -103,7 +107,7 @@ pub record IsSource (z : Surroundings) (d k need : ℕ) (t : Kind) (part : Part)
   pub does : (h : ℕ) (ws : List Wanted) (p q : Spot) (c : ℕ) (s : State) (m : Machine) (d0 : Data) (m0 : Machine)
       → Stands z.ground z.sites (on p) (part h ws).pieces q → IsFront (part h ws).wants z.wants
       → IsValue z.setting p 1 k d0 m0 (c ∷ []) s m → d0.top + k + need ≤ d0.stack → s.left ≤ d
-      → Follows z.ground z.rate (pos q - pos p) 1 z.rate.reach (tally s) m (λ end u n. IsValue z.setting q 1 k d0 m0 (end.address ∷ []) u n) NoExit
+      → Follows z.ground z.rate (pos q - pos p) 1 z.rate.reach (tally s) m (EndsAt z.setting q k d0 m0) NoExit
       (move (at_address z.setting.split t c) s)
 
 -- the word of a move leads on by what it does
@@ -165,18 +169,21 @@ moves_perform z d k need number at t a source to move r f = record {
       let last = cut.4 in
       statements_begin_noted z.ground z.rate z.setting z.exits d number at p q k need s m
       (λ u. value_dropped (then_go (to u) (λ p v. moved_far p (move p v)))) b
-      (λ u same fewer ready. no_exit z.ground z.rate z.rate.step 2 3 (tally_with s.begun u) m (Completes z.setting q k u.now m) (Leaving z.setting z.exits k u.now m)
+      (λ u same fewer ready. no_exit z.ground z.rate z.rate.step 2 3 (tally_with s.begun u) m (Completes z.setting q k u.now m)
+      (Leaving z.setting z.exits k u.now m)
       (value_dropped (then_go (to u) (λ p v. moved_far p (move p v))))
       (subst (λ (o : Outcome (Unit {0})). Follows z.ground z.rate z.rate.step 2 3 (tally_with s.begun u) m (Completes z.setting q k u.now m) NoExit o)
       (sym (dropped_meaning (to u) move))
       (bind_follows z.ground z.rate (pos first.0 - pos p) 1 z.rate.reach (pos q - pos first.0) 1 z.rate.reach z.rate.step 2 3 (tally_with s.begun u) m
       (IsLocation z.setting first.0 t k u.now m) (Completes z.setting q k u.now m) NoExit (to u) (λ p v. then_go (move p v) (λ end x. done tt x))
-      (reference_follows z d k need t (a ⨟ pieces []) to (record { whole = whole_last a r.whole; leads = r.leads; simulates = last_simulates z d _ 1 k need a _ r.simulates })
+      (reference_follows z d k need t (a ⨟ pieces []) to (record { whole = whole_last a r.whole; leads = r.leads; simulates =
+      last_simulates z d _ 1 k need a _ r.simulates })
       (h + 0) ws start first.0 u s.begun m first.1 (front_on x.wants y.wants z.wants (f.whole.keeps (h + 0 + x.marks) x.wants) front) ready)
       (λ e v m1 is less. let fuel = ready.fuel in
       bind_follows z.ground z.rate (pos cut.0 - pos first.0) 1 z.rate.reach (pos q - pos cut.0) 0 z.rate.reach (pos q - pos first.0) 1 z.rate.reach (tally v) m1
-      (λ end x n. IsValue z.setting cut.0 1 k u.now m (end.address ∷ []) x n) (Completes z.setting q k u.now m) NoExit (move e v) (λ end x. done tt x)
-      (subst (λ (l : Located). Follows z.ground z.rate (pos cut.0 - pos first.0) 1 z.rate.reach (tally v) m1 (λ end x n. IsValue z.setting cut.0 1 k u.now m (end.address ∷ []) x n) NoExit (move l v))
+      (EndsAt z.setting cut.0 k u.now m) (Completes z.setting q k u.now m) NoExit (move e v) (λ end x. done tt x)
+      (subst (λ (l : Located). Follows z.ground z.rate (pos cut.0 - pos first.0) 1 z.rate.reach (tally v) m1 (EndsAt z.setting cut.0 k u.now m) NoExit
+      (move l v))
       (sym is.is)
       (f.does (h + 0 + x.marks) x.wants first.0 cut.0 e.address v m1 u.now m first.2 front is.stands ready.room (omega (arith, fuel, less))))
       (λ end x n there fewer. end_deleted z.ground z.rate z.sites z.setting cut.0 q k (end.address ∷ []) x n u.now m cut.2 there)

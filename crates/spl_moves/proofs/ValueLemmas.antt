@@ -34,7 +34,7 @@ use Rattle.spl_values.proofs.SumLemmas.{front_on, yielding, logically_subtracted
 use Rattle.spl_values.proofs.WholeLemmas.{whole_then, whole_behind}
 use Rattle.spl_operators.proofs.RowLemmas.{exchanged}
 use Rattle.spl_moves.specs.Moving.{IsReference}
-use Rattle.spl_moves.proofs.PartLemmas.{IsLocation, reference_follows, IsSource}
+use Rattle.spl_moves.proofs.PartLemmas.{EndsAt, IsLocation, reference_follows, IsSource}
 
 -- ---- the answer
 
@@ -44,7 +44,8 @@ unfolding logically_subtracted word_result word_of
 difference b a small less = grind (arith, ints, nat_tests, small, less)
 
 -- XCH and LSUB: the first address is subtracted from the end address
-distance_told : (g : Ground) (w : Rate) (sites : Sites) (st : Setting) (p q : Spot) (k first : ℕ) (end : Located) (s : State) (m : Machine) (d0 : Data) (m0 : Machine)
+distance_told : (g : Ground) (w : Rate) (sites : Sites) (st : Setting) (p q : Spot) (k first : ℕ) (end : Located) (s : State) (m : Machine) (d0 : Data)
+    (m0 : Machine)
     → Stands g sites (on p) (XCH ∷ LSUB ∷ []) q → IsValue st p 2 k d0 m0 (first ∷ end.address ∷ []) s m
     → Follows g w (pos q - pos p) 0 w.reach (tally s) m (IsValue st q 1 k d0 m0) NoExit (done (distance end first ∷ []) s)
 distance_told g w sites st p q k first end s m d0 m0 stands x =
@@ -97,23 +98,30 @@ moves_simulate z d k need more t a source to move r f few enough = record {
       let i1 = inner.4 in
       let o1 = outer.4 in
       let c1 = cut.4 in
-      bind_follows z.ground z.rate (pos inner.0 - pos p.at) 1 z.rate.reach (pos q - pos inner.0) 1 z.rate.reach (pos q - pos p.at) 1 z.rate.reach (tally_with l s) m
+      bind_follows z.ground z.rate (pos inner.0 - pos p.at) 1 z.rate.reach (pos q - pos inner.0) 1 z.rate.reach (pos q - pos p.at) 1 z.rate.reach
+      (tally_with l s) m
       (IsLocation z.setting inner.0 t k s.now m) (IsValue z.setting q 1 k s.now m) NoExit (to s) (λ e v. moved_far e (move e v))
-      (reference_follows z d k need t a to r h ws p inner.0 s l m inner.1 (front_on (a h ws).wants y.wants z.wants (f.whole.keeps (h + x.marks) x.wants) front) ready)
+      (reference_follows z d k need t a to r h ws p inner.0 s l m inner.1 (front_on (a h ws).wants y.wants z.wants
+      (f.whole.keeps (h + x.marks) x.wants) front) ready)
       (λ e u m1 is less.
       let top = kept_top (s.now.top + k) s.now m.stack u.now m1.stack is.stands.kept in
       let stack = kept_stack (s.now.top + k) s.now m.stack u.now m1.stack is.stands.kept in
       let room = ready.room in
       let fuel = ready.fuel in
-      let copy = first_copied z.ground z.rate z.sites z.setting inner.0 outer.0 k need e.address u m1 s.now m inner.2 is.stands (omega (arith, room, top, stack)) enough in
-      then_follows z.ground z.rate (pos outer.0 - pos inner.0) 0 z.rate.reach (pos q - pos outer.0) 1 z.rate.reach (pos q - pos inner.0) 1 z.rate.reach (tally u) m1 (tally u) copy.0
+      let copy = first_copied z.ground z.rate z.sites z.setting inner.0 outer.0 k need e.address u m1 s.now m inner.2 is.stands
+      (omega (arith, room, top, stack)) enough in
+      then_follows z.ground z.rate (pos outer.0 - pos inner.0) 0 z.rate.reach (pos q - pos outer.0) 1 z.rate.reach (pos q - pos inner.0) 1 z.rate.reach
+      (tally u) m1 (tally u) copy.0
       (IsValue z.setting q 1 k s.now m) NoExit (moved_far e (move e u)) copy.1
-      (bind_follows z.ground z.rate (pos cut.0 - pos outer.0) 1 z.rate.reach (pos q - pos cut.0) 0 z.rate.reach (pos q - pos outer.0) 1 z.rate.reach (tally u) copy.0
-      (λ end v n. IsValue z.setting cut.0 1 (k + 1) u.now m1 (end.address ∷ []) v n) (IsValue z.setting q 1 k s.now m) NoExit (move e u)
+      (bind_follows z.ground z.rate (pos cut.0 - pos outer.0) 1 z.rate.reach (pos q - pos cut.0) 0 z.rate.reach (pos q - pos outer.0) 1 z.rate.reach
+      (tally u) copy.0
+      (EndsAt z.setting cut.0 (k + 1) u.now m1) (IsValue z.setting q 1 k s.now m) NoExit (move e u)
       (λ end v. done (distance end e.address ∷ []) v)
-      (subst (λ (o : Located). Follows z.ground z.rate (pos cut.0 - pos outer.0) 1 z.rate.reach (tally u) copy.0 (λ end v n. IsValue z.setting cut.0 1 (k + 1) u.now m1 (end.address ∷ []) v n) NoExit (move o u))
+      (subst (λ (o : Located). Follows z.ground z.rate (pos cut.0 - pos outer.0) 1 z.rate.reach (tally u) copy.0
+      (EndsAt z.setting cut.0 (k + 1) u.now m1) NoExit (move o u))
       (sym is.is)
-      (f.does (h + x.marks) x.wants outer.0 cut.0 e.address u copy.0 u.now m1 outer.2 front copy.2 (omega (arith, room, top, stack, few)) (omega (arith, fuel, less))))
+      (f.does (h + x.marks) x.wants outer.0 cut.0 e.address u copy.0 u.now m1 outer.2 front copy.2 (omega (arith, room, top, stack, few))
+      (omega (arith, fuel, less))))
       (λ end v n there fewer.
       distance_told z.ground z.rate z.sites z.setting cut.0 q k e.address end v n s.now m cut.2
       (values_join z.setting inner.0 cut.0 1 1 k s.now m (e.address ∷ []) (end.address ∷ []) u m1 v n is.stands there))

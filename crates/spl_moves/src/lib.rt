@@ -1,6 +1,6 @@
-//! MOVE and SCAN as statements, performed by their code wherever it stands.
+//! MOVE by a count, by itself and as a value, performed by its code wherever it stands.
 #![tactic(auto)]
 
 mod laws;
 
-pub use laws::{class_moves_perform, counted_moves_perform, scans_perform, text_moves_perform};
+pub use laws::counted_moves_perform;

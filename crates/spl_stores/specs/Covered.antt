@@ -18,6 +18,7 @@ use Rattle.spl_covered.specs.Covered.{is_word_result, is_covered}
 use Rattle.spl_targets.specs.Results.{result_kind, is_result}
 use Rattle.spl_targets.specs.Targets.{is_led_target}
 use Rattle.spl_calls.specs.Covered.{is_covered_call, is_covered_answer}
+use Rattle.spl_moved.specs.Moved.{is_covered_effect}
 use Rattle.spl_wide.specs.Wide.{is_wide_assignment}
 
 -- a name on the left of :=, a simple variable or a parameter by value of one word or BYTE, where it is reached
@@ -55,7 +56,7 @@ is_covered_step may c st (tree.Trees.and e es) k = is_covered may c st e k
 abbrev mutual
   -- A statement, in a body with this setting and while k words wait: the empty one, assignments of what is covered and of what an intrinsic
   -- answers, blocks of such, IF, WHILE and DO of such with a condition that is covered, IF on the condition code, CASE of such with a value
-  -- that is, calls, GO TO, RETURN where it may stand, such behind labels, and
+  -- that is, calls, MOVE and SCAN by themselves, GO TO, RETURN where it may stand, such behind labels, and
   -- FOR of such with values that are, each while as many words more wait as stand before it.
   pub is_covered_statement : (List ℕ → Bool) → Bool → Scope → (List ℕ → Option (Kind × Place)) → Setting → Statement → ℕ → Bool
   is_covered_statement may returns c results st stat.Statement.empty k = true
@@ -82,6 +83,7 @@ abbrev mutual
   is_covered_statement may returns c results st (stat.Statement.labelled y at s) k = is_covered_statement may returns c results st s k
   is_covered_statement may returns c results st (stat.Statement.go_to y at) k = true
   is_covered_statement may returns c results st (stat.Statement.return at) k = returns
+  is_covered_statement may returns c results st (stat.Statement.do_effect e at) k = is_covered_effect may c st false e k
   is_covered_statement may returns c results st _ k = false
 
   -- a list of such

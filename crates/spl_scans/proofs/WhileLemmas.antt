@@ -1,5 +1,6 @@
 -- MVBW, and SCW and SCU: bytes one after the other, until one is not of the class, or is not passed by.
-use Rattle.std.proofs.Common.{◌≡◌, ℕ, zero, suc, ◌+◌, ◌-◌, ◌/◌, ◌%◌, ◌<◌, ◌≤◌, Bool, true, false, List, [], ◌∷◌, length, Ok, Err, refl, sym, ap, subst, ◌∙◌, arith, inl}
+use Rattle.std.proofs.Common.{◌≡◌, ℕ, zero, suc, ◌+◌, ◌-◌, ◌/◌, ◌%◌, ◌<◌, ◌≤◌, Bool, true, false}
+use Rattle.std.proofs.Common.{List, [], ◌∷◌, length, Ok, Err, refl, sym, ap, subst, ◌∙◌, arith, inl}
 use Rattle.std.specs.Prelude.{Some, ◌==◌, ◌&&◌, ◌||◌, not, if◌then◌else◌, slice_set}
 use Rattle.hp_word.specs.Bytes.{byte_at}
 use Rattle.hp_word.specs.declared.endings.Trap.TheVariants.{Bounds}
@@ -31,8 +32,8 @@ use Rattle.spl_moves.proofs.StepLemmas.{placed_matched, placed_kept}
 use Rattle.spl_moves.proofs.UnitLemmas.{unit_read, unit_not_read, unit_put, unit_not_put, unit_small, with_unit_small, with_unit, reads, stores}
 use Rattle.spl_moves.proofs.CountLemmas.{at_address}
 use Rattle.spl_moves.proofs.MoveLemmas.{then_done, placed_tally, placed_code, placed_left, held_place, held_printed, value_with_left}
-use Rattle.spl_moves.proofs.PairLemmas.{lower_word, upper_word, two_there, pair_room, pair_runs, pair_goes, pair_ends, pair_traps}
-use Rattle.spl_moves.proofs.ClassLemmas.{same_class, same_byte, byte_small}
+use Rattle.spl_scans.proofs.PairLemmas.{lower_word, upper_word, two_there, pair_room, pair_runs, pair_goes, pair_ends, pair_traps}
+use Rattle.spl_scans.proofs.ClassLemmas.{same_class, same_byte, byte_small}
 
 -- ---- bytes of the data
 
@@ -82,7 +83,8 @@ module _ (g : Ground) (w : Rate) (st : Setting) (p r : Spot) (k : ℕ) (d0 : Dat
   -- A byte of the class is stored, and the next one is the move's.
   class_store : {A : Type 0} (c b v : ℕ) (s : State) (m : Machine) (P : A → State → Machine → Type 0) (X : State → Outcome A) → Both c b s m
       → byte_read (Db b) (at_left m) ≡ Ok v → v < 256 → is_of_class class v ≡ true
-      → ((u : State) (n : Machine) → Both ((c + 1) % 65536) ((b + 1) % 65536) u n → u.left ≡ s.left → Follows g w (pos r - pos p) 1 w.reach (tally u) n P NoExit (X u))
+      → ((u : State) (n : Machine) → Both ((c + 1) % 65536) ((b + 1) % 65536) u n → u.left ≡ s.left → Follows g w (pos r - pos p) 1 w.reach
+          (tally u) n P NoExit (X u))
       → Follows g w (2 + (pos r - pos p)) 0 w.reach (tally s) m P NoExit (then_go (store_by t far c (of_class class v ∷ []) s) (λ _ u. X u))
   class_store {A = A} c b v s m P X x is small same rest =
       subst (λ (z : Outcome A). Follows g w (2 + (pos r - pos p)) 0 w.reach (tally s) m P NoExit z) (sym by_word)
@@ -91,7 +93,8 @@ module _ (g : Ground) (w : Rate) (st : Setting) (p r : Spot) (k : ℕ) (d0 : Dat
       (λ old seen.
       let f = goes old seen in
       then_follows g w 2 0 w.reach (pos r - pos p) 1 w.reach (2 + (pos r - pos p)) 0 w.reach (tally s) m (tally (left old)) f.0 P NoExit
-      (X (left old)) f.1 (rest (left old) f.0 f.2 (placed_left far (c / 2) (with_unit true c a old) s)) (omega arith) (omega (arith, many)) (omega (arith, many)))
+      (X (left old)) f.1 (rest (left old) f.0 f.2 (placed_left far (c / 2) (with_unit true c a old) s)) (omega arith) (omega (arith, many))
+      (omega (arith, many)))
       (stray_here g w (2 + (pos r - pos p)) 0 w.reach st (on p) (k + 2) s s.begun m P NoExit leads.start x.at refl x.matches)
       (λ past. widen g w (pos r - pos p) 0 w.reach (2 + (pos r - pos p)) 0 w.reach (tally s) m P NoExit (ends (trapped Bounds) s)
       (pair_traps g w st p r k d0 m0 11 (class_letters class) leads (λ m. refl) room c b s m P x
@@ -114,7 +117,8 @@ module _ (g : Ground) (w : Rate) (st : Setting) (p r : Spot) (k : ℕ) (d0 : Dat
               subst (λ (z : ℕ). Q (byte_written (Db z) (row.as_moved (class_letters class) v) (at_left m))) (sym (lower c b s m x))
               (subst (λ (z : ℕ). Q (byte_written (Db c) z (at_left m))) (sym (same_byte class v)) q)
 
-          by_word : then_go (store_by t far c (a ∷ []) s) (λ _ u. X u) ≡ then_go (word_at far (c / 2) s) (λ old u. X (placed_word far (c / 2) (with_unit true c a old) u))
+          by_word : then_go (store_by t far c (a ∷ []) s) (λ _ u. X u) ≡ then_go (word_at far (c / 2) s)
+              (λ old u. X (placed_word far (c / 2) (with_unit true c a old) u))
           by_word =
               ap (λ (z : Outcome (Unit {0})). then_go z (λ _ u. X u)) (stores true t far c a s one narrow)
               ∙ then_done (word_at far (c / 2) s) (λ old. tt) (λ old u. placed_word far (c / 2) (with_unit true c a old) u) (λ _ u. X u)
@@ -140,7 +144,8 @@ module _ (g : Ground) (w : Rate) (st : Setting) (p r : Spot) (k : ℕ) (d0 : Dat
       → (n : Machine) × Goes g w (pos r - pos p) 0 w.reach (tally s) m (tally s) n × IsValue st r 1 k d0 m0 (c ∷ []) s n
   class_ends c b v s m x is other =
       pair_ends g w st p r k d0 m0 11 (class_letters class) leads (λ m. refl) room c b s m (passed (without 1 (at_left m))) x
-      (rows.while_ends g.segments (class_letters class) v (at_left m) (enough c b s m x) (reads_byte c b v s m x is) (same_class class v ∙ other)) refl refl refl
+      (rows.while_ends g.segments (class_letters class) v (at_left m) (enough c b s m x) (reads_byte c b v s m x is)
+      (same_class class v ∙ other)) refl refl refl
 
   pub while_follows : (fuel c b : ℕ) (s : State) (m : Machine) → s.left < fuel → Both c b s m
       → Follows g w (pos r - pos p) 1 w.reach (tally s) m Ends NoExit (moved_while fuel class (at_address far t c) (at_address far o b) s)
@@ -175,7 +180,8 @@ module _ (g : Ground) (w : Rate) (st : Setting) (p r : Spot) (k : ℕ) (d0 : Dat
               ∙ then_done (word_at far (b / 2) s) (λ v. byte_at b v ∷ []) (λ v u. u) (λ vs u. with_one vs u (λ v y. next v y))
 
           by : (v : ℕ) → byte_read (Db b) (at_left m) ≡ Ok v → v < 256
-              → ((u : State) (n : Machine) → Both ((c + 1) % 65536) ((b + 1) % 65536) u n → u.left < fuel → Follows g w (pos r - pos p) 1 w.reach (tally u) n Ends NoExit (rest u))
+              → ((u : State) (n : Machine) → Both ((c + 1) % 65536) ((b + 1) % 65536) u n → u.left < fuel → Follows g w (pos r - pos p) 1 w.reach
+                  (tally u) n Ends NoExit (rest u))
               → (q : Bool) → is_of_class class v ≡ q
               → Follows g w (pos r - pos p) 1 w.reach (tally s) m Ends NoExit
               (if q then stepping s (λ z. then_go (store_by t far c (of_class class v ∷ []) z) (λ _ y. rest y)) else done (at_address far t c) s)
@@ -187,7 +193,8 @@ module _ (g : Ground) (w : Rate) (st : Setting) (p r : Spot) (k : ℕ) (d0 : Dat
               (λ u m1 y l. goes u m1 y (omega (arith, few, e, l))))
               (let word = w.word in omega (arith, word)) (omega arith)
           by v is small goes false other =
-              widen g w (pos r - pos p) 0 w.reach (pos r - pos p) 1 w.reach (tally s) m Ends NoExit (done (at_address far t c) s) (class_ends c b v s m x is other)
+              widen g w (pos r - pos p) 0 w.reach (pos r - pos p) 1 w.reach (tally s) m Ends NoExit (done (at_address far t c) s)
+                  (class_ends c b v s m x is other)
               (omega arith) (omega arith) (omega arith)
 
 -- ---- SCW and SCU
@@ -303,7 +310,8 @@ module _ (g : Ground) (w : Rate) (st : Setting) (p r : Spot) (k : ℕ) (d0 : Dat
               ∙ then_done (word_at far (b / 2) s) (λ v. byte_at b v ∷ []) (λ v u. u) (λ vs u. with_one vs u (λ v y. next v y))
 
           by : (v : ℕ) → byte_read (Db b) (at_left m) ≡ Ok v
-              → ((u : State) (n : Machine) → Tests ((b + 1) % 65536) a u n → u.left < fuel → Follows g w (pos r - pos p) 1 w.reach (tally u) n Stops NoExit (rest u))
+              → ((u : State) (n : Machine) → Tests ((b + 1) % 65536) a u n → u.left < fuel → Follows g w (pos r - pos p) 1 w.reach (tally u) n Stops NoExit
+                  (rest u))
               → (q : Bool) → is_passed until a v ≡ q
               → Follows g w (pos r - pos p) 1 w.reach (tally s) m Stops NoExit (if q then stepping s (λ z. rest z) else done (at_address far t b) s)
           by v is goes true same =
@@ -317,5 +325,6 @@ module _ (g : Ground) (w : Rate) (st : Setting) (p r : Spot) (k : ℕ) (d0 : Dat
               (rest u) f.1 (goes u f.0 f.2 (omega (arith, few, e))) (omega arith) (omega (arith, many)) (omega (arith, many)))
               (let word = w.word in omega (arith, word)) (omega arith)
           by v is goes false other =
-              widen g w (pos r - pos p) 0 w.reach (pos r - pos p) 1 w.reach (tally s) m Stops NoExit (done (at_address far t b) s) (byte_stops b a v s m x is other)
+              widen g w (pos r - pos p) 0 w.reach (pos r - pos p) 1 w.reach (tally s) m Stops NoExit (done (at_address far t b) s)
+                  (byte_stops b a v s m x is other)
               (omega arith) (omega arith) (omega arith)

@@ -1,7 +1,7 @@
 -- By one byte after the other, until one decides.
-use Rattle.spl_moves.proofs.ByteLemmas.{class_perform}
-use Rattle.spl_moves.proofs.AnswerLemmas.{class_answer}
-use Rattle.spl_moves.proofs.laws.class_moves_perform.Goals as goal
+use Rattle.spl_scans.proofs.ByteLemmas.{class_perform}
+use Rattle.spl_scans.proofs.AnswerLemmas.{class_answer}
+use Rattle.spl_scans.proofs.laws.class_moves_perform.Goals as goal
 
 pub returns-clause-performs : goal.returns-clause-performs
 returns-clause-performs c = class_perform

@@ -29,17 +29,19 @@ use Rattle.spl_values.specs.Reached.{IsWhole}
 use Rattle.spl_values.proofs.GiveLemmas.{last_leads}
 use Rattle.spl_values.proofs.WholeLemmas.{whole_behind, whole_pieces, whole_then, then_same}
 use Rattle.spl_moves.specs.Moving.{IsReference}
-use Rattle.spl_moves.specs.Laws.{AreUnits, ClassMovesPerform, ScansPerform}
+use Rattle.spl_moves.specs.Laws.{AreUnits}
+use Rattle.spl_scans.specs.Laws.{ClassMovesPerform, ScansPerform}
 use Rattle.spl_moves.proofs.CountLemmas.{at_address}
-use Rattle.spl_moves.proofs.WhileLemmas.{while_follows, scan_code, scan_follows}
-use Rattle.spl_moves.proofs.PartLemmas.{go_go, same_performs, IsLocation, reference_follows, IsSource, next_ready, moves_perform}
+use Rattle.spl_scans.proofs.WhileLemmas.{while_follows, scan_code, scan_follows}
+use Rattle.spl_moves.proofs.PartLemmas.{EndsAt, go_go, same_performs, IsLocation, reference_follows, IsSource, next_ready, moves_perform}
 
 -- ---- MOVE WHILE
 
 abbrev pub class_move : ℕ → ℕ → (State → Outcome Located) → Located → State → Outcome Located
 class_move d class from p s = then_go (from s) (λ q u. moved_while (suc d) class p q u)
 
-pub class_source : (z : Surroundings) (d k need more : ℕ) (t o : Kind) (class : ℕ) (b : Part) (from : State → Outcome Located) → AreUnits true t → AreUnits true o
+pub class_source : (z : Surroundings) (d k need more : ℕ) (t o : Kind) (class : ℕ) (b : Part) (from : State → Outcome Located) → AreUnits true t
+    → AreUnits true o
     → IsReference z d (k + 1) more o b from → more + 1 ≤ need → 2 ≤ need
     → IsSource z d k need t (b ⨟ piece (MVBW (class_letters class))) (class_move d class from)
 class_source z d k need more t o class b from one other r few enough = record {
@@ -51,11 +53,12 @@ class_source z d k need more t o class b from one other r few enough = record {
       let last = cut.4 in
       let many = z.rate.enough in
       bind_follows z.ground z.rate (pos cut.0 - pos p) 1 z.rate.reach (pos q - pos cut.0) 1 z.rate.reach (pos q - pos p) 1 z.rate.reach (tally s) m
-      (IsLocation z.setting cut.0 o (k + 1) s.now m) (λ end u n. IsValue z.setting q 1 k d0 m0 (end.address ∷ []) u n) NoExit (from s)
+      (IsLocation z.setting cut.0 o (k + 1) s.now m) (EndsAt z.setting q k d0 m0) NoExit (from s)
       (λ l u. moved_while (suc d) class (at_address z.setting.split t c) l u)
-      (reference_follows z d (k + 1) more o b from r h ws (on p) cut.0 s s.begun m cut.1 front (next_ready z.setting d p 1 k need more (c ∷ []) d0 m0 s m v room few fuel))
+      (reference_follows z d (k + 1) more o b from r h ws (on p) cut.0 s s.begun m cut.1 front
+      (next_ready z.setting d p 1 k need more (c ∷ []) d0 m0 s m v room few fuel))
       (λ l u m1 is fewer.
-      subst (λ (f : Located). Follows z.ground z.rate (pos q - pos cut.0) 1 z.rate.reach (tally u) m1 (λ end u n. IsValue z.setting q 1 k d0 m0 (end.address ∷ []) u n) NoExit
+      subst (λ (f : Located). Follows z.ground z.rate (pos q - pos cut.0) 1 z.rate.reach (tally u) m1 (EndsAt z.setting q k d0 m0) NoExit
       (moved_while (suc d) class (at_address z.setting.split t c) f u)) (sym is.is)
       (while_follows z.ground z.rate z.setting cut.0 q k d0 m0 class (last_leads z.ground z.sites (on cut.0) (i.Control 11 (class_letters class)) q cut.2)
       (omega (arith, room, enough)) z.setting.split t o one.0 one.1 other.0 other.1 refl (suc d) c l.address u m1 (omega (arith, fuel, fewer))
@@ -92,10 +95,11 @@ scan_whole true = whole_pieces (scan_of true ∷ []) refl
 scan_whole false = whole_pieces (scan_of false ∷ []) refl
 
 -- the scan behind its address and its test word
-tested_follows : (z : Surroundings) (d k need : ℕ) (t : Kind) (until : Bool) (p q : Spot) (b : ℕ) (vs : List ℕ) (s : State) (m : Machine) (d0 : Data) (m0 : Machine)
+tested_follows : (z : Surroundings) (d k need : ℕ) (t : Kind) (until : Bool) (p q : Spot) (b : ℕ) (vs : List ℕ) (s : State) (m : Machine) (d0 : Data)
+    (m0 : Machine)
     → AreUnits true t → Stands z.ground z.sites (on p) (scan_of until ∷ []) q → d0.top + k + need ≤ d0.stack → 2 ≤ need
     → s.left < suc d → length vs ≡ 1 → IsValue z.setting p 2 k d0 m0 (b ∷ vs) s m
-    → Follows z.ground z.rate (pos q - pos p) 1 z.rate.reach (tally s) m (λ end u n. IsValue z.setting q 1 k d0 m0 (end.address ∷ []) u n) NoExit
+    → Follows z.ground z.rate (pos q - pos p) 1 z.rate.reach (tally s) m (EndsAt z.setting q k d0 m0) NoExit
     (with_one vs s (λ w x. scanned (suc d) until w (at_address z.setting.split t b) x))
 tested_follows z d k need t until p q b [] s m d0 m0 one stands room enough fuel wide x = absurd (omega (arith, wide))
 tested_follows z d k need t until p q b (a ∷ []) s m d0 m0 one stands room enough fuel wide x =
@@ -115,7 +119,7 @@ scan_source z d k need more t until b value one wb sb few enough = record {
       let last = cut.4 in
       let many = z.rate.enough in
       bind_follows z.ground z.rate (pos cut.0 - pos p) 1 z.rate.reach (pos q - pos cut.0) 1 z.rate.reach (pos q - pos p) 1 z.rate.reach (tally s) m
-      (IsValue z.setting cut.0 1 (k + 1) s.now m) (λ end u n. IsValue z.setting q 1 k d0 m0 (end.address ∷ []) u n) NoExit (value s)
+      (IsValue z.setting cut.0 1 (k + 1) s.now m) (EndsAt z.setting q k d0 m0) NoExit (value s)
       (λ vs u. with_one vs u (λ w x. scanned (suc d) until w (at_address z.setting.split t c) x))
       (sb.does h ws (on p) cut.0 s s.begun m cut.1 front (next_ready z.setting d p 1 k need more (c ∷ []) d0 m0 s m v room few fuel))
       (λ vs u m1 is fewer.

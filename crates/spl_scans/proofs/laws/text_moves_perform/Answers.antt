@@ -1,7 +1,7 @@
 -- By where the string stands in the code, and one element after the other.
-use Rattle.spl_moves.proofs.TextLemmas.{text_perform}
-use Rattle.spl_moves.proofs.AnswerLemmas.{text_answer}
-use Rattle.spl_moves.proofs.laws.text_moves_perform.Goals as goal
+use Rattle.spl_scans.proofs.TextLemmas.{text_perform}
+use Rattle.spl_scans.proofs.AnswerLemmas.{text_answer}
+use Rattle.spl_scans.proofs.laws.text_moves_perform.Goals as goal
 
 pub returns-clause-performs : goal.returns-clause-performs
 returns-clause-performs c = text_perform

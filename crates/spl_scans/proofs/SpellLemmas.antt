@@ -18,7 +18,7 @@ use Rattle.spl_statement_code.specs.Effects.{text_count}
 use Rattle.spl_frames.specs.Words.{AreWords}
 use Rattle.spl_follow.specs.Spots.{Spot, Point, on, Ground}
 use Rattle.spl_follow.specs.Standing.{Sites, Stands, due_after}
-use Rattle.spl_moves.specs.Laws.{AreBytes}
+use Rattle.spl_scans.specs.Laws.{AreBytes}
 use Rattle.spl_moves.proofs.UnitLemmas.{source}
 use Rattle.spl_moves.proofs.MoveLemmas.{Spelled}
 

@@ -1,7 +1,7 @@
 -- By one byte after the other, until one decides.
-use Rattle.spl_moves.proofs.ByteLemmas.{scan_perform}
-use Rattle.spl_moves.proofs.AnswerLemmas.{scan_answer}
-use Rattle.spl_moves.proofs.laws.scans_perform.Goals as goal
+use Rattle.spl_scans.proofs.ByteLemmas.{scan_perform}
+use Rattle.spl_scans.proofs.AnswerLemmas.{scan_answer}
+use Rattle.spl_scans.proofs.laws.scans_perform.Goals as goal
 
 pub returns-clause-performs : goal.returns-clause-performs
 returns-clause-performs c = scan_perform

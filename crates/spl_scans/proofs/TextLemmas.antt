@@ -1,5 +1,6 @@
 -- MOVE of a string: it lies in the code behind a branch, its offset and its length are pushed, and then one element moves after the other.
-use Rattle.std.proofs.Common.{◌≡◌, ℕ, suc, ◌+◌, ◌-◌, ◌*◌, ◌/◌, ◌%◌, ◌<◌, ◌≤◌, Bool, true, false, List, [], ◌∷◌, ◌++◌, map, length, Some, refl, sym, ap, subst, ◌∙◌, arith}
+use Rattle.std.proofs.Common.{◌≡◌, ℕ, suc, ◌+◌, ◌-◌, ◌*◌, ◌/◌, ◌%◌, ◌<◌, ◌≤◌, Bool, true, false}
+use Rattle.std.proofs.Common.{List, [], ◌∷◌, ◌++◌, map, length, Some, refl, sym, ap, subst, ◌∙◌, arith}
 use Rattle.std.specs.Prelude.{◌^◌, nat_lt, if◌then◌else◌}
 use Rattle.std.proofs.lemmas.List.{append-nil, append_assoc}
 use Rattle.hp_word.specs.Bits.{shifted}
@@ -42,18 +43,21 @@ use Rattle.spl_values.specs.Reached.{IsWhole}
 use Rattle.spl_values.proofs.ConstantLemmas.{constants_give}
 use Rattle.spl_values.proofs.GiveLemmas.{last_leads, ready_room, row_gives, row_behind}
 use Rattle.spl_values.proofs.WholeLemmas.{whole_then, whole_last, whole_behind}
-use Rattle.spl_moves.specs.Laws.{AreUnits, AreBytes, text_moved, TextMovesPerform}
+use Rattle.spl_moves.specs.Laws.{AreUnits}
+use Rattle.spl_scans.specs.Laws.{AreBytes, text_moved, TextMovesPerform}
 use Rattle.spl_moves.proofs.CountLemmas.{at_address}
 use Rattle.spl_moves.proofs.MoveLemmas.{Spelled, text_follows}
-use Rattle.spl_moves.proofs.PartLemmas.{IsSource, move_leads, move_whole, next_ready, moves_perform}
-use Rattle.spl_moves.proofs.SpellLemmas.{text_units, units_of_kind, units_counted, few_units, WordsIn, text_spelled, stands_inside, literals_stand, literals_clear}
+use Rattle.spl_moves.proofs.PartLemmas.{EndsAt, IsSource, move_leads, move_whole, next_ready, moves_perform}
+use Rattle.spl_scans.proofs.SpellLemmas.{text_units, units_of_kind, units_counted, few_units}
+use Rattle.spl_scans.proofs.SpellLemmas.{WordsIn, text_spelled, stands_inside, literals_stand, literals_clear}
 
 -- ---- whole parts
 
 offset_whole : (text : List ℕ) → IsWhole (text_offset text)
 offset_whole text = record {
   closed = λ h ws.
-      closed_last ((piece (BR h) ⨟ piece (Mark (suc h)) ⨟ pieces (map Literal (as_words text)) ⨟ piece (Place (suc h)) ⨟ piece (Mark h)) (suc (suc h)) ws).pieces
+      closed_last ((piece (BR h) ⨟ piece (Mark (suc h)) ⨟ pieces (map Literal (as_words text)) ⨟ piece (Place (suc h)) ⨟ piece (Mark h))
+          (suc (suc h)) ws).pieces
       (LOAD_BEFORE ∷ []) refl;
   keeps = λ h ws. record { rest = []; is = sym (append-nil ws) };
 }
@@ -242,7 +246,8 @@ text_source z d k need bytes t text one small enough = record {
   does = λ h ws p q c s m d0 m0 stands wanted v room fuel.
       let a = text_offset text ⨟ pieces (text_scaled bytes) in
       let cut = stand_in_order z.ground z.sites (front h ws).pieces (move_of bytes 1 ∷ []) (on p) q (front_whole.closed h ws) stands in
-      let first = stand_in_order z.ground z.sites (a h ws).pieces (constant (text_count bytes text % 65536)) (on p) cut.0 ((scaled_whole bytes text).closed h ws) cut.1 in
+      let first = stand_in_order z.ground z.sites (a h ws).pieces (constant (text_count bytes text % 65536)) (on p) cut.0
+      ((scaled_whole bytes text).closed h ws) cut.1 in
       let rise = first.3 in
       let middle = first.4 in
       let last = cut.4 in
@@ -255,16 +260,20 @@ text_source z d k need bytes t text one small enough = record {
       let inside : p.seg ≡ cut.0.seg = sym (stands_inside z.ground z.sites (front h ws).pieces (on p) cut.0 cut.1) in
       let f = x.gives in
       let two = values_join z.setting p first.0 1 1 k d0 m0 (c ∷ []) (x.offset ∷ []) s m s f.0 v f.2 in
-      let g = (constants_give z d (k + 2) 1 (text_count bytes text % 65536) (omega arith) (omega arith)).does h ws (on first.0) cut.0 s s.begun f.0 first.2 wanted
+      let g = (constants_give z d (k + 2) 1 (text_count bytes text % 65536) (omega arith) (omega arith)).does h ws
+      (on first.0) cut.0 s s.begun f.0 first.2 wanted
       (next_ready z.setting d first.0 2 k need 1 (c ∷ x.offset ∷ []) d0 m0 s f.0 two room (omega (arith, enough)) fuel) in
       let three = values_join z.setting first.0 cut.0 2 1 k d0 m0 (c ∷ x.offset ∷ []) (text_count bytes text % 65536 ∷ []) s f.0 s g.0 two g.2 in
-      then_follows z.ground z.rate (pos first.0 - pos p) 1 z.rate.reach (pos q - pos first.0) 1 z.rate.reach (pos q - pos p) 1 z.rate.reach (tally s) m (tally s) f.0
-      (λ end u n. IsValue z.setting q 1 k d0 m0 (end.address ∷ []) u n) NoExit (moved_text text (at_address z.setting.split t c) s) f.1
-      (then_follows z.ground z.rate (pos cut.0 - pos first.0) 1 z.rate.reach (pos q - pos cut.0) 1 z.rate.reach (pos q - pos first.0) 1 z.rate.reach (tally s) f.0 (tally s) g.0
-      (λ end u n. IsValue z.setting q 1 k d0 m0 (end.address ∷ []) u n) NoExit (moved_text text (at_address z.setting.split t c) s) g.1
-      (subst (λ (vs : List ℕ). Follows z.ground z.rate (pos q - pos cut.0) 1 z.rate.reach (tally s) g.0 (λ end u n. IsValue z.setting q 1 k d0 m0 (end.address ∷ []) u n) NoExit
+      then_follows z.ground z.rate (pos first.0 - pos p) 1 z.rate.reach (pos q - pos first.0) 1 z.rate.reach (pos q - pos p) 1 z.rate.reach (tally s) m
+      (tally s) f.0
+      (EndsAt z.setting q k d0 m0) NoExit (moved_text text (at_address z.setting.split t c) s) f.1
+      (then_follows z.ground z.rate (pos cut.0 - pos first.0) 1 z.rate.reach (pos q - pos cut.0) 1 z.rate.reach (pos q - pos first.0) 1 z.rate.reach
+      (tally s) f.0 (tally s) g.0
+      (EndsAt z.setting q k d0 m0) NoExit (moved_text text (at_address z.setting.split t c) s) g.1
+      (subst (λ (vs : List ℕ). Follows z.ground z.rate (pos q - pos cut.0) 1 z.rate.reach (tally s) g.0 (EndsAt z.setting q k d0 m0) NoExit
       (moved_list vs (at_address z.setting.split t c) s)) (sym (units_of_kind bytes t text one.0))
-      (text_follows z.ground z.rate z.setting cut.0 q k d0 m0 bytes 1 (move_leads z.ground z.sites (on cut.0) bytes 1 q cut.2) (omega (arith, room, enough)) z.setting.split
+      (text_follows z.ground z.rate z.setting cut.0 q k d0 m0 bytes 1 (move_leads z.ground z.sites (on cut.0) bytes 1 q cut.2)
+      (omega (arith, room, enough)) z.setting.split
       t one.0 one.1 refl refl (text_units bytes text) c x.offset s g.0 few
       (subst (λ (n : ℕ). Spelled z.ground bytes n x.offset (text_units bytes text)) inside x.spelled)
       (subst (λ (n : ℕ). IsValue z.setting cut.0 3 k d0 m0 (c ∷ x.offset ∷ n ∷ []) s g.0) count three)))

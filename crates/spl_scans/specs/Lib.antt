@@ -1,0 +1,2 @@
+-- The laws alone.
+pub mod Laws
