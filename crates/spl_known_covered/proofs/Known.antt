@@ -5,7 +5,7 @@ use Rattle.spl_known_covered.specs.Programs.{AllSo, EachSo, covered_texts, other
 
 pub all_covered : AllSo true covered_texts
 unfolding all
-all_covered = (refl, (refl, (refl, (refl, (refl, (refl, (refl, (refl, (refl, (refl, (refl, (refl, (refl, (refl, (refl, (refl, (refl, (refl, (refl, (refl, (refl, (refl, (refl, (refl, (refl, (refl, tt))))))))))))))))))))))))))
+all_covered = (refl, (refl, (refl, (refl, (refl, (refl, (refl, (refl, (refl, (refl, (refl, (refl, (refl, (refl, (refl, (refl, (refl, (refl, (refl, (refl, (refl, (refl, (refl, (refl, (refl, (refl, (refl, tt)))))))))))))))))))))))))))
 
 pub none_covered : AllSo false other_texts
 unfolding all

@@ -20,7 +20,8 @@ EachSo covered [] = Unit {0}
 EachSo covered (c ∷ cs) = IsSo covered c.0 c.1 × EachSo covered cs
 
 -- sums, loops, choices, elements of arrays, BYTEs, bit fields, pointers, DOUBLEs, their relations and their elements, what is declared and not called,
--- calls of intrinsics, IF on the condition code; jumps: backwards, forwards, out of a FOR, inside one, and from one arm of a CASE to another
+-- calls of intrinsics, IF on the condition code; jumps: backwards, forwards, out of a FOR, inside one, and from one arm of a CASE to another; and MOVE and
+-- SCAN, by themselves and assigned
 abbrev pub covered_texts : List String
 covered_texts =
     "BEGIN INTEGER I; INTRINSIC QUIT; I:=2; I:=I+3; QUIT(I) END."
@@ -48,13 +49,14 @@ covered_texts =
     ∷ "BEGIN INTEGER I,K; FOR I:=1 UNTIL 3 DO BEGIN M: K:=K+1; IF K<I THEN GO TO M END END."
     ∷ "BEGIN INTEGER I; CASE I OF BEGIN GO TO M; M: I:=2 END END."
     ∷ "BEGIN LOGICAL ARRAY W(0:35); BYTE ARRAY B(*)=W; INTRINSIC PRINT,TERMINATE; MOVE B:=\"HELLO\"; PRINT(W,-5,%40); TERMINATE END."
-    ∷ "BEGIN BYTE ARRAY B(0:7),C(0:7); INTEGER ARRAY A(0:3); MOVE B:=C(2),(3); MOVE C:=B WHILE AN; MOVE A:=A(1),(2); SCAN B UNTIL \".\" END." ∷ []
+    ∷ "BEGIN BYTE ARRAY B(0:7),C(0:7); INTEGER ARRAY A(0:3); MOVE B:=C(2),(3); MOVE C:=B WHILE AN; MOVE A:=A(1),(2); SCAN B UNTIL \".\" END."
+    ∷ "BEGIN BYTE ARRAY B(0:7); INTEGER N; INTRINSIC QUIT; N:=MOVE B:=\"TEXT.\"; N:=N+1; N:=SCAN B UNTIL \".\"; QUIT(N) END." ∷ []
 
--- an intrinsic within an expression, a move whose answer is assigned, and a unit without a main body
+-- an intrinsic within an expression, a comparison of bytes, and a unit without a main body
 abbrev pub other_texts : List String
 other_texts =
     "BEGIN LOGICAL ARRAY W(0:3); INTEGER N; INTRINSIC READ; N:=READ(W,4)+1 END."
-    ∷ "BEGIN BYTE ARRAY B(0:3); INTEGER N; N:=MOVE B:=\"AB\" END."
+    ∷ "BEGIN BYTE ARRAY B(0:3); INTEGER N; IF B=\"AB\" THEN N:=1 END."
     ∷ "$CONTROL SUBPROGRAM\nBEGIN INTEGER I; PROCEDURE P; I:=1; END." ∷ []
 
 -- ---- calls
@@ -75,10 +77,10 @@ calling_texts =
     ∷ ("P" ∷ [], "BEGIN PROCEDURE P; BEGIN INTEGER ARRAY A(0:3); BYTE ARRAY B(*)=A; INTEGER I:=2; A(I):=7; B(1):=65 END; P END.")
     ∷ ("P" ∷ [], "BEGIN INTRINSIC QUIT; INTEGER PROCEDURE P(A); VALUE A; INTEGER A; OPTION SPLIT; BEGIN INTEGER POINTER Q; INTEGER I,J; Q:=3; J:=A; I:=J+Q; J:=0; P:=I*10+Q(1); END; QUIT(P(4)) END.") ∷ []
 
--- a procedure that may not be called, one that assigns what a move answers, one that calls another that may not be called, and a subroutine
+-- a procedure that may not be called, one that compares bytes, one that calls another that may not be called, and a subroutine
 abbrev pub uncalled_texts : List (List String × String)
 uncalled_texts =
     ([], "BEGIN INTEGER I; PROCEDURE P; I:=1; P END.")
-    ∷ ("P" ∷ [], "BEGIN BYTE ARRAY B(0:3); INTEGER N; PROCEDURE P; N:=MOVE B:=\"AB\"; P END.")
+    ∷ ("P" ∷ [], "BEGIN BYTE ARRAY B(0:3); INTEGER N; PROCEDURE P; IF B=\"AB\" THEN N:=1; P END.")
     ∷ ("P" ∷ [], "BEGIN INTEGER I; PROCEDURE Q; I:=1; PROCEDURE P; Q; P END.")
     ∷ ("P" ∷ [], "BEGIN INTEGER I; PROCEDURE P; I:=1; SUBROUTINE S; I:=1; S END.") ∷ []

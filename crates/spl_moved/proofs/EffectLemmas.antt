@@ -46,7 +46,7 @@ use Rattle.spl_moved.proofs.ReferenceLemmas.{moved_case, reference_whole, refere
 
 -- ---- bytes of a string
 
-bytes_are : (text : List ℕ) → list_all (λ b. nat_lt b 256) text ≡ true → AreBytes text
+pub bytes_are : (text : List ℕ) → list_all (λ b. nat_lt b 256) text ≡ true → AreBytes text
 bytes_are [] e = tt
 bytes_are (b ∷ bs) e =
     let two = and_parts (nat_lt b 256) (list_all (λ x. nat_lt x 256) bs) e in (ltb-true b 256 two.0, bytes_are bs two.1)
@@ -54,11 +54,11 @@ bytes_are (b ∷ bs) e =
 -- ---- whole code
 
 -- the last instruction closes
-moves_close : (bytes : Bool) (n : ℕ) → IsClosed (move_of bytes n ∷ [])
+pub moves_close : (bytes : Bool) (n : ℕ) → IsClosed (move_of bytes n ∷ [])
 moves_close true n = refl
 moves_close false n = refl
 
-scans_close : (until : Bool) → IsClosed (scan_of until ∷ [])
+pub scans_close : (until : Bool) → IsClosed (scan_of until ∷ [])
 scans_close true = refl
 scans_close false = refl
 
@@ -97,7 +97,7 @@ moves_whole may c st (stat.Effect.scan from until e) at k h =
 -- ---- performed
 
 -- a value of one word that is covered
-word_gives : (may : List ℕ → Bool) (c : Scope) (results : List ℕ → Option (Kind × Place)) (z : Surroundings) (call : Callee) (d : ℕ) (e : Tree) (k need : ℕ)
+pub word_gives : (may : List ℕ → Bool) (c : Scope) (results : List ℕ → Option (Kind × Place)) (z : Surroundings) (call : Callee) (d : ℕ) (e : Tree) (k need : ℕ)
     → MayCall may c z d call → is_covered may c z.setting e k ≡ true → most c.names e + 8 ≤ need
     → Simulates z d as_value 1 k need (code c e as_value k) (λ s. value (read_with c results z.setting) call e k s)
 word_gives may c results z call d e k need around h enough =

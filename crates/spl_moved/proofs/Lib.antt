@@ -1,3 +1,4 @@
 -- In reading order.
 pub mod ReferenceLemmas
 pub mod EffectLemmas
+pub mod AnswerLemmas

@@ -1,4 +1,4 @@
--- The laws of this crate: MOVE and SCAN as statements in a tree.
+-- The laws of this crate: MOVE and SCAN in a tree, as statements and as values.
 use Rattle.std.specs.Prelude.{◌≡◌, ℕ, ◌+◌, ◌≤◌, Bool, true, false, List, Option}
 use Rattle.spl_tree.specs.declared.names_and_places.At.{At}
 use Rattle.spl_tree.specs.declared.expressions.Kind.{Kind}
@@ -7,11 +7,14 @@ use Rattle.spl_tree.specs.StatementTrees.{Effect}
 use Rattle.spl_meaning.specs.Pending.{effect_most}
 use Rattle.spl_meaning.specs.Places.{Place}
 use Rattle.spl_meaning.specs.References.{Setting}
-use Rattle.spl_meaning.specs.Statements.{run}
+use Rattle.spl_meaning.specs.Statements.{run, effect_done}
 use Rattle.spl_meaning.specs.Values.{Callee}
+use Rattle.spl_code.specs.Calls.{Scope}
+use Rattle.spl_code.specs.Code.{as_value}
+use Rattle.spl_statement_code.specs.Effects.{effect}
 use Rattle.spl_statement_code.specs.Landings.{Context}
 use Rattle.spl_statement_code.specs.Statements.{statement}
-use Rattle.spl_follow.specs.Simulating.{Surroundings, Performs}
+use Rattle.spl_follow.specs.Simulating.{Surroundings, Simulates, Performs}
 use Rattle.spl_values.specs.Reached.{IsWhole}
 use Rattle.spl_links.specs.Links.{MayCall}
 use Rattle.spl_names.specs.Names.{read_with}
@@ -29,3 +32,15 @@ MovesPerform = (may : List ℕ → Bool) (c : Context) (results : List ℕ → O
     → effect_most c.scope.names false e + 8 ≤ need
     → Performs z d k need (statement c (stat.Statement.do_effect e at) k)
     (λ s. run (read_with c.scope results z.setting) call d number (stat.Statement.do_effect e at) k s)
+
+-- ---- answers
+
+-- So it is where the answer is used.
+abbrev pub AnswersAreWhole : Type 0
+AnswersAreWhole = (may : List ℕ → Bool) (c : Scope) (st : Setting) (e : Effect) (k : ℕ) → is_covered_effect may c st true e k ≡ true → IsWhole (effect c true e k)
+
+-- The code gives it.
+abbrev pub MovesAnswer : Type 0
+MovesAnswer = (may : List ℕ → Bool) (c : Scope) (results : List ℕ → Option (Kind × Place)) (z : Surroundings) (call : Callee) (d : ℕ) (e : Effect) (k need : ℕ)
+    → MayCall may c z d call → is_covered_effect may c z.setting true e k ≡ true → effect_most c.names true e + 8 ≤ need
+    → Simulates z d as_value 1 k need (effect c true e k) (λ s. effect_done (read_with c results z.setting) call d true e k s)

@@ -3,4 +3,4 @@
 
 mod laws;
 
-pub use laws::covered_moves_perform;
+pub use laws::{covered_moves_answer, covered_moves_perform};

@@ -53,16 +53,16 @@ use Rattle.spl_targets.proofs.TargetLemmas.{led_targets_whole, led_targets}
 -- ---- targets
 
 -- what a covered target is: a variable of one word or a BYTE where it is reached
-record IsTarget (st : Setting) (k : ℕ) (o : Option Sort) (pl : Option Place) : Type 0 where
-  type : Kind
-  place : Place
-  made : assigned_access o ≡ its_own type
-  is : pl ≡ Some place
-  word : is_single type ≡ true
-  reached : is_reached st k place ≡ true
+pub record IsTarget (st : Setting) (k : ℕ) (o : Option Sort) (pl : Option Place) : Type 0 where
+  pub type : Kind
+  pub place : Place
+  pub made : assigned_access o ≡ its_own type
+  pub is : pl ≡ Some place
+  pub word : is_single type ≡ true
+  pub reached : is_reached st k place ≡ true
 
 -- by what it stands for
-target_case : (st : Setting) (k : ℕ) (o : Option Sort) (pl : Option Place) → is_stored_name st k o pl ≡ true → IsTarget st k o pl
+pub target_case : (st : Setting) (k : ℕ) (o : Option Sort) (pl : Option Place) → is_stored_name st k o pl ≡ true → IsTarget st k o pl
 target_case st k (Some (n.simple t own)) (Some place) e =
     let two = both (is_single t) (is_reached st k place) e in
     record { type = t; place = place; made = refl; is = refl; word = two.0; reached = two.1 }
@@ -89,7 +89,7 @@ result_word : (o : Option Kind) (t : Kind) → is_word_result o ≡ true → o �
 result_word (Some u) t e is = ap (λ (v : Option Kind). is_single (unwrap_or v t)) (sym is) ∙ e
 result_word None t e is = absurd (false≢true e)
 
-result_target : (st : Setting) (k : ℕ) (o : Option Sort) (r : Option (Kind × Place)) (pl : Option Place) → (x : IsResult st k (result_kind o) r pl)
+pub result_target : (st : Setting) (k : ℕ) (o : Option Sort) (r : Option (Kind × Place)) (pl : Option Place) → (x : IsResult st k (result_kind o) r pl)
     → is_word_result (result_kind o) ≡ true → IsTarget st k o pl
 result_target st k o r pl x word = record {
   type = x.type;
@@ -101,7 +101,7 @@ result_target st k o r pl x word = record {
 }
 
 -- where a target is located
-abbrev LeadsTo : Scope → (List ℕ → Option (Kind × Place)) → Setting → List ℕ → Kind → Place → Type 0
+abbrev pub LeadsTo : Scope → (List ℕ → Option (Kind × Place)) → Setting → List ℕ → Kind → Place → Type 0
 LeadsTo c results st x t place = (v : State) → locate_target (read_with c results st) x None v ≡ own_located t (Some place) None v
 
 -- a variable, at its place
@@ -124,22 +124,29 @@ name_access st k (Some (n.procedure p)) pl e = absurd (false≢true e)
 name_access st k (Some (n.subroutine p)) pl e = absurd (false≢true e)
 name_access st k (Some n.unknown) pl e = absurd (false≢true e)
 
-name_leads : (c : Scope) (results : List ℕ → Option (Kind × Place)) (st : Setting) (x : List ℕ) (k : ℕ) (e : is_stored_name st k (c.names x) (c.places x) ≡ true)
+pub name_leads : (c : Scope) (results : List ℕ → Option (Kind × Place)) (st : Setting) (x : List ℕ) (k : ℕ) (e : is_stored_name st k (c.names x) (c.places x) ≡ true)
     → LeadsTo c results st x (target_case st k (c.names x) (c.places x) e).type (target_case st k (c.names x) (c.places x) e).place
 name_leads c results st x k e v =
     let r = target_case st k (c.names x) (c.places x) e in
     ap (λ (a : Access). locate_by (read_with c results st) x a None v) (name_access st k (c.names x) (c.places x) e)
     ∙ ap (λ (o : Option Place). own_located r.type o None v) r.is
 
+-- and a result, at its own
+pub given_leads : (c : Scope) (results : List ℕ → Option (Kind × Place)) (st : Setting) (x : List ℕ) (k : ℕ) → ResultsAgree c results
+    → (r : IsResult st k (result_kind (c.names x)) (results x) (c.places x)) (word : is_word_result (result_kind (c.names x)) ≡ true)
+    → LeadsTo c results st x (result_target st k (c.names x) (results x) (c.places x) r word).type (result_target st k (c.names x) (results x) (c.places x) r word).place
+unfolding result_target
+given_leads c results st x k agrees r word = result_leads c results st x k agrees r
+
 -- the store behind the value
-stored_code : (c : Scope) (st : Setting) (x : List ℕ) (k : ℕ) (r : IsTarget st k (c.names x) (c.places x))
+pub stored_code : (c : Scope) (st : Setting) (x : List ℕ) (k : ℕ) (r : IsTarget st k (c.names x) (c.places x))
     → at_place (c.places x) (λ place. stored (assigned_access (c.names x)) false k place) ≡ stored (its_own r.type) false k r.place
 stored_code c st x k r =
     ap (λ (a : Access). at_place (c.places x) (λ place. stored a false k place)) r.made
     ∙ ap (λ (o : Option Place). at_place o (λ place. stored (its_own r.type) false k place)) r.is
 
 -- a store closes
-stored_closed : (st : Setting) (t : Kind) (k : ℕ) (place : Place) → is_single t ≡ true → is_reached st k place ≡ true
+pub stored_closed : (st : Setting) (t : Kind) (k : ℕ) (place : Place) → is_single t ≡ true → is_reached st k place ≡ true
     → IsClosed (stored (its_own t) false k place)
 stored_closed st kind.Integer k (data_word n) e r = refl
 stored_closed st kind.Integer k (above_base n) e r = refl
@@ -163,7 +170,7 @@ assign_code c st x there e at k r =
     ap (λ (ps : List Piece). piece (Begin at) ⨟ (nothing ⨟ code c.scope e as_value k ⨟ pieces ps)) (stored_code c.scope st x k r)
 
 -- it is whole
-assigned_whole : (at : At) (a : Part) (ps : List Piece) → IsWhole a → IsClosed ps → IsWhole (piece (Begin at) ⨟ (nothing ⨟ a ⨟ pieces ps))
+pub assigned_whole : (at : At) (a : Part) (ps : List Piece) → IsWhole a → IsClosed ps → IsWhole (piece (Begin at) ⨟ (nothing ⨟ a ⨟ pieces ps))
 assigned_whole at a ps whole closed = record {
   closed = λ l ws. closed_last (a (l + 0 + 0) ws).pieces ps closed;
   keeps = λ l ws. whole.keeps (l + 0 + 0) ws;

@@ -57,6 +57,7 @@ use Rattle.spl_moved.proofs.EffectLemmas.{moves_whole, covered_moves_perform}
 use Rattle.spl_wide.specs.Wide.{is_wide_assignment}
 use Rattle.spl_wide.proofs.AssignLemmas.{assigned_whole, assigned_performs}
 use Rattle.spl_stores.proofs.AssignLemmas.{store_whole, store_performs}
+use Rattle.spl_stores.proofs.EffectLemmas.{effect_whole, effect_performs}
 
 -- ---- RETURN
 
@@ -125,7 +126,7 @@ mutual
       cased_whole may c st v ss at k two.0 (λ end l ws. arms_keep may returns c results st ss k two.1 (labels ++ list_labels ss) f end l ws)
   statement_whole may returns c results st (stat.Statement.go_to y at) k e labels f = gone_whole (c.landings y) at k (both (has_name labels y) (is_some (c.landings y)) f).1
   statement_whole may returns c results st (stat.Statement.return at) k e labels f = returned_whole c.leave k at
-  statement_whole may returns c results st (stat.Statement.assign_effect to v at) k e labels f = absurd (false≢true e)
+  statement_whole may returns c results st (stat.Statement.assign_effect to v at) k e labels f = effect_whole may c results st to v at k e
   statement_whole may returns c results st (stat.Statement.do_effect v at) k e labels f = moves_whole may c st v at k e
   statement_whole may returns c results st (stat.Statement.call y es at) k e labels f = call_whole may c st y es at k e
 
@@ -241,7 +242,8 @@ mutual
       let two = both (has_name around.labels y) (is_some (c.landings y)) around.landed in
       gone_performs c.landings z around.labels d k need number y at around.jumps two.0 two.1
   statement_performs may returns c results z call d number (stat.Statement.return at) k need e enough around = returned_performs c.leave z d k need number at (around.leads e)
-  statement_performs may returns c results z call d number (stat.Statement.assign_effect to v at) k need e enough around = absurd (false≢true e)
+  statement_performs may returns c results z call d number (stat.Statement.assign_effect to v at) k need e enough around =
+      effect_performs may c results z call d number to v at k need around.calls around.agrees e enough
   statement_performs may returns c results z call d number (stat.Statement.do_effect v at) k need e enough around =
       covered_moves_perform may c results z call d number v at k need around.calls e enough
   statement_performs may returns c results z call d number (stat.Statement.call y es at) k need e enough around = call_performs may c results z call d number y es at k need e enough around.calls

@@ -5,7 +5,7 @@ use Rattle.spl_tree.specs.declared.expressions.Kind.TheVariants as kind
 use Rattle.spl_tree.specs.Trees as tree
 use Rattle.spl_tree.specs.Trees.{Tree, Trees}
 use Rattle.spl_tree.specs.StatementTrees as stat
-use Rattle.spl_tree.specs.StatementTrees.{Statement, Statements, Target}
+use Rattle.spl_tree.specs.StatementTrees.{Statement, Statements, Target, Effect}
 use Rattle.spl_meaning.specs.Names as n
 use Rattle.spl_meaning.specs.Names.{Sort}
 use Rattle.spl_meaning.specs.Pending.{waiting}
@@ -42,6 +42,12 @@ is_covered_target may c results st to k = is_led_target may c st to k
 abbrev pub is_covered_store : (List ℕ → Bool) → Scope → (List ℕ → Option (Kind × Place)) → Setting → Target → Tree → ℕ → Bool
 is_covered_store may c results st to e k = is_covered_target may c results st to k && is_covered may c st e (waiting to k)
 
+-- what a MOVE or SCAN answers, in such a name or result
+abbrev pub is_stored_effect : (List ℕ → Bool) → Scope → (List ℕ → Option (Kind × Place)) → Setting → Target → Effect → ℕ → Bool
+is_stored_effect may c results st (stat.Target.plain (tree.Tree.named x tree.Trees.none at)) e k =
+    (is_stored_name st k (c.names x) (c.places x) || is_stored_result st k (c.names x) (results x) (c.places x)) && is_covered_effect may c st true e k
+is_stored_effect may c results st to e k = false
+
 -- the variable of a FOR: an INTEGER one, simple or a parameter by value, where it is reached
 abbrev pub is_counted_name : Setting → ℕ → Option Sort → Option Place → Bool
 is_counted_name st k (Some (n.simple kind.Integer own)) place = has_reached st k place
@@ -55,7 +61,7 @@ is_covered_step may c st (tree.Trees.and e es) k = is_covered may c st e k
 
 abbrev mutual
   -- A statement, in a body with this setting and while k words wait: the empty one, assignments of what is covered and of what an intrinsic
-  -- answers, blocks of such, IF, WHILE and DO of such with a condition that is covered, IF on the condition code, CASE of such with a value
+  -- or a MOVE or SCAN answers, blocks of such, IF, WHILE and DO of such with a condition that is covered, IF on the condition code, CASE of such with a value
   -- that is, calls, MOVE and SCAN by themselves, GO TO, RETURN where it may stand, such behind labels, and
   -- FOR of such with values that are, each while as many words more wait as stand before it.
   pub is_covered_statement : (List ℕ → Bool) → Bool → Scope → (List ℕ → Option (Kind × Place)) → Setting → Statement → ℕ → Bool
@@ -83,6 +89,7 @@ abbrev mutual
   is_covered_statement may returns c results st (stat.Statement.labelled y at s) k = is_covered_statement may returns c results st s k
   is_covered_statement may returns c results st (stat.Statement.go_to y at) k = true
   is_covered_statement may returns c results st (stat.Statement.return at) k = returns
+  is_covered_statement may returns c results st (stat.Statement.assign_effect to e at) k = is_stored_effect may c results st to e k
   is_covered_statement may returns c results st (stat.Statement.do_effect e at) k = is_covered_effect may c st false e k
   is_covered_statement may returns c results st _ k = false
 
