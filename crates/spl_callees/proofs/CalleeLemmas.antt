@@ -70,7 +70,6 @@ profile_is o b e = ap profile_of_body e
 
 module _ (called : SettableProceduresAreCalled) (g : Ground) (w : Rate) (may : List ℕ → Bool) (Known : List ℕ → Spot → Type 0)
     (procedures : List Named) (stood : (x : List ℕ) (start : Spot) → may x ≡ true → Known x start → Stood g w may Known procedures x start) where
-
   -- what the calls in a procedure that stands find around them
   abbrev Inner : ℕ → Type 0
   Inner d = (x : List ℕ) (start : Spot) (h : Stood g w may Known procedures x start)

@@ -3,4 +3,6 @@
 
 mod laws;
 
-pub use laws::{arguments_simulate, covered_tests_simulate, covered_values_simulate, wide_values_simulate};
+pub use laws::{
+    arguments_simulate, covered_tests_simulate, covered_values_simulate, wide_values_simulate,
+};

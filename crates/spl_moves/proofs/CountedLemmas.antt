@@ -45,7 +45,7 @@ counted_follows z k need bytes t o p q c b [] s m d0 m0 one other stands room en
 counted_follows z k need bytes t o p q c b (a ∷ []) s m d0 m0 one other stands room enough wide x =
     let y = counts_by a x.small.1.1.0 in
     data_follows z.ground z.rate z.setting p q k d0 m0 bytes 0 (move_leads z.ground z.sites (on p) bytes 0 q stands)
-        (omega (arith, room, enough)) z.setting.split
+    (omega (arith, room, enough)) z.setting.split
     t o one.0 one.1 other.0 other.1 refl refl (is_upward (signed a)) (count_size (signed a)) c b s m y.fits
     (subst (λ (j : ℕ). IsValue z.setting p 3 k d0 m0 (c ∷ b ∷ j ∷ []) s m) (sym y.word) x)
 counted_follows z k need bytes t o p q c b (a ∷ e ∷ vs) s m d0 m0 one other stands room enough wide x = absurd (omega (arith, wide))

@@ -239,14 +239,14 @@ module _ (g : Ground) (w : Rate) (st : Setting) (p r : Spot) (k : ℕ) (d0 : Dat
       (subst (λ (z : ℕ). unit_written bytes z v (at_left m) ≡ Err Bounds) (sym (target_word c b a s m x))
       (unit_not_put bytes far c v (at_left m) (ap (λ u. u.split) x.matches.outer ∙ side) past))))
       (omega arith) (omega arith) (omega arith)))
-        where
-          many : 8 ≤ w.reach
-          many = w.enough
+    where
+      many : 8 ≤ w.reach
+      many = w.enough
 
-          by_word : then_go (store_by t far c (v ∷ []) s) (λ _ u. X u) ≡ then_go (word_at far (unit_word bytes c) s) (λ old u. X (stored far c v old u))
-          by_word =
-              ap (λ (o : Outcome (Unit {0})). then_go o (λ _ u. X u)) (stores bytes t far c v s same one)
-              ∙ then_done (word_at far (unit_word bytes c) s) (λ old. tt) (λ old u. stored far c v old u) (λ _ u. X u)
+      by_word : then_go (store_by t far c (v ∷ []) s) (λ _ u. X u) ≡ then_go (word_at far (unit_word bytes c) s) (λ old u. X (stored far c v old u))
+      by_word =
+          ap (λ (o : Outcome (Unit {0})). then_go o (λ _ u. X u)) (stores bytes t far c v s same one)
+          ∙ then_done (word_at far (unit_word bytes c) s) (λ old. tt) (λ old u. stored far c v old u) (λ _ u. X u)
 
   -- ---- a string
 
@@ -256,7 +256,7 @@ module _ (g : Ground) (w : Rate) (st : Setting) (p r : Spot) (k : ℕ) (d0 : Dat
   text_follows far t same one side code [] c b s m few spelled x =
       let f = move_ends c b 0 s m x refl in
       widen g w (pos r - pos p) 0 w.reach (pos r - pos p) 1 w.reach (tally s) m Lands NoExit (done (at_address far t c) s) f (omega arith) (omega arith)
-          (omega arith)
+      (omega arith)
   text_follows far t same one side code (v ∷ vs) c b s m few spelled x =
       let fits : Fits true (suc (length vs)) = few in
       let next = counted_onward true (length vs) c fits in
@@ -302,16 +302,16 @@ module _ (g : Ground) (w : Rate) (st : Setting) (p r : Spot) (k : ℕ) (d0 : Dat
       (subst (λ (z : ℕ). source bytes g.segments (number == 1) z (at_left m) ≡ Err Bounds) (sym (source_word c b a s m x))
       (subst (λ (q : Bool). source bytes g.segments q b (at_left m) ≡ Err Bounds) (sym stack) (unit_not_read bytes far g.segments b (at_left m) split past)))))
       (omega arith) (omega arith) (omega arith)))
-        where
-          split : m.split ≡ far
-          split = ap (λ z. z.split) x.matches.outer ∙ side
+    where
+      split : m.split ≡ far
+      split = ap (λ z. z.split) x.matches.outer ∙ side
 
-          by_word : then_go (read (at_address far o b) s) (λ vs v. then_go (store (at_address far t c) vs v) (λ _ z. X z))
-              ≡ then_go (word_at far (unit_word bytes b) s) (λ v z. then_go (store_by t far c (unit_of bytes b v ∷ []) z) (λ _ z. X z))
-          by_word =
-              ap (λ (z : Outcome (List ℕ)). then_go z (λ vs v. then_go (store (at_address far t c) vs v) (λ _ z. X z))) (reads bytes o far b s other narrow)
-              ∙ then_done (word_at far (unit_word bytes b) s) (λ v. unit_of bytes b v ∷ []) (λ v z. z)
-              (λ vs v. then_go (store (at_address far t c) vs v) (λ _ z. X z))
+      by_word : then_go (read (at_address far o b) s) (λ vs v. then_go (store (at_address far t c) vs v) (λ _ z. X z))
+          ≡ then_go (word_at far (unit_word bytes b) s) (λ v z. then_go (store_by t far c (unit_of bytes b v ∷ []) z) (λ _ z. X z))
+      by_word =
+          ap (λ (z : Outcome (List ℕ)). then_go z (λ vs v. then_go (store (at_address far t c) vs v) (λ _ z. X z))) (reads bytes o far b s other narrow)
+          ∙ then_done (word_at far (unit_word bytes b) s) (λ v. unit_of bytes b v ∷ []) (λ v z. z)
+          (λ vs v. then_go (store (at_address far t c) vs v) (λ _ z. X z))
 
   -- so many elements of the data, upwards or downwards
   pub data_follows : (far : Bool) (t o : Kind) → is_byte (Some t) ≡ bytes → width t ≡ 1 → is_byte (Some o) ≡ bytes → width o ≡ 1 → st.split ≡ far
@@ -321,7 +321,7 @@ module _ (g : Ground) (w : Rate) (st : Setting) (p r : Spot) (k : ℕ) (d0 : Dat
   data_follows far t o same one other narrow side stack up zero c b s m fits x =
       let f = move_ends c b (counted up 0) s m x (counted_none up) in
       widen g w (pos r - pos p) 0 w.reach (pos r - pos p) 1 w.reach (tally s) m Lands NoExit (done (at_address far t c) s) f (omega arith) (omega arith)
-          (omega arith)
+      (omega arith)
   data_follows far t o same one other narrow side stack up (suc j) c b s m fits x =
       let a = counted up (suc j) in
       let next = counted_onward up j c fits in

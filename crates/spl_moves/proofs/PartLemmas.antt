@@ -176,8 +176,12 @@ moves_perform z d k need number at t a source to move r f = record {
       (sym (dropped_meaning (to u) move))
       (bind_follows z.ground z.rate (pos first.0 - pos p) 1 z.rate.reach (pos q - pos first.0) 1 z.rate.reach z.rate.step 2 3 (tally_with s.begun u) m
       (IsLocation z.setting first.0 t k u.now m) (Completes z.setting q k u.now m) NoExit (to u) (λ p v. then_go (move p v) (λ end x. done tt x))
-      (reference_follows z d k need t (a ⨟ pieces []) to (record { whole = whole_last a r.whole; leads = r.leads; simulates =
-      last_simulates z d _ 1 k need a _ r.simulates })
+      (reference_follows z d k need t (a ⨟ pieces []) to (record {
+        whole = whole_last a r.whole;
+        leads = r.leads;
+        simulates =
+            last_simulates z d _ 1 k need a _ r.simulates;
+      })
       (h + 0) ws start first.0 u s.begun m first.1 (front_on x.wants y.wants z.wants (f.whole.keeps (h + 0 + x.marks) x.wants) front) ready)
       (λ e v m1 is less. let fuel = ready.fuel in
       bind_follows z.ground z.rate (pos cut.0 - pos first.0) 1 z.rate.reach (pos q - pos cut.0) 0 z.rate.reach (pos q - pos first.0) 1 z.rate.reach (tally v) m1

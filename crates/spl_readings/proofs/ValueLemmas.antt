@@ -157,4 +157,3 @@ module _ (names : Names) (results : List ℕ → Option (Kind × Place)) (st : S
         (ap (λ (v : State → Outcome (List ℕ)). argument f v (λ t. located h call e k t) s) (each_alike (λ t. value h call e k t) (λ t. value g call e k t) (λ t. value_alike e k t))
         ∙ ap (λ (l : State → Outcome Located). argument f (λ t. value g call e k t) l s) (each_alike (λ t. located h call e k t) (λ t. located g call e k t) (λ t. located_alike e k t)))
         (λ ws t. ap (λ (o : Outcome (List ℕ)). then_go o (λ vs u. done (ws ++ vs) u)) (arguments_alike fs es (k + formal_words f) t))
-

@@ -19,7 +19,7 @@ use Rattle.spl_scans.proofs.ByteLemmas.{class_move, class_source, class_meaning,
 pub text_answer : TextMovesAnswer
 text_answer z d k need bytes t a to text one small ra enough =
     move_answers z d k need (need - 1) t a (text_moved bytes text) to (λ p s. moved_text text p s)
-        (λ s. then_go (to s) (λ p v. moved_far p (moved_text text p v))) ra
+    (λ s. then_go (to s) (λ p v. moved_far p (moved_text text p v))) ra
     (text_source z d (k + 1) (need - 1) bytes t text one small (omega (arith, enough))) (omega (arith, enough)) (omega (arith, enough)) (λ s. refl)
 
 pub class_answer : ClassMovesAnswer

@@ -57,7 +57,7 @@ offset_whole : (text : List ℕ) → IsWhole (text_offset text)
 offset_whole text = record {
   closed = λ h ws.
       closed_last ((piece (BR h) ⨟ piece (Mark (suc h)) ⨟ pieces (map Literal (as_words text)) ⨟ piece (Place (suc h)) ⨟ piece (Mark h))
-          (suc (suc h)) ws).pieces
+      (suc (suc h)) ws).pieces
       (LOAD_BEFORE ∷ []) refl;
   keeps = λ h ws. record { rest = []; is = sym (append-nil ws) };
 }

@@ -84,7 +84,7 @@ module _ (g : Ground) (w : Rate) (st : Setting) (p r : Spot) (k : ℕ) (d0 : Dat
   class_store : {A : Type 0} (c b v : ℕ) (s : State) (m : Machine) (P : A → State → Machine → Type 0) (X : State → Outcome A) → Both c b s m
       → byte_read (Db b) (at_left m) ≡ Ok v → v < 256 → is_of_class class v ≡ true
       → ((u : State) (n : Machine) → Both ((c + 1) % 65536) ((b + 1) % 65536) u n → u.left ≡ s.left → Follows g w (pos r - pos p) 1 w.reach
-          (tally u) n P NoExit (X u))
+      (tally u) n P NoExit (X u))
       → Follows g w (2 + (pos r - pos p)) 0 w.reach (tally s) m P NoExit (then_go (store_by t far c (of_class class v ∷ []) s) (λ _ u. X u))
   class_store {A = A} c b v s m P X x is small same rest =
       subst (λ (z : Outcome A). Follows g w (2 + (pos r - pos p)) 0 w.reach (tally s) m P NoExit z) (sym by_word)
@@ -101,43 +101,43 @@ module _ (g : Ground) (w : Rate) (st : Setting) (p r : Spot) (k : ℕ) (d0 : Dat
       (rows.while_stores_none g.segments (class_letters class) v Bounds (at_left m) (enough c b s m x) (reads_byte c b v s m x is) (same_class class v ∙ same)
       (written (λ (z : Row). z ≡ Err Bounds) (unit_not_put true far c a (at_left m) (split c b s m x) past))))
       (omega arith) (omega arith) (omega arith)))
-        where
-          a : ℕ
-          a = of_class class v
+    where
+      a : ℕ
+      a = of_class class v
 
-          many : 8 ≤ w.reach
-          many = w.enough
+      many : 8 ≤ w.reach
+      many = w.enough
 
-          left : ℕ → State
-          left old = placed_word far (c / 2) (with_unit true c a old) s
+      left : ℕ → State
+      left old = placed_word far (c / 2) (with_unit true c a old) s
 
-          written : (Q : Row → Type 0) → Q (byte_written (Db c) a (at_left m))
-              → Q (byte_written (Db (word 1 m)) (row.as_moved (class_letters class) v) (at_left m))
-          written Q q =
-              subst (λ (z : ℕ). Q (byte_written (Db z) (row.as_moved (class_letters class) v) (at_left m))) (sym (lower c b s m x))
-              (subst (λ (z : ℕ). Q (byte_written (Db c) z (at_left m))) (sym (same_byte class v)) q)
+      written : (Q : Row → Type 0) → Q (byte_written (Db c) a (at_left m))
+          → Q (byte_written (Db (word 1 m)) (row.as_moved (class_letters class) v) (at_left m))
+      written Q q =
+          subst (λ (z : ℕ). Q (byte_written (Db z) (row.as_moved (class_letters class) v) (at_left m))) (sym (lower c b s m x))
+          (subst (λ (z : ℕ). Q (byte_written (Db c) z (at_left m))) (sym (same_byte class v)) q)
 
-          by_word : then_go (store_by t far c (a ∷ []) s) (λ _ u. X u) ≡ then_go (word_at far (c / 2) s)
-              (λ old u. X (placed_word far (c / 2) (with_unit true c a old) u))
-          by_word =
-              ap (λ (z : Outcome (Unit {0})). then_go z (λ _ u. X u)) (stores true t far c a s one narrow)
-              ∙ then_done (word_at far (c / 2) s) (λ old. tt) (λ old u. placed_word far (c / 2) (with_unit true c a old) u) (λ _ u. X u)
+      by_word : then_go (store_by t far c (a ∷ []) s) (λ _ u. X u) ≡ then_go (word_at far (c / 2) s)
+          (λ old u. X (placed_word far (c / 2) (with_unit true c a old) u))
+      by_word =
+          ap (λ (z : Outcome (Unit {0})). then_go z (λ _ u. X u)) (stores true t far c a s one narrow)
+          ∙ then_done (word_at far (c / 2) s) (λ old. tt) (λ old u. placed_word far (c / 2) (with_unit true c a old) u) (λ _ u. X u)
 
-          goes : (old : ℕ) → Seen far (c / 2) old s (at_left m)
-              → (n : Machine) × Goes g w 2 0 w.reach (tally s) m (tally (left old)) n × Both ((c + 1) % 65536) ((b + 1) % 65536) (left old) n
-          goes old seen =
-              let ys = slice_set (held far (at_left m)) (c / 2) (with_unit true c a old) in
-              let e : Machine = with_held far ys (at_left m) in
-              pair_goes g w st p r k d0 m0 11 (class_letters class) leads (λ m. refl) room c b ((c + 1) % 65536) ((b + 1) % 65536) s (left old) m e x
-              (rows.while_goes g.segments (class_letters class) v e (at_left m) (enough c b s m x) (reads_byte c b v s m x is) (same_class class v ∙ same)
-              (written (λ (z : Row). z ≡ Ok e) (unit_put true far c a old s (at_left m) (split c b s m x) (byte_small class v small) seen))
-              ∙ ap (λ (z : ℕ). let y : Row = Ok (replaced 2 ((z + 1) % 65536 ∷ (word 0 m + 1) % 65536 ∷ []) e) in y) (lower c b s m x)
-              ∙ ap (λ (z : ℕ). let y : Row = Ok (replaced 2 ((c + 1) % 65536 ∷ (z + 1) % 65536 ∷ []) e) in y) (upper c b s m x))
-              (held_place far ys (at_left m)) (held_printed far ys (at_left m)) (placed_tally far (c / 2) (with_unit true c a old) s)
-              (placed_matched far st s (at_left m) (k + 2) (c / 2) (with_unit true c a old) old x.matches seen
-              (with_unit_small true c a old (byte_small class v small) seen.small))
-              (placed_kept far (d0.top + k) d0 m0.stack s (at_left m) (c / 2) (with_unit true c a old) old x.kept seen)
-              (placed_code far (c / 2) (with_unit true c a old) s ∙ x.silent) (omega arith) (omega arith)
+      goes : (old : ℕ) → Seen far (c / 2) old s (at_left m)
+          → (n : Machine) × Goes g w 2 0 w.reach (tally s) m (tally (left old)) n × Both ((c + 1) % 65536) ((b + 1) % 65536) (left old) n
+      goes old seen =
+          let ys = slice_set (held far (at_left m)) (c / 2) (with_unit true c a old) in
+          let e : Machine = with_held far ys (at_left m) in
+          pair_goes g w st p r k d0 m0 11 (class_letters class) leads (λ m. refl) room c b ((c + 1) % 65536) ((b + 1) % 65536) s (left old) m e x
+          (rows.while_goes g.segments (class_letters class) v e (at_left m) (enough c b s m x) (reads_byte c b v s m x is) (same_class class v ∙ same)
+          (written (λ (z : Row). z ≡ Ok e) (unit_put true far c a old s (at_left m) (split c b s m x) (byte_small class v small) seen))
+          ∙ ap (λ (z : ℕ). let y : Row = Ok (replaced 2 ((z + 1) % 65536 ∷ (word 0 m + 1) % 65536 ∷ []) e) in y) (lower c b s m x)
+          ∙ ap (λ (z : ℕ). let y : Row = Ok (replaced 2 ((c + 1) % 65536 ∷ (z + 1) % 65536 ∷ []) e) in y) (upper c b s m x))
+          (held_place far ys (at_left m)) (held_printed far ys (at_left m)) (placed_tally far (c / 2) (with_unit true c a old) s)
+          (placed_matched far st s (at_left m) (k + 2) (c / 2) (with_unit true c a old) old x.matches seen
+          (with_unit_small true c a old (byte_small class v small) seen.small))
+          (placed_kept far (d0.top + k) d0 m0.stack s (at_left m) (c / 2) (with_unit true c a old) old x.kept seen)
+          (placed_code far (c / 2) (with_unit true c a old) s ∙ x.silent) (omega arith) (omega arith)
 
   -- a byte that is not of the class ends the move
   class_ends : (c b v : ℕ) (s : State) (m : Machine) → Both c b s m → byte_read (Db b) (at_left m) ≡ Ok v → is_of_class class v ≡ false
@@ -163,39 +163,39 @@ module _ (g : Ground) (w : Rate) (st : Setting) (p r : Spot) (k : ℕ) (d0 : Dat
       (subst (λ (a : ℕ). byte_read (Db a) (at_left m) ≡ Err Bounds) (sym (upper c b s m x))
       (byte_is_not_read far g.segments b (at_left m) (split c b s m x) past))))
       (omega arith) (omega arith) (omega arith)))
-        where
-          rest : State → Outcome Located
-          rest u = moved_while fuel class (at_address far t ((c + 1) % 65536)) (at_address far o ((b + 1) % 65536)) u
+    where
+      rest : State → Outcome Located
+      rest u = moved_while fuel class (at_address far t ((c + 1) % 65536)) (at_address far o ((b + 1) % 65536)) u
 
-          next : ℕ → State → Outcome Located
-          next v u =
-              if is_of_class class v
-              then stepping u (λ z. then_go (store_by t far c (of_class class v ∷ []) z) (λ _ y. rest y))
-              else done (at_address far t c) u
+      next : ℕ → State → Outcome Located
+      next v u =
+          if is_of_class class v
+          then stepping u (λ z. then_go (store_by t far c (of_class class v ∷ []) z) (λ _ y. rest y))
+          else done (at_address far t c) u
 
-          by_word : moved_while (suc fuel) class (at_address far t c) (at_address far o b) s
-              ≡ then_go (word_at far (b / 2) s) (λ v u. next (byte_at b v) u)
-          by_word =
-              ap (λ (z : Outcome (List ℕ)). then_go z (λ vs u. with_one vs u (λ v y. next v y))) (reads true o far b s other slim)
-              ∙ then_done (word_at far (b / 2) s) (λ v. byte_at b v ∷ []) (λ v u. u) (λ vs u. with_one vs u (λ v y. next v y))
+      by_word : moved_while (suc fuel) class (at_address far t c) (at_address far o b) s
+          ≡ then_go (word_at far (b / 2) s) (λ v u. next (byte_at b v) u)
+      by_word =
+          ap (λ (z : Outcome (List ℕ)). then_go z (λ vs u. with_one vs u (λ v y. next v y))) (reads true o far b s other slim)
+          ∙ then_done (word_at far (b / 2) s) (λ v. byte_at b v ∷ []) (λ v u. u) (λ vs u. with_one vs u (λ v y. next v y))
 
-          by : (v : ℕ) → byte_read (Db b) (at_left m) ≡ Ok v → v < 256
-              → ((u : State) (n : Machine) → Both ((c + 1) % 65536) ((b + 1) % 65536) u n → u.left < fuel → Follows g w (pos r - pos p) 1 w.reach
-                  (tally u) n Ends NoExit (rest u))
-              → (q : Bool) → is_of_class class v ≡ q
-              → Follows g w (pos r - pos p) 1 w.reach (tally s) m Ends NoExit
-              (if q then stepping s (λ z. then_go (store_by t far c (of_class class v ∷ []) z) (λ _ y. rest y)) else done (at_address far t c) s)
-          by v is small goes true same =
-              spend_follows g w (2 + (pos r - pos p)) 0 (pos r - pos p) 1 w.reach s s.begun m Ends NoExit
-              (λ z. then_go (store_by t far c (of_class class v ∷ []) z) (λ _ y. rest y))
-              (pair_runs g w st p r k d0 m0 11 (class_letters class) leads (λ m. refl) room c b s m x) (inl refl)
-              (λ n e. class_store c b v (record s { left = n }) m Ends rest (value_with_left st p 2 k d0 m0 (c ∷ b ∷ []) s m n x) is small same
-              (λ u m1 y l. goes u m1 y (omega (arith, few, e, l))))
-              (let word = w.word in omega (arith, word)) (omega arith)
-          by v is small goes false other =
-              widen g w (pos r - pos p) 0 w.reach (pos r - pos p) 1 w.reach (tally s) m Ends NoExit (done (at_address far t c) s)
-                  (class_ends c b v s m x is other)
-              (omega arith) (omega arith) (omega arith)
+      by : (v : ℕ) → byte_read (Db b) (at_left m) ≡ Ok v → v < 256
+          → ((u : State) (n : Machine) → Both ((c + 1) % 65536) ((b + 1) % 65536) u n → u.left < fuel → Follows g w (pos r - pos p) 1 w.reach
+          (tally u) n Ends NoExit (rest u))
+          → (q : Bool) → is_of_class class v ≡ q
+          → Follows g w (pos r - pos p) 1 w.reach (tally s) m Ends NoExit
+          (if q then stepping s (λ z. then_go (store_by t far c (of_class class v ∷ []) z) (λ _ y. rest y)) else done (at_address far t c) s)
+      by v is small goes true same =
+          spend_follows g w (2 + (pos r - pos p)) 0 (pos r - pos p) 1 w.reach s s.begun m Ends NoExit
+          (λ z. then_go (store_by t far c (of_class class v ∷ []) z) (λ _ y. rest y))
+          (pair_runs g w st p r k d0 m0 11 (class_letters class) leads (λ m. refl) room c b s m x) (inl refl)
+          (λ n e. class_store c b v (record s { left = n }) m Ends rest (value_with_left st p 2 k d0 m0 (c ∷ b ∷ []) s m n x) is small same
+          (λ u m1 y l. goes u m1 y (omega (arith, few, e, l))))
+          (let word = w.word in omega (arith, word)) (omega arith)
+      by v is small goes false other =
+          widen g w (pos r - pos p) 0 w.reach (pos r - pos p) 1 w.reach (tally s) m Ends NoExit (done (at_address far t c) s)
+          (class_ends c b v s m x is other)
+          (omega arith) (omega arith) (omega arith)
 
 -- ---- SCW and SCU
 
@@ -294,37 +294,37 @@ module _ (g : Ground) (w : Rate) (st : Setting) (p r : Spot) (k : ℕ) (d0 : Dat
       (subst (λ (z : ℕ). byte_read (Db z) (at_left m) ≡ Err Bounds) (sym (lower_word g w st p r k d0 m0 (scan_code until) 0 leads scan_does room b a s m x))
       (byte_is_not_read far g.segments b (at_left m) split past))))
       (omega arith) (omega arith) (omega arith)))
-        where
-          split : m.split ≡ far
-          split = ap (λ z. z.split) x.matches.outer ∙ side
+    where
+      split : m.split ≡ far
+      split = ap (λ z. z.split) x.matches.outer ∙ side
 
-          rest : State → Outcome Located
-          rest u = scanned fuel until a (at_address far t ((b + 1) % 65536)) u
+      rest : State → Outcome Located
+      rest u = scanned fuel until a (at_address far t ((b + 1) % 65536)) u
 
-          next : ℕ → State → Outcome Located
-          next v u = if is_passed until a v then stepping u (λ z. rest z) else done (at_address far t b) u
+      next : ℕ → State → Outcome Located
+      next v u = if is_passed until a v then stepping u (λ z. rest z) else done (at_address far t b) u
 
-          by_word : scanned (suc fuel) until a (at_address far t b) s ≡ then_go (word_at far (b / 2) s) (λ v u. next (byte_at b v) u)
-          by_word =
-              ap (λ (z : Outcome (List ℕ)). then_go z (λ vs u. with_one vs u (λ v y. next v y))) (reads true t far b s one narrow)
-              ∙ then_done (word_at far (b / 2) s) (λ v. byte_at b v ∷ []) (λ v u. u) (λ vs u. with_one vs u (λ v y. next v y))
+      by_word : scanned (suc fuel) until a (at_address far t b) s ≡ then_go (word_at far (b / 2) s) (λ v u. next (byte_at b v) u)
+      by_word =
+          ap (λ (z : Outcome (List ℕ)). then_go z (λ vs u. with_one vs u (λ v y. next v y))) (reads true t far b s one narrow)
+          ∙ then_done (word_at far (b / 2) s) (λ v. byte_at b v ∷ []) (λ v u. u) (λ vs u. with_one vs u (λ v y. next v y))
 
-          by : (v : ℕ) → byte_read (Db b) (at_left m) ≡ Ok v
-              → ((u : State) (n : Machine) → Tests ((b + 1) % 65536) a u n → u.left < fuel → Follows g w (pos r - pos p) 1 w.reach (tally u) n Stops NoExit
-                  (rest u))
-              → (q : Bool) → is_passed until a v ≡ q
-              → Follows g w (pos r - pos p) 1 w.reach (tally s) m Stops NoExit (if q then stepping s (λ z. rest z) else done (at_address far t b) s)
-          by v is goes true same =
-              spend_follows g w (2 + (pos r - pos p)) 0 (pos r - pos p) 1 w.reach s s.begun m Stops NoExit (λ z. rest z)
-              (pair_runs g w st p r k d0 m0 (scan_code until) 0 leads scan_does room b a s m x) (inl refl)
-              (λ n e.
-              let many = w.enough in
-              let u : State = record s { left = n } in
-              let f = byte_goes b a v u m (value_with_left st p 2 k d0 m0 (b ∷ a ∷ []) s m n x) is same in
-              then_follows g w 2 0 w.reach (pos r - pos p) 1 w.reach (2 + (pos r - pos p)) 0 w.reach (tally u) m (tally u) f.0 Stops NoExit
-              (rest u) f.1 (goes u f.0 f.2 (omega (arith, few, e))) (omega arith) (omega (arith, many)) (omega (arith, many)))
-              (let word = w.word in omega (arith, word)) (omega arith)
-          by v is goes false other =
-              widen g w (pos r - pos p) 0 w.reach (pos r - pos p) 1 w.reach (tally s) m Stops NoExit (done (at_address far t b) s)
-                  (byte_stops b a v s m x is other)
-              (omega arith) (omega arith) (omega arith)
+      by : (v : ℕ) → byte_read (Db b) (at_left m) ≡ Ok v
+          → ((u : State) (n : Machine) → Tests ((b + 1) % 65536) a u n → u.left < fuel → Follows g w (pos r - pos p) 1 w.reach (tally u) n Stops NoExit
+          (rest u))
+          → (q : Bool) → is_passed until a v ≡ q
+          → Follows g w (pos r - pos p) 1 w.reach (tally s) m Stops NoExit (if q then stepping s (λ z. rest z) else done (at_address far t b) s)
+      by v is goes true same =
+          spend_follows g w (2 + (pos r - pos p)) 0 (pos r - pos p) 1 w.reach s s.begun m Stops NoExit (λ z. rest z)
+          (pair_runs g w st p r k d0 m0 (scan_code until) 0 leads scan_does room b a s m x) (inl refl)
+          (λ n e.
+          let many = w.enough in
+          let u : State = record s { left = n } in
+          let f = byte_goes b a v u m (value_with_left st p 2 k d0 m0 (b ∷ a ∷ []) s m n x) is same in
+          then_follows g w 2 0 w.reach (pos r - pos p) 1 w.reach (2 + (pos r - pos p)) 0 w.reach (tally u) m (tally u) f.0 Stops NoExit
+          (rest u) f.1 (goes u f.0 f.2 (omega (arith, few, e))) (omega arith) (omega (arith, many)) (omega (arith, many)))
+          (let word = w.word in omega (arith, word)) (omega arith)
+      by v is goes false other =
+          widen g w (pos r - pos p) 0 w.reach (pos r - pos p) 1 w.reach (tally s) m Stops NoExit (done (at_address far t b) s)
+          (byte_stops b a v s m x is other)
+          (omega arith) (omega arith) (omega arith)

@@ -74,13 +74,13 @@ abbrev mutual
   is_covered_statement may returns c results st (stat.Statement.if_test (stat.Test.condition e) s (stat.Statements.and other stat.Statements.none) at) k =
       is_covered may c st e k && is_covered_statement may returns c results st s k && is_covered_statement may returns c results st other k
   is_covered_statement may returns c results st
-    (stat.Statement.if_test (stat.Test.code o) s stat.Statements.none at) k = is_covered_statement may returns c results st s k
+      (stat.Statement.if_test (stat.Test.code o) s stat.Statements.none at) k = is_covered_statement may returns c results st s k
   is_covered_statement may returns c results st (stat.Statement.if_test (stat.Test.code o) s (stat.Statements.and other stat.Statements.none) at) k =
       is_covered_statement may returns c results st s k && is_covered_statement may returns c results st other k
   is_covered_statement may returns c results st
-    (stat.Statement.while_true e s at) k = is_covered may c st e k && is_covered_statement may returns c results st s k
+      (stat.Statement.while_true e s at) k = is_covered may c st e k && is_covered_statement may returns c results st s k
   is_covered_statement may returns c results st
-    (stat.Statement.until_true s e at) k = is_covered may c st e k && is_covered_statement may returns c results st s k
+      (stat.Statement.until_true s e at) k = is_covered may c st e k && is_covered_statement may returns c results st s k
   is_covered_statement may returns c results st (stat.Statement.for_values x first step last s at) k =
       is_counted_name st k (c.names x) (c.places x) && is_covered may c st first k && is_covered_step may c st step (k + 1) && is_covered may c st last (k + 2)
       && is_covered_statement may returns c results st s (k + 3)
@@ -97,4 +97,4 @@ abbrev mutual
   pub are_covered : (List ℕ → Bool) → Bool → Scope → (List ℕ → Option (Kind × Place)) → Setting → Statements → ℕ → Bool
   are_covered may returns c results st stat.Statements.none k = true
   are_covered may returns c results st
-    (stat.Statements.and s ss) k = is_covered_statement may returns c results st s k && are_covered may returns c results st ss k
+      (stat.Statements.and s ss) k = is_covered_statement may returns c results st s k && are_covered may returns c results st ss k
