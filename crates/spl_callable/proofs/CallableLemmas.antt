@@ -35,10 +35,9 @@ use Rattle.spl_sites.specs.Grounds.{ground_of}
 use Rattle.spl_jumps.specs.Landed.{are_landed, MayJump}
 use Rattle.spl_links.specs.Links.{linked_by, procedure_link, name_link, links_of, MayCall}
 use Rattle.spl_readings.specs.Readings.{are_plain, PlaceAlike, BodiesReadAlike}
-use Rattle.spl_targets.specs.Results.{result_kind, ResultsAgree}
-use Rattle.spl_stores.specs.Covered.{are_covered}
-use Rattle.spl_stores.specs.Laws.{MayReturn}
-use Rattle.spl_mains.specs.Laws.{CoveredBodiesFollow}
+use Rattle.spl_mains.specs.Laws.{result_kind, ResultsAgree, are_covered, MayReturn, CoveredBodiesFollow}
+-- (main bodies are followed by these)
+pub use Rattle.spl_mains.proofs.MainLemmas.{bodies_follow, list_clear}
 use Rattle.spl_procedures.specs.Procedures.{ProcedureFramed, ProcedureStatementsFollow}
 use Rattle.spl_procedures.specs.Laws.{RoutinesAreProcedures}
 use Rattle.spl_cells.specs.Laws.{SettableProceduresAreCalled}

@@ -13,7 +13,7 @@ use Rattle.spl_module_code.specs.Bodies.{statements_scope}
 use Rattle.spl_readings.specs.Readings.{are_plain}
 use Rattle.spl_cells.specs.Settable.{are_settable}
 use Rattle.spl_routes.specs.Unique.{are_unique}
-use Rattle.spl_stores.specs.Covered.{are_covered}
+pub use Rattle.spl_mains.specs.Laws.{are_covered}
 
 -- ---- procedures by their names
 

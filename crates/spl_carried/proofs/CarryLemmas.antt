@@ -51,8 +51,7 @@ use Rattle.spl_grants.proofs.GrantLemmas.{pieces_grant}
 use Rattle.spl_followed.specs.Mains.{MainFramed, MainStatementsFollow}
 use Rattle.spl_jumps.specs.Landed.{are_landed, MayJump}
 use Rattle.spl_sound_jumps.specs.Laws.{LandsInUnit, LandsInRoutines, SoundMainsLand, SoundRoutinesLand}
-use Rattle.spl_stores.proofs.CoverLemmas.{list_clear}
-use Rattle.spl_mains.proofs.MainLemmas.{bodies_follow}
+use Rattle.spl_callable.proofs.CallableLemmas.{bodies_follow, list_clear}
 use Rattle.mpe_segmenter.specs.Faults.{first_fault}
 use Rattle.spl_piece_kinds.specs.Laws.{CodesHaveKinds}
 use Rattle.spl_sound_beginnings.specs.Laws.{SoundCodesBeginWell}
@@ -69,9 +68,8 @@ use Rattle.spl_routines.proofs.GateLemmas.{gates_are_served}
 use Rattle.spl_carried.proofs.MainLemmas.{MainThere, main_there, main_is, same_entry}
 use Rattle.spl_carried.proofs.PieceLemmas.{landing_place, way_out, main_context, MainPieces, main_pieces, MainStands, main_stands}
 use Rattle.spl_names.specs.Names.{read_with}
-use Rattle.spl_callable.specs.Callable.{is_among, are_alike, is_covered_body, are_callable, most_words}
+use Rattle.spl_callable.specs.Callable.{is_among, are_alike, is_covered_body, are_callable, most_words, are_covered}
 use Rattle.spl_callable.specs.Laws.{CallableProceduresFollow}
-use Rattle.spl_stores.specs.Covered.{are_covered}
 use Rattle.spl_followed.specs.Mains.{main_setting}
 use Rattle.spl_carries.specs.Segments.{initial_words}
 use Rattle.spl_carries.specs.Carries.{weight, MaySit}

@@ -5,7 +5,7 @@ use Rattle.spl_meaning.specs.Bodies.{Named, main_body, program_of}
 use Rattle.spl_meaning.specs.Tables.{Source}
 use Rattle.spl_scopes.specs.Entries.{main, module_entries}
 use Rattle.spl_scopes.specs.Scopes.{Placed, first_reached, placed_units, global_places}
-use Rattle.spl_callable.specs.Callable.{is_covered_body, are_callable}
+pub use Rattle.spl_callable.specs.Callable.{is_among, is_covered_body, are_callable}
 
 -- how many units have a main body
 abbrev pub main_count : List Source → ℕ

@@ -19,6 +19,8 @@ use Rattle.spl_followed.specs.Mains.{main_setting}
 use Rattle.spl_links.specs.Links.{MayCall}
 use Rattle.spl_names.specs.Names.{read_with}
 use Rattle.spl_stores.proofs.CoverLemmas.{covered_list_performs}
+-- (code of main bodies is cut by it)
+pub use Rattle.spl_stores.proofs.CoverLemmas.{list_clear}
 use Rattle.spl_mains.specs.Laws.{CoveredBodiesFollow, CoveredMainBodiesFollow}
 
 -- where a list is left with no word waiting, RETURN is behind it, and a jump shows what the run has

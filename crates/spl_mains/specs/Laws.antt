@@ -24,9 +24,10 @@ use Rattle.spl_follow.specs.Simulating.{Surroundings}
 use Rattle.spl_followed.specs.Mains.{main_setting, MainStatementsFollow}
 use Rattle.spl_names.specs.Names.{read_with}
 use Rattle.spl_jumps.specs.Landed.{are_landed, MayJump}
-use Rattle.spl_targets.specs.Results.{ResultsAgree}
-use Rattle.spl_stores.specs.Covered.{are_covered}
-use Rattle.spl_stores.specs.Laws.{MayReturn}
+-- (whoever follows a body asks the same of it)
+pub use Rattle.spl_targets.specs.Results.{result_kind, ResultsAgree}
+pub use Rattle.spl_stores.specs.Covered.{are_covered}
+pub use Rattle.spl_stores.specs.Laws.{MayReturn}
 use Rattle.spl_links.specs.Links.{MayCall}
 
 -- Where the code of a body's statements stands from `first` to `leave`, all are covered, the code was made with the body's names and places, its room

@@ -30,7 +30,7 @@ use Rattle.spl_follow.proofs.StandLemmas.{closed_last}
 use Rattle.spl_values.specs.Reached.{IsWhole}
 use Rattle.spl_values.proofs.VariableLemmas.{both}
 use Rattle.spl_values.proofs.WholeLemmas.{whole_then, whole_last, whole_behind}
-use Rattle.spl_calls.proofs.CallLemmas.{begun_whole}
+use Rattle.spl_choices.proofs.PartLemmas.{begun_whole}
 use Rattle.spl_links.specs.Links.{MayCall}
 use Rattle.spl_names.specs.Names.{read_with}
 use Rattle.spl_covered.specs.Covered.{is_covered}

@@ -20,7 +20,7 @@ use Rattle.spl_meaning.specs.References.{Setting}
 use Rattle.spl_code.specs.Calls.{Scope}
 use Rattle.spl_values.proofs.VariableLemmas.{both}
 use Rattle.spl_covered.specs.Covered.{is_covered}
-use Rattle.spl_callable.specs.Callable.{is_among}
+use Rattle.spl_carried.specs.Covered.{is_among}
 use Rattle.spl_targets.specs.Targets.{is_led_target}
 use Rattle.spl_calls.specs.Covered.{is_covered_call, is_covered_answer}
 use Rattle.spl_wide.specs.Wide.{is_wide_assignment}

@@ -18,7 +18,7 @@ use Rattle.spl_meaning.specs.References.{Setting}
 use Rattle.spl_code.specs.Calls.{Scope}
 use Rattle.spl_values.specs.Reached.{is_word_class}
 use Rattle.spl_values.proofs.VariableLemmas.{both}
-use Rattle.spl_callable.specs.Callable.{is_among}
+use Rattle.spl_carried.specs.Covered.{is_among}
 use Rattle.spl_word_operators.specs.Operators.{is_covered_operator}
 use Rattle.spl_names.specs.Names.{is_covered_name}
 use Rattle.spl_covered.specs.Covered.{is_word_call, is_covered, are_covered_arguments}

@@ -26,7 +26,7 @@ use Rattle.spl_followed.specs.Mains.{main_setting}
 use Rattle.spl_values.proofs.VariableLemmas.{both}
 use Rattle.spl_names.specs.Names.{has_reached}
 use Rattle.spl_word_operators.proofs.OperatorLemmas.{four}
-use Rattle.spl_callable.specs.Callable.{is_covered_body}
+use Rattle.spl_carried.specs.Covered.{is_covered_body}
 use Rattle.thin_jobs.specs.ThinUnits as u
 use Rattle.thin_jobs.specs.ThinTrees as thin
 use Rattle.thin_jobs.specs.ThinTrees.{tree_statement, gate_of}

@@ -7,7 +7,7 @@ use Rattle.spl_meaning.specs.References.{Setting}
 use Rattle.spl_meaning.specs.Tables.{Source}
 use Rattle.spl_code.specs.Calls.{Scope}
 use Rattle.spl_stores.specs.Covered.{are_covered}
-use Rattle.spl_callable.specs.Callable.{is_among}
+use Rattle.spl_carried.specs.Covered.{is_among}
 use Rattle.spl_carried.specs.Covered.{is_covered_program}
 use Rattle.thin_jobs.specs.ThinUnits as u
 use Rattle.thin_jobs.specs.ThinTrees.{tree_statement}
