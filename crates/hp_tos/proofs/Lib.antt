@@ -1,3 +1,4 @@
 mod KnownCalls
+pub mod RoomLemmas
 pub mod WriteLemmas
 pub mod RegisterLaws

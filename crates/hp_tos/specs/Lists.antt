@@ -1,5 +1,5 @@
 -- The two lists of a session's data, whichever state it is in.
-use Rattle.std.specs.Prelude.{ℕ, Bool, true, false, List, length, Result, slice_set, vec_capacity, if◌then◌else◌}
+use Rattle.std.specs.Prelude.{ℕ, ◌+◌, Bool, true, false, List, ◌++◌, length, take, drop, Result, slice_set, vec_capacity, if◌then◌else◌}
 use Rattle.hp_window.specs.declared.bounds.Bounds.{Bounds}
 use Rattle.hp_window.specs.Window.{read_below}
 use Rattle.hp_tos.specs.declared.data.Data.{Data}
@@ -33,6 +33,11 @@ lists (Split d) = record {
 -- w in place of a word of the room
 abbrev pub stored : ℕ → ℕ → Lists → Lists
 stored address w d = record d { stack = slice_set d.stack address w }
+
+-- these words in place of as many of the room, from an address upwards
+abbrev pub stored_all : ℕ → List ℕ → Lists → Lists
+stored_all address ws d =
+    record d { stack = take address d.stack ++ (ws ++ drop (address + length ws) d.stack) }
 
 -- w in place of the word that DB addresses
 abbrev pub db_stored : ℕ → ℕ → Lists → Lists

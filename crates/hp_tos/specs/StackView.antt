@@ -5,4 +5,4 @@ use Rattle.hp_tos.specs.Seen.{Seen}
 
 -- the one list of words with the numbers of registers, fills and spills
 abbrev pub seen : Stack → Seen
-seen s = seen_of s.memory s.words s.sr s.fills s.spills
+seen s = seen_of s.memory s.sm s.top.items s.fills s.spills

@@ -1,5 +1,5 @@
 //! A session's data in either state, with what the stack asks of it.
-ghost use Rattle.std.specs.Prelude.{◌≡◌, ◌≤◌, ◌<◌, length, slice_index, false, true, IsTrue, ◌↔◌, OnOk, OnErr, if◌then◌else◌};
+ghost use Rattle.std.specs.Prelude.{◌≡◌, ◌≤◌, ◌<◌, ◌+◌, length, slice_index, false, true, IsTrue, ◌↔◌, OnOk, OnErr, if◌then◌else◌};
 ghost use Rattle.hp_window.specs.Window.{bounded, read_below};
 
 use hp_window::{Bounds, Split, Whole};
@@ -15,7 +15,7 @@ pub enum Data {
 }
 
 impl Data {
-    ghost use Rattle.hp_tos.specs.Lists.{lists, stored, db_top, db_read, db_stored};
+    ghost use Rattle.hp_tos.specs.Lists.{lists, stored, stored_all, db_top, db_read, db_stored};
 
     /// How many words the room of the stack has.
     #[tactic(auto, unfolding(crate::specs::Lists::lists))]
@@ -53,6 +53,39 @@ impl Data {
         match self {
             Data::Whole(data) => data.stack[address as usize] = w,
             Data::Split(data) => data.stack[address as usize] = w,
+        }
+    }
+
+    /// Puts words from an address of the room upwards.
+    #[tactic(auto, unfolding(crate::specs::Lists::lists))]
+    #[inline]
+    fn set_words(&mut self, address: u16, words: &[u16])
+        requires { address + length words.now ≤ length (lists self.old).stack }
+        ensures { lists self.new ≡ stored_all address words.now (lists self.old) }
+    {
+        let from = address as usize;
+        match self {
+            Data::Whole(data) => data.stack[from..from + words.len()].copy_from_slice(words),
+            Data::Split(data) => data.stack[from..from + words.len()].copy_from_slice(words),
+        }
+    }
+
+    /// Puts the words of registers from an address of the room upwards, the lowest first. A copy of a known length is a few
+    /// moves of the host, where another calls a function of the C library.
+    #[tactic(auto, using(crate::proofs::RoomLemmas::parted))]
+    #[inline]
+    pub(crate) fn set_registers(&mut self, address: u16, words: &[u16])
+        requires few { length words.now ≤ 4 }
+        requires room { address + length words.now ≤ length (lists self.old).stack }
+        ensures { lists self.new ≡ stored_all address words.now (lists self.old) }
+    {
+        match words {
+            [] => {}
+            &[a] => self.set_word(address, a),
+            &[a, b] => self.set_words(address, &[a, b]),
+            &[a, b, c] => self.set_words(address, &[a, b, c]),
+            &[a, b, c, d] => self.set_words(address, &[a, b, c, d]),
+            _ => unreachable!(),
         }
     }
 

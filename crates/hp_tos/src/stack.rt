@@ -1,10 +1,11 @@
 //! The stack with registers at its top: what it keeps, how it is made, and its mode.
-ghost use Rattle.std.specs.Prelude.{◌≡◌, ◌≤◌, length, false, true, IsTrue, ◌↔◌, vec_len, vec_capacity};
+ghost use Rattle.std.specs.Prelude.{◌≡◌, ◌+◌, ◌≤◌, length, false, true, IsTrue, ◌↔◌, vec_len, vec_capacity};
 ghost use Rattle.hp_tos.specs.Lists.{lists};
 ghost use Rattle.hp_tos.specs.Seen.{IsSound, made};
 ghost use Rattle.hp_tos.specs.Representation.{seen_of};
 
 use crate::data::Data;
+use arrayvec::ArrayVec;
 use hp_window::Whole;
 
 /// A session's stack and extra segment. Contracts see it as one list of words with three numbers, by `seen`.
@@ -12,16 +13,16 @@ use hp_window::Whole;
 pub struct Stack {
     /// The room of the stack, the extra segment and the mode.
     pub memory: Data,
-    /// How many words are on the stack. They are the first of the room.
-    pub words: u16,
-    /// SR: how many of the top words count as standing in registers.
-    pub sr: u8,
+    /// How many words stand in memory. They are the first of the room; what lies above them is of no account.
+    pub sm: u16,
+    /// The words in registers, the lowest first. SR is how many there are.
+    pub top: ArrayVec<u16, 4>,
     /// How many words were moved from memory into a register, modulo 2 to the power 64.
     pub fills: u64,
     /// How many words were moved from a register into memory, modulo 2 to the power 64.
     pub spills: u64,
-    ghost there: { words ≤ length (lists memory).stack },
-    pub ghost sound: { IsSound (seen_of memory words sr fills spills) },
+    ghost there: { sm + length top.items ≤ length (lists memory).stack },
+    pub ghost sound: { IsSound (seen_of memory sm top.items fills spills) },
 }
 
 impl Stack {
@@ -37,8 +38,8 @@ impl Stack {
     {
         Stack {
             memory: Data::Whole(Whole { stack, extra }),
-            words,
-            sr: 0,
+            sm: words,
+            top: ArrayVec::new(),
             fills: 0,
             spills: 0,
         }
@@ -50,7 +51,7 @@ impl Stack {
     pub fn words(&self) -> u16
         ensures { result ≡ length (seen self.now).words }
     {
-        self.words
+        self.sm + self.top.len() as u16
     }
 
     /// STACK, how many words fit.

@@ -40,7 +40,17 @@ fn empty(alloc: Global) -> Result<Stack, AllocError> {
 
 /// How many words there are, how many of them in registers, the fills and the spills.
 fn numbers(stack: &Stack) -> (u16, u8, u64, u64) {
-    (stack.words(), stack.sr, stack.fills, stack.spills)
+    (
+        stack.words(),
+        stack.top.len() as u8,
+        stack.fills,
+        stack.spills,
+    )
+}
+
+/// Whether so many words stand in memory, and these in registers.
+fn stands(stack: &Stack, in_memory: u16, registers: &[u16]) -> bool {
+    stack.sm == in_memory && stack.top.as_slice() == registers
 }
 
 #[test]
@@ -84,6 +94,29 @@ fn counts_registers_fills_and_spills(rt: HostRuntime) -> Result<(), Fail> {
         }
         assert_eq!(rt; numbers(&stack), want, "{calls:?} after {pushes} pushes");
     }
+    Ok(())
+}
+
+#[test]
+fn a_word_in_a_register_is_newer_than_the_one_beneath_it(rt: HostRuntime) -> Result<(), Fail> {
+    let mut stack = empty(rt.alloc())?;
+    for w in 1..=6 {
+        assert_eq!(rt; stack.push(w), Ok(()));
+    }
+    assert!(rt; stands(&stack, 2, &[3, 4, 5, 6]));
+    assert_eq!(rt; stack.write_stack(3, 44), Ok(()));
+    assert!(rt; stands(&stack, 2, &[3, 44, 5, 6]));
+    assert_eq!(rt; stack.read_stack(3), Ok(44));
+    // In memory 44 stands at address 3 once it is spilled, and stays there when it is filled and written again.
+    stack.flush();
+    assert_eq!(rt; stack.need(3), Ok(()));
+    assert!(rt; stands(&stack, 3, &[44, 5, 6]));
+    assert_eq!(rt; stack.write_db(3, 45), Ok(()));
+    assert_eq!(rt; (stack.read_stack(3), stack.read_db(3)), (Ok(45), Ok(45)));
+    assert!(rt; stack.split());
+    assert!(rt; stack.join());
+    assert_eq!(rt; (stack.read_stack(3), stack.at(2)), (Ok(45), Ok(45)));
+    assert_eq!(rt; numbers(&stack), (6, 3, 3, 6));
     Ok(())
 }
 
