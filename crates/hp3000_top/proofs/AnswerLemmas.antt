@@ -9,16 +9,16 @@ use Rattle.std.proofs.Common.{ℕ, ◌≡◌, ◌≤◌, List, [], ◌∷◌, ma
 use Rattle.std.specs.Prelude.{IfOk, Bool, true, false}
 use Rattle.hp_program.specs.declared.program.Program.{Program}
 use Rattle.job_report.specs.Listings.{listing_of}
-use Rattle.job_text.specs.declared.faults.JobFault.{JobFault}
-use Rattle.job_text.specs.declared.faults.JobFault.TheVariants as fault
-use Rattle.job_text.specs.declared.job.Job.{Job}
-use Rattle.job_text.specs.declared.job.Text.{Text}
-use Rattle.job_text.specs.Answers.{IsFault}
-use Rattle.job_text.specs.Fits.{Each, ProgramFits, JobFits}
-use Rattle.job_text.specs.Jobs.{JobIs}
-use Rattle.job_text.specs.Views.{text_value, job_value}
-use Rattle.job_text.proofs.FitLemmas.{jobs_fit}
-use Rattle.job_text.proofs.PrepLemmas.{prepared_jobs_are_single}
+use Rattle.job_gen.specs.job_text.declared.faults.JobFault.{JobFault}
+use Rattle.job_gen.specs.job_text.declared.faults.JobFault.TheVariants as fault
+use Rattle.job_gen.specs.job_text.declared.job.Job.{Job}
+use Rattle.job_gen.specs.job_text.declared.job.Text.{Text}
+use Rattle.job_gen.specs.job_text.Answers.{IsFault}
+use Rattle.job_gen.specs.job_text.Fits.{Each, ProgramFits, JobFits}
+use Rattle.job_gen.specs.job_text.Jobs.{JobIs}
+use Rattle.job_gen.specs.job_text.Views.{text_value, job_value}
+use Rattle.job_gen.proofs.job_text_proofs.FitLemmas.{jobs_fit}
+use Rattle.job_gen.proofs.job_text_proofs.PrepLemmas.{prepared_jobs_are_single}
 use Rattle.mpe_progfile.specs.declared.faults.FileFault.{FileFault}
 use Rattle.mpe_progfile.specs.declared.faults.FileFault.TheVariants as file_fault
 use Rattle.mpe_progfile.specs.Files.{IsFile}
@@ -32,18 +32,17 @@ use Rattle.hp3000_top.specs.Programs.{AreMade, FirstRefused}
 use Rattle.hp3000_top.specs.Causes.{RunsJobs, account_with, IsJob, Cause, IsPrepared, Unprepared, Unlisted, file_line}
 use Rattle.hp3000_top.specs.Causes as c
 use Rattle.job_runs.specs.Reported.{names_of}
-use Rattle.mpe_overlay.specs.Codes.{codes_of}
-use Rattle.mpe_worlds.specs.Opening.{opening}
-use Rattle.mpe_worlds.specs.Dispatch.{after}
-use Rattle.mpe_turns.specs.Monitors.{world_of}
-use Rattle.mpe_turns.specs.Opening.{refusal}
-use Rattle.hp3000_top.specs.Answers.{IsCrowded, IsOfMemory, IsSurelyCrowded}
+use Rattle.job_runs.specs.mpe_overlay.Codes.{codes_of}
+use Rattle.job_runs.specs.mpe_worlds.Opening.{opening}
+use Rattle.job_runs.specs.mpe_worlds.Dispatch.{after}
+use Rattle.job_runs.specs.mpe_turns.Monitors.{world_of}
+use Rattle.job_runs.specs.mpe_turns.Opening.{refusal}
+use Rattle.hp3000_top.specs.Answers.{IsCrowded, IsOfMemory}
 use Rattle.hp3000_top.specs.Steps.{Answers, IsAnswered, IsOfStack, IsRoomy, TellsJob, IsFileOf, IsFaultOfFile}
 use Rattle.hp3000_top.specs.Steps as s
 use Rattle.hp3000_top.proofs.Loops.{job_fits_more}
 use Rattle.hp3000_top.proofs.LineLemmas.{job_line_not, program_line_not, stack_line_not}
 use Rattle.hp3000_top.proofs.Headline.{made_count}
-use Rattle.hp3000_top.proofs.Unique.{breaks_not_crowded, refused_not_crowded, stack_not_crowded}
 
 -- ---- 1. what bytes keep within
 
@@ -59,17 +58,16 @@ programs_fit_so bytes prep job texts l is e =
 
 -- each verb that runs a job is answered by a line that refuses it, which is not that of a memory that is too small
 line_so : (v : Verb) (bytes : List ℕ) (line : Vec ℕ Global) → RunsJobs v → Cause bytes line.items → (IsOfMemory line.items → ⊥)
-    → ((made : List Program) → IsSurelyCrowded bytes made → ⊥) → IsAnswered bytes v (Refusal line)
-line_so verb.Run bytes line runs k m n = s.IsAnswered.refuses k (m, n)
-line_so (verb.Gen number) bytes line runs k m n = s.IsAnswered.refuses k (m, n)
-line_so verb.Prep bytes line runs k m n = absurd runs
-line_so verb.List bytes line runs k m n = absurd runs
+    → IsAnswered bytes v (Refusal line)
+line_so verb.Run bytes line runs k m = s.IsAnswered.refuses k m
+line_so (verb.Gen number) bytes line runs k m = s.IsAnswered.refuses k m
+line_so verb.Prep bytes line runs k m = absurd runs
+line_so verb.List bytes line runs k m = absurd runs
 
 pub run_line_so : (v : Verb) (bytes : List ℕ) (f : JobFault) (line : Vec ℕ Global) → RunsJobs v → IsFault bytes false f → TellsJob f line.items
     → IsAnswered bytes v (Refusal line)
 run_line_so v bytes (fault.Rule l r) line runs k t =
     line_so v bytes line runs (subst (Cause bytes) (sym t) (c.Cause.lines k)) (λ m. job_line_not l r (subst IsOfMemory t m))
-    (λ made x. breaks_not_crowded bytes l r made k x)
 run_line_so v bytes fault.NoMemory line runs k t = absurd t
 
 pub prep_line_so : (bytes : List ℕ) (f : JobFault) (line : Vec ℕ Global) → IsFault bytes true f → TellsJob f line.items → IsAnswered bytes verb.Prep (Refusal line)
@@ -81,7 +79,6 @@ pub run_program_so : (v : Verb) (bytes : List ℕ) (line : Vec ℕ Global) (job 
 run_program_so v bytes line job texts runs is e r =
     let k : FirstRefused (job_value job).programs line.items = subst (λ (ts : List Text). FirstRefused (map text_value ts) line.items) e r in
     line_so v bytes line runs (c.Cause.program (job_value job) is k) (λ m. program_line_not k m)
-    (λ made x. refused_not_crowded bytes (job_value job) line.items made is k x)
 
 pub prep_program_so : (bytes : List ℕ) (line : Vec ℕ Global) (job : Job) (texts : List Text) → JobIs bytes true (job_value job) → texts ≡ job.programs.items
     → FirstRefused (map text_value texts) line.items → IsAnswered bytes verb.Prep (Refusal line)
@@ -106,7 +103,7 @@ answer_so v bytes count job programs (Report made monitor text) runs e is m h = 
 answer_so v bytes count job programs (Refusal line) runs e is m h =
     let j = is_job bytes job programs is m in
     line_so v bytes line runs (subst (Cause bytes) (sym h.2) (c.Cause.sessions (job_value job) programs job.seats.items j h.1))
-    (λ m. stack_line_not h.0 h.3 (subst IsOfMemory h.2 m)) (λ made x. stack_not_crowded bytes (job_value job) programs made job.seats.items h.0 j h.1 h.3 x)
+    (λ m. stack_line_not h.0 h.3 (subst IsOfMemory h.2 m))
 answer_so v bytes count job programs (Crowded made line) runs e is m h =
     s.IsAnswered.crowded h.1.0 h.1.1 runs h.1.3 (subst (λ (ps : List Program). IsCrowded bytes ps h.1.0 h.1.1) (sym h.0) (record {
       job = job_value job;

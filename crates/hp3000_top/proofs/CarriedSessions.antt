@@ -1,37 +1,45 @@
 -- A session of a program that carries its units follows their run.
-use Rattle.std.proofs.Common.{◌≡◌, ℕ, zero, suc, ◌+◌, ◌<◌, ◌≤◌, ◌&&◌, Bool, true, false, List, [], ◌∷◌, length, Some, refl, sym, ap, subst, ◌∙◌, arith}
-use Rattle.std.specs.Prelude.{slice_get, slice_index}
+use Rattle.std.proofs.Common.{◌≡◌, ℕ, zero, suc, ◌+◌, ◌<◌, ◌≤◌, true, List, [], ◌∷◌, length, refl, sym, ap, subst, ◌∙◌, arith}
+use Rattle.std.specs.Prelude.{slice_index}
 use Rattle.std.specs.List.{list_all}
 use Rattle.std.proofs.lemmas.Bool.{and_parts, and_from, ltb-true, lt-ltb}
 use Rattle.hp_program.specs.declared.program.Program.{Program}
 use Rattle.hp_program.specs.Programs.{segments_of}
-use Rattle.hp_flat.specs.Step as flat
-use Rattle.hp_flat.specs.Views.{opened_of}
-use Rattle.hp_session.specs.State.{Machine}
-use Rattle.job_text.specs.Fits.{SeatFits}
-use Rattle.job_text.specs.States.{SeatValue}
-use Rattle.job_text.specs.Views.{seat_value}
-use Rattle.mpe_session.specs.declared.seat.Seat.{Seat}
-use Rattle.mpe_worlds.specs.Worlds.{Run}
-use Rattle.spl_meaning.specs.Tables.{Source}
-use Rattle.spl_meaning.specs.Bodies.{Reached, reached_behind, data_words, program_from}
-use Rattle.spl_meaning.specs.Runs.{AreBytes, LinesAreBytes, alone}
-use Rattle.spl_carries.specs.Segments.{words_from, initial_words}
-use Rattle.spl_carries.specs.Carries as carries
-use Rattle.spl_carries.specs.Carries.{Forth, MaySit, IsPrefix, Carries, flat_point}
-use Rattle.spl_build.specs.Built.{IsBuilt}
-use Rattle.spl_carried.specs.Laws.{CoveredProgramsCarry}
-use Rattle.thin_covered.specs.Laws.{ThinUnitsAreCovered}
+use Rattle.spl_numbered.specs.hp_flat.Step as flat
+use Rattle.spl_numbered.specs.hp_flat.Views.{opened_of}
+use Rattle.job_gen.specs.hp_session.State.{Machine}
+use Rattle.job_gen.specs.job_text.Fits.{SeatFits}
+use Rattle.job_gen.specs.job_text.States.{SeatValue}
+use Rattle.job_gen.specs.job_text.Views.{seat_value}
+use Rattle.job_gen.specs.mpe_session.declared.seat.Seat.{Seat}
+use Rattle.job_runs.specs.mpe_worlds.Worlds.{Run}
+use Rattle.spl_program.specs.spl_meaning.Tables.{Source}
+use Rattle.spl_program.specs.spl_meaning.Bodies.{Reached, reached_behind, data_words, program_from}
+use Rattle.spl_program.specs.spl_meaning.Runs.{AreBytes, LinesAreBytes, alone}
+use Rattle.spl_numbered.specs.spl_carries.Segments.{words_from, initial_words}
+use Rattle.spl_numbered.specs.spl_carries.Carries as carries
+use Rattle.spl_numbered.specs.spl_carries.Carries.{Forth, MaySit, IsPrefix, Carries, flat_point}
+use Rattle.spl_linkable.specs.spl_build.Built.{IsBuilt}
+use Rattle.spl_sound_programs.specs.Laws.{SoundProgramsCarry}
 use Rattle.hp3000_top.specs.Programs.{IsMade}
-use Rattle.hp3000_top.specs.Programs as p
-use Rattle.spl_bounds.specs.Segments.{NumbersSegments}
-use Rattle.spl_cuts.specs.Signs.{Listed}
+use Rattle.spl_numbered.specs.spl_bounds.Segments.{NumbersSegments}
+use Rattle.spl_program.specs.spl_cuts.Signs.{Listed}
+use Rattle.spl_program.specs.spl_cuts.Lexemes.{lexemes}
+use Rattle.spl_program.specs.spl_reading.Readers.{Got}
+use Rattle.spl_program.specs.spl_grammar.Verdicts.{Verdict, spelled}
+use Rattle.spl_tree.specs.Symbols.{Lexeme}
+use Rattle.spl_tree.specs.DeclarationTrees.{UnitTree}
+use Rattle.spl_shapes.specs.Shapes.{is_shaped_unit}
+use Rattle.spl_shapes.specs.Laws.{HaveBytes, SpelledUnitsAreShaped, CutTokensHaveBytes}
+use Rattle.spl_sound_programs.specs.spl_ruled_bodies.Laws.{AreShaped}
 use Rattle.spl_numbered.specs.Laws.{TextsNumberSegments}
-use Rattle.spl_places.specs.Programs.{Each}
+use Rattle.spl_linkable.specs.spl_places.Programs.{Each}
 use Rattle.spl_program.specs.Texts.{most_tokens, AreCut, AreUnits}
+use Rattle.spl_program.specs.Programs.{IsProgram}
 use Rattle.spl_program.specs.Texts as t
-use Rattle.hp3000_top.specs.Carried.{is_byte, IsCovered, units_seat, FollowsUnits}
-use Rattle.hp3000_top.proofs.Sureness.{same_units, within_rules, within_not_beyond}
+use Rattle.spl_program.proofs.ProgramLaws.{programs_unique}
+use Rattle.hp3000_top.specs.Carried.{is_byte, units_seat, FollowsUnits}
+use Rattle.hp3000_top.proofs.Sureness.{kept_rules}
 
 -- ---- bytes
 
@@ -72,13 +80,24 @@ all_number law t.AreCut.none t.AreUnits.none = tt
 all_number law {n} (t.AreCut.more {text = text} {x = x} c cs) (t.AreUnits.more {u = u} s ss) =
     (law n most_tokens text x u c s.segments s.spelled, all_number law cs ss)
 
--- what is built of covered units carries them
-abbrev pub CoveredTextsCarry : Type 0
-CoveredTextsCarry = (texts : List (List ℕ)) (us : List Source) (q : Program) → IsCovered texts us → IsBuilt us q → Carries q us
+-- the tree of a unit that tokens of bytes spell is shaped
+shaped_spelled : SpelledUnitsAreShaped → (ts : List Lexeme) (u : UnitTree) → Verdict ts (Got u []) → HaveBytes ts → is_shaped_unit u ≡ true
+shaped_spelled law ts u (spelled w calm) bytes = law u ts w bytes
 
-pub covered_texts_carry : TextsNumberSegments → CoveredProgramsCarry → CoveredTextsCarry
-covered_texts_carry numbers law texts us q k b =
-    let rules = within_rules texts us k.beyond in
+-- so are the trees of the units of texts
+all_shaped : SpelledUnitsAreShaped → CutTokensHaveBytes → {n : ℕ} {texts : List (List ℕ)} {xs : List Listed} {us : List Source} → AreCut n texts xs
+    → AreUnits xs us → AreShaped us
+all_shaped trees tokens t.AreCut.none t.AreUnits.none = tt
+all_shaped trees tokens {n} (t.AreCut.more {text = text} {x = x} c cs) (t.AreUnits.more {u = u} s ss) =
+    (shaped_spelled trees (lexemes x) u.tree s.spelled (tokens n most_tokens text x c), all_shaped trees tokens cs ss)
+
+-- what is built of the units of texts carries them
+abbrev pub TextsCarry : Type 0
+TextsCarry = (texts : List (List ℕ)) (us : List Source) (q : Program) → IsProgram texts us → IsBuilt us q → Carries q us
+
+pub texts_carry : TextsNumberSegments → SpelledUnitsAreShaped → CutTokensHaveBytes → SoundProgramsCarry → TextsCarry
+texts_carry numbers trees tokens law texts us q k b =
+    let rules = kept_rules texts us k in
     law us b.modules b.layout.globals.items q (record {
       sound = rules.sound;
       spelled = rules.spelled;
@@ -86,17 +105,11 @@ covered_texts_carry numbers law texts us q k b =
       are_modules = b.are_modules;
       makes = b.linked.makes;
       links = b.linked.links;
-    }) (all_number numbers k.beyond.program.spell.cut k.beyond.program.spell.units) b.linked.faultless b.is_layout.globals k.callees k.covered
+    }) (all_number numbers k.spell.cut k.spell.units) (all_shaped trees tokens k.spell.cut k.spell.units) b.linked.faultless b.is_layout.globals
 
--- what the sessions of covered programs stand on
-pub record SourceLaws : Type 0 where
-  pub carry : CoveredTextsCarry
-  pub thin : ThinUnitsAreCovered
-
--- what is made of covered units carries them
-pub units_carried : CoveredTextsCarry → (texts : List (List ℕ)) (us : List Source) (q : Program) → IsCovered texts us → IsMade texts q → Carries q us
-units_carried law texts us q k (p.IsMade.thin unit w m) = absurd (within_not_beyond texts unit us w k.beyond)
-units_carried law texts us q k (p.IsMade.built vs w b) = law texts us q k (subst (λ (ys : List Source). IsBuilt ys q) (same_units texts vs us w k.beyond) b)
+-- what is made of texts carries their units
+pub units_carried : TextsCarry → (texts : List (List ℕ)) (us : List Source) (q : Program) → IsProgram texts us → IsMade texts q → Carries q us
+units_carried law texts us q k m = law texts us q k (subst (λ (ys : List Source). IsBuilt ys q) (programs_unique texts m.units us m.are k) m.built)
 
 -- ---- sessions
 
@@ -123,8 +136,8 @@ follows_forth us q seat r steps is (carries.Forth.follows at point soon) = Follo
 follows_forth us q seat r steps is (carries.Forth.strayed at stray front) =
     FollowsUnits.strayed at stray (subst (λ (m : Machine). IsPrefix (alone us (units_seat seat) at).printed m.printed) (sym is) front)
 
-pub follows_units : CoveredTextsCarry → (programs : ℕ) (texts : List (List ℕ)) (us : List Source) (q : Program) (seat : Seat) (r : Run)
-    → IsCovered texts us → IsMade texts q → SeatFits programs (seat_value seat) → list_all (λ l. list_all is_byte l) (seat_value seat).lines ≡ true
+pub follows_units : TextsCarry → (programs : ℕ) (texts : List (List ℕ)) (us : List Source) (q : Program) (seat : Seat) (r : Run)
+    → IsProgram texts us → IsMade texts q → SeatFits programs (seat_value seat) → list_all (λ l. list_all is_byte l) (seat_value seat).lines ≡ true
     → length q.globals.items + 4 ≤ seat.stack
     → r.machine ≡ flat.after (segments_of q) r.steps (opened_of q seat.lines.items seat.stack seat.extra seat.room) → FollowsUnits us (seat_value seat) r
 follows_units law programs texts us q seat r k m fit bytes large is =

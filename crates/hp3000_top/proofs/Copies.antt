@@ -3,18 +3,18 @@ use Rattle.std.proofs.Common.{◌≡◌, ℕ, zero, suc, ◌+◌, ◌-◌, List,
 use Rattle.std.specs.Prelude.{slice_get, nat_lt, if◌then◌else◌}
 use Rattle.hp_program.specs.declared.program.Program.{Program}
 use Rattle.hp_program.specs.Programs.{segments_of}
-use Rattle.hp_flat.specs.Views.{start_of, opened_of}
-use Rattle.hp_session.specs.State.{Machine, opened}
-use Rattle.hp_session.specs.SessionView.{lines_of}
-use Rattle.hp_session.specs.declared.terminal.Line.{Line}
-use Rattle.job_text.specs.States.{SeatValue}
-use Rattle.job_text.specs.Views.{seat_value}
-use Rattle.mpe_overlay.specs.Codes.{codes_of}
-use Rattle.mpe_session.specs.declared.seat.Seat.{Seat}
-use Rattle.mpe_worlds.specs.Worlds.{Run}
-use Rattle.mpe_worlds.specs.Opening.{opening_run, opening_with, opening_runs, opening, seated_words, largest, memory_needed, nothing_moved}
-use Rattle.mpe_turns.specs.declared.fault.OpenFault.TheVariants.{StackTooSmall}
-use Rattle.mpe_turns.specs.Opening.{first_of_two, small_stack, small_stack_from, small_memory, refusal}
+use Rattle.spl_numbered.specs.hp_flat.Views.{start_of, opened_of}
+use Rattle.job_gen.specs.hp_session.State.{Machine, opened}
+use Rattle.job_gen.specs.hp_session.SessionView.{lines_of}
+use Rattle.job_gen.specs.hp_session.declared.terminal.Line.{Line}
+use Rattle.job_gen.specs.job_text.States.{SeatValue}
+use Rattle.job_gen.specs.job_text.Views.{seat_value}
+use Rattle.job_runs.specs.mpe_overlay.Codes.{codes_of}
+use Rattle.job_gen.specs.mpe_session.declared.seat.Seat.{Seat}
+use Rattle.job_runs.specs.mpe_worlds.Worlds.{Run}
+use Rattle.job_runs.specs.mpe_worlds.Opening.{opening_run, opening_with, opening_runs, opening, seated_words, largest, memory_needed, nothing_moved}
+use Rattle.job_runs.specs.mpe_turns.declared.fault.OpenFault.TheVariants.{StackTooSmall}
+use Rattle.job_runs.specs.mpe_turns.Opening.{first_of_two, small_stack, small_stack_from, small_memory, refusal}
 use Rattle.hp3000_top.specs.Steps.{IsCopy, AreCopies, none, more}
 
 -- ---- codes

@@ -1,45 +1,41 @@
--- Each session of a thin program stands where its unit, run alone, stands after some number of its steps.
+-- Each session follows the run of its program's units.
 use Rattle.std.proofs.Common.{◌≡◌, ℕ, zero, suc, ◌+◌, ◌<◌, ◌≤◌, Bool, true, false, List, [], ◌∷◌, ◌++◌, map, length, Option, None, Some, refl, sym, ap, subst, ◌∙◌, arith}
 use Rattle.std.specs.Prelude.{slice_get, unwrap_or, nat_lt, if◌then◌else◌, option_map}
 use Rattle.std.proofs.lemmas.Bool.Decides.{nat_tests}
-use Rattle.std.proofs.lemmas.List.{length-map, length-replicate}
+use Rattle.std.proofs.lemmas.List.{length-map}
 use Rattle.std.proofs.lemmas.Option.{slice_get-map}
 use Rattle.hp_program.specs.declared.program.Program.{Program}
 use Rattle.hp_program.specs.Programs.{segments_of}
-use Rattle.hp_flat.specs.Step as flat
-use Rattle.hp_flat.specs.Views.{opened_of}
-use Rattle.hp_session.specs.State.{Machine}
-use Rattle.job_text.specs.Fits.{Each, SeatFits}
-use Rattle.job_text.specs.Jobs.{JobValue}
-use Rattle.job_text.specs.States.{TextValue, SeatValue}
-use Rattle.job_text.specs.Views.{seat_value}
-use Rattle.job_text.proofs.FitLemmas.{jobs_fit}
+use Rattle.spl_numbered.specs.hp_flat.Step as flat
+use Rattle.spl_numbered.specs.hp_flat.Views.{opened_of}
+use Rattle.job_gen.specs.hp_session.State.{Machine}
+use Rattle.job_gen.specs.job_text.Fits.{Each, SeatFits}
+use Rattle.job_gen.specs.job_text.Jobs.{JobValue}
+use Rattle.job_gen.specs.job_text.States.{TextValue, SeatValue}
+use Rattle.job_gen.specs.job_text.Views.{seat_value}
+use Rattle.job_gen.proofs.job_text_proofs.FitLemmas.{jobs_fit}
 use Rattle.job_runs.proofs.TurnLemmas.{turns_go_on}
-use Rattle.mpe_overlay.specs.Codes.{codes_of}
-use Rattle.mpe_session.specs.declared.seat.Seat.{Seat}
-use Rattle.mpe_worlds.specs.Alone.{EachGoesOn, GoesOn}
-use Rattle.mpe_worlds.specs.Worlds.{Run, World, segments_at}
-use Rattle.mpe_worlds.specs.Opening.{opening_run, opening_with, opening_runs, opening}
-use Rattle.mpe_turns.specs.declared.fault.OpenFault.{OpenFault}
-use Rattle.mpe_turns.specs.declared.fault.OpenFault.TheVariants.{StackTooSmall}
-use Rattle.mpe_turns.specs.Opening.{first_of_two, small_stack, small_stack_from, small_memory}
-use Rattle.thin_jobs.specs.ThinUnits as u
-use Rattle.thin_carries.specs.Carries.{Carries, flat_point}
-use Rattle.spl_carries.specs.Carries as large
-use Rattle.thin_carries.proofs.Opening.{carries}
-use Rattle.thin_compiler.specs.ProgramViews.{IsMadeOf}
-use Rattle.hp3000_top.specs.Programs.{IsWithin, IsMade, AreMade}
+use Rattle.job_runs.specs.mpe_overlay.Codes.{codes_of}
+use Rattle.job_gen.specs.mpe_session.declared.seat.Seat.{Seat}
+use Rattle.job_runs.specs.mpe_worlds.Alone.{EachGoesOn, GoesOn}
+use Rattle.job_runs.specs.mpe_worlds.Worlds.{Run, World, segments_at}
+use Rattle.job_runs.specs.mpe_worlds.Opening.{opening_run, opening_with, opening_runs, opening}
+use Rattle.job_runs.specs.mpe_turns.declared.fault.OpenFault.{OpenFault}
+use Rattle.job_runs.specs.mpe_turns.declared.fault.OpenFault.TheVariants.{StackTooSmall}
+use Rattle.job_runs.specs.mpe_turns.Opening.{first_of_two, small_stack, small_stack_from, small_memory}
+use Rattle.spl_numbered.specs.spl_carries.Carries.{Carries}
+use Rattle.hp3000_top.specs.Programs.{IsMade, AreMade}
 use Rattle.hp3000_top.specs.Programs as p
 use Rattle.hp3000_top.specs.Causes.{Runs}
-use Rattle.hp3000_top.specs.Answers.{seat_of, IsAsAlone, EachIsAsAlone}
+use Rattle.hp3000_top.specs.Answers.{EachIsAsAlone}
 use Rattle.std.specs.List.{list_all}
-use Rattle.spl_meaning.specs.Tables.{Source}
-use Rattle.job_text.proofs.LineBytes.{lines_of_texts}
-use Rattle.hp3000_top.specs.Carried.{is_byte, IsCovered, CarryTheirs, FollowsUnits}
-use Rattle.hp3000_top.proofs.CarriedSessions.{CoveredTextsCarry, SourceLaws, units_carried, follows_units}
+use Rattle.spl_program.specs.spl_meaning.Tables.{Source}
+use Rattle.job_gen.proofs.job_text_proofs.LineBytes.{lines_of_texts}
+use Rattle.spl_program.specs.Programs.{IsProgram}
+use Rattle.hp3000_top.specs.Carried.{is_byte, CarryTheirs, FollowsUnits}
+use Rattle.hp3000_top.proofs.CarriedSessions.{TextsCarry, units_carried, follows_units}
 use Rattle.hp3000_top.proofs.Loops.{each_slice}
-use Rattle.hp3000_top.proofs.ClosedJobs.{kept}
-use Rattle.hp3000_top.proofs.Sureness.{some_is, thin_made}
+use Rattle.hp3000_top.proofs.Sureness.{some_is}
 
 -- ---- programs and seats
 
@@ -48,17 +44,16 @@ pub made_count : {ts : List TextValue} {ps : List Program} → AreMade ts ps →
 made_count p.AreMade.none = refl
 made_count (p.AreMade.more v vs) = ap suc (made_count vs)
 
--- the program of a text
-record MadeAt (ps : List Program) (k : ℕ) (t : TextValue) : Type 0 where
-  made_program : Program
-  at : slice_get ps k ≡ Some made_program
-  is : IsMade t.units made_program
+-- what is made of a text is made of the same text
+made_same : (s t : TextValue) (q : Program) → IsMade s.units q → Some s ≡ Some t → IsMade t.units q
+made_same s t q v e = subst (λ (x : TextValue). IsMade x.units q) (some_is e) v
 
-made_at : {ts : List TextValue} {ps : List Program} (k : ℕ) (t : TextValue) → AreMade ts ps → slice_get ts k ≡ Some t → MadeAt ps k t
-made_at k t p.AreMade.none e = cc
-made_at zero t (p.AreMade.more {t = s} {p = q} v vs) e =
-    record { made_program = q; at = refl; is = subst (λ (x : TextValue). IsMade x.units q) (some_is e) v }
-made_at (suc k) t (p.AreMade.more v vs) e = let m = made_at k t vs e in record { made_program = m.made_program; at = m.at; is = m.is }
+-- what holds of a program that is made of the text at this place
+made_at : {A : Type 0} {ts : List TextValue} {ps : List Program} (k : ℕ) (t : TextValue) → AreMade ts ps → slice_get ts k ≡ Some t
+    → ((q : Program) → slice_get ps k ≡ Some q → IsMade t.units q → A) → A
+made_at k t p.AreMade.none e so = cc
+made_at zero t (p.AreMade.more {t = s} {p = q} v vs) e so = so q refl (made_same s t q v e)
+made_at (suc k) t (p.AreMade.more v vs) e so = made_at k t vs e so
 
 -- the seat that a value is of
 record SeatAt (seats : List Seat) (k : ℕ) (value : SeatValue) : Type 0 where
@@ -139,66 +134,34 @@ flat_run ps q seat r e g =
     let start = opened_of q seat.lines.items seat.stack seat.extra seat.room in
     g.alone start (no_steps (segments_at (codes_of ps) seat.program) start) ∙ ap (λ ss. flat.after ss r.steps start) (segments_there ps seat.program q e)
 
--- the program of a thin unit carries it
-carried : (texts : List (List ℕ)) (unit : u.Unit) (q : Program) → IsWithin texts unit → IsMadeOf unit.names unit.statements q → Carries q unit
-carried texts unit q k m = carries q unit m k.fits (kept k.thin.source.subprogram k.thin.source.segments k.thin.source.tree unit k.thin.thin).closed
-
 -- programs that are made of texts carry what these are the texts of
-pub carry_theirs : SourceLaws → (ts : List TextValue) (ps : List Program) → AreMade ts ps → CarryTheirs ts ps
-carry_theirs law ts ps made = record {
-  thin = λ k t p of_text at unit w.
-      let m = made_at k t made of_text in
-      let same : m.made_program ≡ p = some_is (sym m.at ∙ at) in
-      subst (λ (x : Program). Carries x unit) same (carried t.units unit m.made_program w (thin_made t.units unit m.made_program w m.is));
-  whole = λ k t p of_text at us c.
-      let m = made_at k t made of_text in
-      let same : m.made_program ≡ p = some_is (sym m.at ∙ at) in
-      subst (λ (x : Program). large.Carries x us) same (units_carried law.carry t.units us m.made_program c m.is);
-}
+pub carry_theirs : TextsCarry → (ts : List TextValue) (ps : List Program) → AreMade ts ps → CarryTheirs ts ps
+carry_theirs law ts ps made k t p of_text at us c =
+    made_at k t made of_text
+    (λ q there is. subst (λ (x : Program). Carries x us) (some_is (sym there ∙ at)) (units_carried law t.units us q c is))
 
-as_alone : (texts : List (List ℕ)) (unit : u.Unit) (ps : List Program) (q : Program) (seat : Seat) (r : Run) → IsWithin texts unit → IsMadeOf unit.names unit.statements q
-    → slice_get ps seat.program ≡ Some q → length q.globals.items + 4 ≤ seat.stack → GoesOn (segments_at (codes_of ps) seat.program) (opening_run q seat) r
-    → IsAsAlone unit (seat_value seat) r
-as_alone texts unit ps q seat r k m e l g =
-    let c = carried texts unit q k m in
-    let names : length unit.names ≡ length q.globals.items = sym (ap length c.zeros ∙ length-replicate (length unit.names) 0) in
-    let f = c.forth (seat_of (seat_value seat)) (omega (arith, l, names)) r.steps in
-    (f.at, f.point ∙ ap flat_point (sym (flat_run ps q seat r e g)))
-
-each_at : (bytes : List ℕ) (job : JobValue) (made : List Program) (w : World) → (v : Runs bytes job made w) → Each (SeatFits (length made)) (map seat_value v.seats)
-    → EachGoesOn (codes_of made) (opening job.memory v.seats made) w → (k : ℕ) (value : SeatValue) (t : TextValue) (r : Run) → slice_get job.sessions k ≡ Some value
-    → slice_get job.programs value.program ≡ Some t → slice_get w.runs k ≡ Some r → (unit : u.Unit) → IsWithin t.units unit → IsAsAlone unit value r
-each_at bytes job made w v fit goes k value t r here of_text there unit thin =
-    let s = seat_at v.seats k value (ap (λ xs. slice_get xs k) v.is.are_seats ∙ here) in
-    let m = made_at value.program t v.is.are_made of_text in
-    let at : slice_get made s.seat.program ≡ Some m.made_program = ap (λ (x : SeatValue). slice_get made x.program) s.is ∙ m.at in
-    let smalls = first_none (small_stack_from 0 made v.seats) (small_memory _ job.memory) v.opens in
-    let l = stack_holds 0 made v.seats k s.seat m.made_program smalls.0 s.at at in
-    let g = goes.each k (opening_run m.made_program s.seat) r (opened_at made v.seats k s.seat m.made_program fit s.at at) there in
-    let is = thin_made t.units unit m.made_program thin m.is in
-    subst (λ (x : SeatValue). IsAsAlone unit x r) s.is (as_alone t.units unit made m.made_program s.seat r thin is at l g)
-
--- each that is one of covered units follows the run of these
-each_follows : CoveredTextsCarry → (bytes : List ℕ) → list_all is_byte bytes ≡ true → (job : JobValue) (made : List Program) (w : World)
+-- each follows the run of its units
+each_follows : TextsCarry → (bytes : List ℕ) → list_all is_byte bytes ≡ true → (job : JobValue) (made : List Program) (w : World)
     → (v : Runs bytes job made w) → Each (SeatFits (length made)) (map seat_value v.seats) → EachGoesOn (codes_of made) (opening job.memory v.seats made) w
     → (k : ℕ) (value : SeatValue) (t : TextValue) (r : Run) → slice_get job.sessions k ≡ Some value → slice_get job.programs value.program ≡ Some t
-    → slice_get w.runs k ≡ Some r → (us : List Source) → IsCovered t.units us → FollowsUnits us value r
-each_follows law bytes small job made w v fit goes k value t r here of_text there us covered =
+    → slice_get w.runs k ≡ Some r → (us : List Source) → IsProgram t.units us → FollowsUnits us value r
+each_follows law bytes small job made w v fit goes k value t r here of_text there us units =
     let s = seat_at v.seats k value (ap (λ xs. slice_get xs k) v.is.are_seats ∙ here) in
-    let m = made_at value.program t v.is.are_made of_text in
-    let at : slice_get made s.seat.program ≡ Some m.made_program = ap (λ (x : SeatValue). slice_get made x.program) s.is ∙ m.at in
     let smalls = first_none (small_stack_from 0 made v.seats) (small_memory _ job.memory) v.opens in
-    let l = stack_holds 0 made v.seats k s.seat m.made_program smalls.0 s.at at in
-    let g = goes.each k (opening_run m.made_program s.seat) r (opened_at made v.seats k s.seat m.made_program fit s.at at) there in
     let typed : Each (λ (x : SeatValue). list_all (λ line. list_all is_byte line) x.lines ≡ true) (map seat_value v.seats) =
     subst (λ xs. Each (λ (x : SeatValue). list_all (λ line. list_all is_byte line) x.lines ≡ true) xs) (sym v.is.are_seats)
     (lines_of_texts bytes false job v.is.is is_byte small) in
+    made_at value.program t v.is.are_made of_text
+    (λ q placed is.
+    let at : slice_get made s.seat.program ≡ Some q = ap (λ (x : SeatValue). slice_get made x.program) s.is ∙ placed in
+    let l = stack_holds 0 made v.seats k s.seat q smalls.0 s.at at in
+    let g = goes.each k (opening_run q s.seat) r (opened_at made v.seats k s.seat q fit s.at at) there in
     subst (λ (x : SeatValue). FollowsUnits us x r) s.is
-    (follows_units law (length made) t.units us m.made_program s.seat r covered m.is (each_slice (SeatFits (length made)) seat_value v.seats k s.seat fit s.at)
+    (follows_units law (length made) t.units us q s.seat r units is (each_slice (SeatFits (length made)) seat_value v.seats k s.seat fit s.at)
     (each_slice (λ (x : SeatValue). list_all (λ line. list_all is_byte line) x.lines ≡ true) seat_value v.seats k s.seat typed s.at) l
-    (flat_run made m.made_program s.seat r at g))
+    (flat_run made q s.seat r at g)))
 
-pub each_is_as_alone : SourceLaws → (bytes : List ℕ) → list_all is_byte bytes ≡ true → (job : JobValue) (made : List Program) (w : World)
+pub each_is_as_alone : TextsCarry → (bytes : List ℕ) → list_all is_byte bytes ≡ true → (job : JobValue) (made : List Program) (w : World)
     → Runs bytes job made w → EachIsAsAlone job w.runs
 each_is_as_alone law bytes small job made w v =
     let fits = jobs_fit bytes false job v.is.is in
@@ -210,7 +173,5 @@ each_is_as_alone law bytes small job made w v =
     (turns_go_on (codes_of made) job.quantum job.turns (opening job.memory v.seats made)) in
     record {
       count = goes.same_count ∙ opened_count made v.seats fit ∙ sym (length-map v.seats seat_value) ∙ ap length v.is.are_seats;
-      each = each_at bytes job made w v fit goes;
-      follows = each_follows law.carry bytes small job made w v fit goes;
-      thin_too = λ texts unit w. law.thin w.thin.source unit w.thin.thin;
+      follows = each_follows law bytes small job made w v fit goes;
     }

@@ -1,4 +1,3 @@
-pub mod ClosedJobs
 pub mod Loops
 pub mod Making
 pub mod Copies
@@ -7,6 +6,7 @@ pub mod LineLemmas
 pub mod Sureness
 pub mod Needs
 pub mod Unique
+pub mod Decided
 pub mod CarriedSessions
 pub mod Headline
 pub mod Opening

@@ -3,11 +3,11 @@ use Rattle.std.proofs.Common.{ℕ, ◌≡◌, Bool, true, false, nat_eq, List, O
 use Rattle.std.specs.Prelude.{slice_get, codes, IfOk}
 use Rattle.job_report.specs.declared.refusals.ModulesRefusal.{ModulesRefusal}
 use Rattle.job_report.specs.Refusals.{job_refused, modules_refused}
-use Rattle.job_text.specs.States.{TextValue}
-use Rattle.mpe_segmenter.specs.declared.faults.PrepFault.{PrepFault}
-use Rattle.mpe_segmenter.specs.declared.faults.PrepFault.TheVariants as link
-use Rattle.mpe_turns.specs.declared.fault.OpenFault.{OpenFault}
-use Rattle.mpe_turns.specs.declared.fault.OpenFault.TheVariants.{StackTooSmall, MemoryTooSmall, NoMemory}
+use Rattle.job_gen.specs.job_text.States.{TextValue}
+use Rattle.spl_linkable.specs.mpe_segmenter.declared.faults.PrepFault.{PrepFault}
+use Rattle.spl_linkable.specs.mpe_segmenter.declared.faults.PrepFault.TheVariants as link
+use Rattle.job_runs.specs.mpe_turns.declared.fault.OpenFault.{OpenFault}
+use Rattle.job_runs.specs.mpe_turns.declared.fault.OpenFault.TheVariants.{StackTooSmall, MemoryTooSmall, NoMemory}
 use Rattle.spl_program.specs.declared.faults.ProgramFault.{ProgramFault}
 use Rattle.spl_program.specs.declared.faults.ProgramFault.TheVariants as why
 use Rattle.hp3000_top.specs.Programs.{fault_line, told_of, told_line, link_line, IsRefused, faulty, unlinked, FirstRefused}

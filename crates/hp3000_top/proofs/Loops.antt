@@ -4,11 +4,11 @@ use Rattle.std.specs.Prelude.{slice_get, IfErr, IsErrAnd}
 use Rattle.std.proofs.Math.Seq.{take-suc, drop-cons}
 use Rattle.std.proofs.lemmas.List.{map_push, take-append-drop, map-append}
 use Rattle.hp_program.specs.declared.program.Program.{Program}
-use Rattle.job_text.specs.declared.job.Text.{Text}
-use Rattle.job_text.specs.Fits.{Each, ProgramFits, JobFits}
-use Rattle.job_text.specs.Jobs.{JobValue}
-use Rattle.job_text.specs.States.{TextValue}
-use Rattle.job_text.specs.Views.{text_value}
+use Rattle.job_gen.specs.job_text.declared.job.Text.{Text}
+use Rattle.job_gen.specs.job_text.Fits.{Each, ProgramFits, JobFits}
+use Rattle.job_gen.specs.job_text.Jobs.{JobValue}
+use Rattle.job_gen.specs.job_text.States.{TextValue}
+use Rattle.job_gen.specs.job_text.Views.{text_value}
 use Rattle.hp3000_top.specs.declared.unmade.Unmade.{Unmade}
 use Rattle.hp3000_top.specs.declared.unmade.Unmade.TheVariants as unmade
 use Rattle.hp3000_top.specs.Programs.{IsMade, IsRefused, AreMade, FirstRefused}

@@ -2,34 +2,34 @@
 -- 1. what is made of a program fits its need         (all_fit)
 -- 2. stacks are as small for the one as for the other (smalls_same)
 -- 3. and the memory as large                          (opens_so)
-use Rattle.std.proofs.Common.{ℕ, zero, suc, ◌≡◌, ◌+◌, ◌≤◌, Bool, true, false, List, [], ◌∷◌, map, length, Option, None, Some, slice_get, refl, sym, ap, subst, ◌∙◌, arith}
+use Rattle.std.proofs.Common.{ℕ, zero, suc, ◌≡◌, ◌+◌, ◌≤◌, Bool, List, [], ◌∷◌, map, length, None, Some, slice_get, refl, ap, subst, ◌∙◌, arith}
 use Rattle.std.specs.Prelude.{nat_lt, max, if◌then◌else◌}
 use Rattle.std.proofs.Math.Nat.{max-le, le-max_left, le-max_right}
 use Rattle.std.proofs.lemmas.Bool.{le-ltb}
-use Rattle.job_text.specs.States.{TextValue}
-use Rattle.job_text.specs.Views.{seat_value}
+use Rattle.job_gen.specs.job_text.States.{TextValue}
+use Rattle.job_gen.specs.job_text.Views.{seat_value}
 use Rattle.hp_program.specs.declared.program.Program.{Program}
 use Rattle.hp_program.specs.Programs.{segments_of, words_of}
-use Rattle.mpe_overlay.specs.Codes.{codes_of}
-use Rattle.mpe_session.specs.declared.seat.Seat.{Seat}
-use Rattle.mpe_worlds.specs.Opening.{seated_words, largest_segment, largest, memory_needed}
-use Rattle.mpe_turns.specs.declared.fault.OpenFault.{OpenFault}
-use Rattle.mpe_turns.specs.declared.fault.OpenFault.TheVariants.{StackTooSmall, MemoryTooSmall}
-use Rattle.mpe_turns.specs.Opening.{first_of_two, stack_needed, small_stack, small_stack_from, small_memory, refusal}
-use Rattle.spl_meaning.specs.Tables.{Source}
-use Rattle.spl_meaning.specs.Bodies.{data_words}
-use Rattle.spl_build.specs.Built.{IsBuilt}
-use Rattle.spl_bounds.specs.Programs.{IsOf, most_words}
-use Rattle.spl_bounds.proofs.Words.{keep_bounds}
-use Rattle.spl_bounds.proofs.Data.{initial_data}
-use Rattle.spl_bounds.proofs.Few.{segments_few}
+use Rattle.job_runs.specs.mpe_overlay.Codes.{codes_of}
+use Rattle.job_gen.specs.mpe_session.declared.seat.Seat.{Seat}
+use Rattle.job_runs.specs.mpe_worlds.Opening.{seated_words, largest_segment, largest, memory_needed}
+use Rattle.job_runs.specs.mpe_turns.declared.fault.OpenFault.{OpenFault}
+use Rattle.job_runs.specs.mpe_turns.declared.fault.OpenFault.TheVariants.{StackTooSmall, MemoryTooSmall}
+use Rattle.job_runs.specs.mpe_turns.Opening.{first_of_two, stack_needed, small_stack, small_stack_from, small_memory, refusal}
+use Rattle.spl_program.specs.spl_meaning.Tables.{Source}
+use Rattle.spl_program.specs.spl_meaning.Bodies.{data_words}
+use Rattle.spl_linkable.specs.spl_build.Built.{IsBuilt}
+use Rattle.spl_numbered.specs.spl_bounds.Programs.{IsOf, most_words}
+use Rattle.spl_numbered.proofs.spl_bounds_proofs.Words.{keep_bounds}
+use Rattle.spl_numbered.proofs.spl_bounds_proofs.Data.{initial_data}
+use Rattle.spl_numbered.proofs.spl_bounds_proofs.Few.{segments_few}
 use Rattle.spl_linkable.specs.Linkable as l
+use Rattle.spl_program.proofs.ProgramLaws.{programs_unique}
 use Rattle.hp3000_top.specs.Programs.{IsMade, AreMade, IsSure, AreSure}
 use Rattle.hp3000_top.specs.Programs as p
 use Rattle.hp3000_top.specs.Needs.{Need, Needs, AllNeed, small_by, first_small, held_words, most_needed}
 use Rattle.hp3000_top.specs.Needs as d
-use Rattle.hp3000_top.specs.Steps.{IsCopy}
-use Rattle.hp3000_top.proofs.Sureness.{made_same, same_units, within_not_beyond, within_rules}
+use Rattle.hp3000_top.proofs.Sureness.{kept_rules}
 
 -- ---- 1. programs
 
@@ -69,26 +69,16 @@ built_fits us q w b = record {
   words = largest_few (segments_of q) (most_words us) (λ s. segments_few keep_bounds us b.modules b.layout.globals.items q s (built_of us q w b));
 }
 
--- of a thin unit all programs are equal
-same_fits : {a b : Program} → IsCopy a b → Fits b (record { stack = stack_needed a; words = largest_segment (segments_of a) })
-same_fits {a} {b} c = record {
-  stack = ap (λ (g : List ℕ). length g + 4) c.globals;
-  words = subst (λ (ss : List (List ℕ)). largest_segment (segments_of b) ≤ largest_segment ss) c.segments (no_more (largest_segment (segments_of b)));
-}
-
 one_fits : (t : TextValue) (n : Need) (q : Program) → Needs t n → IsMade t.units q → Fits q n
-one_fits t n q (d.Needs.is_thin unit a k m) v = same_fits (made_same t.units unit a q k (p.IsMade.thin unit k m) v)
-one_fits t n q (d.Needs.is_linkable us k h) (p.IsMade.thin unit w m) = absurd (within_not_beyond t.units unit us w k)
-one_fits t n q (d.Needs.is_linkable us k h) (p.IsMade.built vs w b) =
-    built_fits us q (within_rules t.units us k) (subst (λ (ys : List Source). IsBuilt ys q) (same_units t.units vs us w k) b)
+one_fits t n q (d.Needs.is_linkable us k h) v =
+    built_fits us q (kept_rules t.units us k) (subst (λ (ys : List Source). IsBuilt ys q) (programs_unique t.units v.units us v.are k) v.built)
 
 pub all_fit : {ts : List TextValue} {ns : List Need} {qs : List Program} → AllNeed ts ns → AreMade ts qs → AllFit qs ns
 all_fit d.AllNeed.none p.AreMade.none = none
 all_fit (d.AllNeed.more {t = t} {d = n} k ks) (p.AreMade.more {p = q} v vs) = more (one_fits t n q k v) (all_fit ks vs)
 
 one_sure : (t : TextValue) (n : Need) → Needs t n → IsSure t
-one_sure t n (d.Needs.is_thin unit a k m) = p.IsSure.is_thin unit k
-one_sure t n (d.Needs.is_linkable us k h) = p.IsSure.is_linkable us k h
+one_sure t n (d.Needs.is_linkable us k h) = record { units = us; are = k; linkable = h }
 
 -- no line refuses them
 pub all_sure : {ts : List TextValue} {ns : List Need} → AllNeed ts ns → AreSure ts

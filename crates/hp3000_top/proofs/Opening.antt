@@ -3,18 +3,18 @@ use Rattle.std.proofs.Common.{ℕ, ◌≡◌, ◌≢◌, ◌≤◌, List, length
 use Rattle.std.specs.Prelude.{slice_get, IfOk, IfSome}
 use Rattle.std.proofs.lemmas.List.{length-map}
 use Rattle.hp_program.specs.declared.program.Program.{Program}
-use Rattle.job_text.specs.declared.job.Job.{Job}
-use Rattle.job_text.specs.Fits.{SeatFits, JobFits}
-use Rattle.job_text.specs.Views.{text_value, seat_value, job_value}
-use Rattle.mpe_overlay.specs.Codes.{codes_of}
-use Rattle.mpe_session.specs.declared.seat.Seat.{Seat}
-use Rattle.mpe_worlds.specs.Opening.{opening}
-use Rattle.mpe_worlds.specs.Dispatch.{after}
-use Rattle.mpe_turns.specs.declared.fault.OpenFault.{OpenFault}
-use Rattle.mpe_turns.specs.declared.fault.OpenFault.TheVariants.{NoMemory}
-use Rattle.mpe_turns.specs.declared.monitor.Monitor.{Monitor}
-use Rattle.mpe_turns.specs.Monitors.{codes_in, world_of}
-use Rattle.mpe_turns.specs.Opening.{AreSeats, refusal}
+use Rattle.job_gen.specs.job_text.declared.job.Job.{Job}
+use Rattle.job_gen.specs.job_text.Fits.{SeatFits, JobFits}
+use Rattle.job_gen.specs.job_text.Views.{text_value, seat_value, job_value}
+use Rattle.job_runs.specs.mpe_overlay.Codes.{codes_of}
+use Rattle.job_gen.specs.mpe_session.declared.seat.Seat.{Seat}
+use Rattle.job_runs.specs.mpe_worlds.Opening.{opening}
+use Rattle.job_runs.specs.mpe_worlds.Dispatch.{after}
+use Rattle.job_runs.specs.mpe_turns.declared.fault.OpenFault.{OpenFault}
+use Rattle.job_runs.specs.mpe_turns.declared.fault.OpenFault.TheVariants.{NoMemory}
+use Rattle.job_runs.specs.mpe_turns.declared.monitor.Monitor.{Monitor}
+use Rattle.job_runs.specs.mpe_turns.Monitors.{codes_in, world_of}
+use Rattle.job_runs.specs.mpe_turns.Opening.{AreSeats, refusal}
 use Rattle.hp3000_top.specs.Programs.{AreMade}
 use Rattle.hp3000_top.specs.declared.answer.Answer.{Answer}
 use Rattle.hp3000_top.specs.declared.answer.Answer.TheVariants.{Report, Crowded, File, Listing, Refusal}

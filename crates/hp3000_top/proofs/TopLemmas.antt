@@ -7,9 +7,9 @@ use Rattle.hp_outside.specs.Whole.{ReadsToEnd, AppendsPrefix}
 use Rattle.hp_outside.specs.Faults.{Rose, HasCause}
 use Rattle.hp_outside.specs.declared.streams.Failed.{Failed}
 use Rattle.hp_program.specs.declared.program.Program.{Program}
-use Rattle.job_text.specs.Jobs.{JobValue}
-use Rattle.mpe_worlds.specs.Worlds.{World}
-use Rattle.mpe_turns.specs.Monitors.{world_of}
+use Rattle.job_gen.specs.job_text.Jobs.{JobValue}
+use Rattle.job_runs.specs.mpe_worlds.Worlds.{World}
+use Rattle.job_runs.specs.mpe_turns.Monitors.{world_of}
 use Rattle.hp3000_top.specs.declared.answer.Answer.{Answer}
 use Rattle.hp3000_top.specs.declared.answer.Answer.TheVariants.{Report, Crowded, File, Listing, Refusal}
 use Rattle.hp3000_top.specs.declared.exit.Exit.{Exit}
@@ -19,12 +19,14 @@ use Rattle.hp3000_top.specs.declared.verbs.Verb.{Verb}
 use Rattle.hp3000_top.specs.declared.verbs.Verb.TheVariants as verb
 use Rattle.hp3000_top.specs.Causes.{RunsJobs, account_of, Runs, IsPrepared, CauseOf, SureCauseOf, ComesTo}
 use Rattle.hp3000_top.specs.Causes as c
-use Rattle.hp3000_top.specs.Answers.{Over, Certain, IsWhole, Refuses, BreaksOff, HasRun, DeliversJob, DeliversOf, Delivers, ReportsAsAlone, CarriesPrepared, AreAsAlone, IsSurelyDoneOf, IsSurelyDone, IsDone, IsSurelyRefused, IsRefusedBy, IsCrowded, MadeBy, MadeAt, RanAt}
+use Rattle.hp3000_top.specs.Answers.{Over, Certain, IsWhole, Refuses, BreaksOff, HasRun, DeliversJob, DeliversOf, Delivers, ReportsAsAlone, CarriesPrepared, AreAsAlone, IsSurelyDoneOf, IsSurelyDone, IsDone, IsSurelyRefused, IsRefusedBy, IsCrowded, CarriesCrowded, MadeBy, MadeAt, RanAt}
 use Rattle.hp3000_top.specs.Steps.{IsInput, IsAnswered, IsTaken, text_of, exit_of, made_by, ran_by}
 use Rattle.hp3000_top.specs.Steps as s
+use Rattle.hp3000_top.specs.Decided.{IsNamedOf, IsLeftToWords, CrowdsOf, IsDecided}
+use Rattle.hp3000_top.proofs.Decided.{refused_by_words}
 use Rattle.hp3000_top.proofs.Unique.{crowded_cause, jobs_refuse, jobs_are_not_refused, prepared_not_sure, listed_no_cause, sure_same, done_no_cause}
 use Rattle.std.specs.List.{list_all}
-use Rattle.hp3000_top.proofs.CarriedSessions.{SourceLaws}
+use Rattle.hp3000_top.proofs.CarriedSessions.{TextsCarry}
 use Rattle.hp3000_top.specs.Carried.{is_byte, CarryTheirs}
 use Rattle.hp3000_top.proofs.Headline.{carry_theirs, each_is_as_alone}
 
@@ -167,7 +169,7 @@ done_so v left rest bytes a old new faults m0 m1 r0 r1 x r k (s.IsTaken.whole q 
     over_so (λ bs. DeliversOf v bs m1 r1 old new) v left rest bytes r (delivered v bytes a old new m0 m1 r0 r1 k (sym q ∙ w) t m d)
 done_so v left rest bytes a old new faults m0 m1 r0 r1 x r k (s.IsTaken.cut q t f m d) w = let n = sym q ∙ w in cc
 
-alone_of : SourceLaws → (v : Verb) (bytes : List ℕ) → list_all is_byte bytes ≡ true → (job : JobValue) (made : List Program) (w : World) (text : List ℕ) (old new : Option (List ℕ)) → Runs bytes job made w
+alone_of : TextsCarry → (v : Verb) (bytes : List ℕ) → list_all is_byte bytes ≡ true → (job : JobValue) (made : List Program) (w : World) (text : List ℕ) (old new : Option (List ℕ)) → Runs bytes job made w
     → text ≡ account_of v bytes job w → Appends old new text → ReportsAsAlone v bytes made old new
 alone_of law v bytes small job made w text old new k t p = record {
   job = job;
@@ -178,12 +180,12 @@ alone_of law v bytes small job made w text old new k t p = record {
   appends = subst (λ (t : List ℕ). Appends old new t) t p;
 }
 
-reported_alone : SourceLaws → (v : Verb) (bytes : List ℕ) → list_all is_byte bytes ≡ true → (job : JobValue) (made m1 : List Program) (w : World) (text : List ℕ) (old new : Option (List ℕ))
+reported_alone : TextsCarry → (v : Verb) (bytes : List ℕ) → list_all is_byte bytes ≡ true → (job : JobValue) (made m1 : List Program) (w : World) (text : List ℕ) (old new : Option (List ℕ))
     → Runs bytes job made w → text ≡ account_of v bytes job w → Appends old new text → m1 ≡ made → ReportsAsAlone v bytes m1 old new
 reported_alone law v bytes small job made m1 w text old new k t p m =
     subst (λ (ms : List Program). ReportsAsAlone v bytes ms old new) (sym m) (alone_of law v bytes small job made w text old new k t p)
 
-alone : SourceLaws → (v : Verb) (bytes : List ℕ) → list_all is_byte bytes ≡ true → (a : Answer) (old new : Option (List ℕ)) (m0 m1 : List Program) → RunsJobs v → IsAnswered bytes v a → exit_of a ≡ e.Done
+alone : TextsCarry → (v : Verb) (bytes : List ℕ) → list_all is_byte bytes ≡ true → (a : Answer) (old new : Option (List ℕ)) (m0 m1 : List Program) → RunsJobs v → IsAnswered bytes v a → exit_of a ≡ e.Done
     → Appends old new (text_of a) → m1 ≡ made_by a m0 → ReportsAsAlone v bytes m1 old new
 alone law v bytes small a old new m0 m1 is (s.IsAnswered.report {made = made} {monitor = monitor} {text = text} job runs k t) h p m =
     reported_alone law v bytes small job made.items m1 (world_of monitor) text.items old new k t p m
@@ -198,7 +200,7 @@ taken_done : (a : Answer) (old new : Option (List ℕ)) (faults : Type 0) (m0 m1
 taken_done a old new faults m0 m1 r0 r1 x (s.IsTaken.whole q t m d) w = (sym q ∙ w, t, m)
 taken_done a old new faults m0 m1 r0 r1 x (s.IsTaken.cut q t f m d) w = let n = sym q ∙ w in cc
 
-run_headline : SourceLaws → (v : Verb) (left rest : Option (List ℕ)) (bytes : List ℕ) → list_all is_byte bytes ≡ true → (a : Answer) (old new : Option (List ℕ)) (faults : Type 0) (m0 m1 : List Program) (r0 r1 : Option Ran) (x : Exit)
+run_headline : TextsCarry → (v : Verb) (left rest : Option (List ℕ)) (bytes : List ℕ) → list_all is_byte bytes ≡ true → (a : Answer) (old new : Option (List ℕ)) (faults : Type 0) (m0 m1 : List Program) (r0 r1 : Option Ran) (x : Exit)
     → RunsJobs v → IsInput 1048576 v left rest bytes → IsAnswered bytes v a → IsTaken a old new faults m0 m1 r0 r1 x → x ≡ e.Done
     → Over v left (λ bs. ReportsAsAlone v bs m1 old new)
 run_headline law v left rest bytes small a old new faults m0 m1 r0 r1 x is r k u w =
@@ -206,7 +208,7 @@ run_headline law v left rest bytes small a old new faults m0 m1 r0 r1 x is r k u
     over_so (λ bs. ReportsAsAlone v bs m1 old new) v left rest bytes r (alone law v bytes small a old new m0 m1 is k d.0 d.1 d.2)
 
 -- a program that is prepared carries its units
-prepared_carries : SourceLaws → (v : Verb) (bytes : List ℕ) (a : Answer) (m0 m1 : List Program) → v ≡ verb.Prep → IsAnswered bytes v a
+prepared_carries : TextsCarry → (v : Verb) (bytes : List ℕ) (a : Answer) (m0 m1 : List Program) → v ≡ verb.Prep → IsAnswered bytes v a
     → exit_of a ≡ e.Done → m1 ≡ made_by a m0 → CarriesPrepared bytes m1
 prepared_carries law v bytes a m0 m1 is (s.IsAnswered.report job runs k t) h m = absurd (subst RunsJobs is runs)
 prepared_carries law v bytes a m0 m1 is (s.IsAnswered.crowded need given runs t c) h m = cc
@@ -220,14 +222,14 @@ prepared_carries law v bytes a m0 m1 is (s.IsAnswered.file {made = made} job p k
 prepared_carries law v bytes a m0 m1 is (s.IsAnswered.listing p k t) h m = cc
 prepared_carries law v bytes a m0 m1 is (s.IsAnswered.refuses k c) h m = cc
 
-prep_headline : SourceLaws → (left rest : Option (List ℕ)) (bytes : List ℕ) (a : Answer) (old new : Option (List ℕ)) (faults : Type 0) (m0 m1 : List Program) (r0 r1 : Option Ran) (x : Exit)
+prep_headline : TextsCarry → (left rest : Option (List ℕ)) (bytes : List ℕ) (a : Answer) (old new : Option (List ℕ)) (faults : Type 0) (m0 m1 : List Program) (r0 r1 : Option Ran) (x : Exit)
     → IsInput 1048576 verb.Prep left rest bytes → IsAnswered bytes verb.Prep a → IsTaken a old new faults m0 m1 r0 r1 x → x ≡ e.Done
     → Over verb.Prep left (λ bs. CarriesPrepared bs m1)
 prep_headline law left rest bytes a old new faults m0 m1 r0 r1 x r k u w =
     let d = taken_done a old new faults m0 m1 r0 r1 x u w in
     over_so (λ bs. CarriesPrepared bs m1) verb.Prep left rest bytes r (prepared_carries law verb.Prep bytes a m0 m1 refl k d.0 d.2)
 
-pub headline_so : SourceLaws → (v : Verb) (left rest : Option (List ℕ)) (bytes : List ℕ) → list_all is_byte bytes ≡ true → (a : Answer) (old new : Option (List ℕ)) (faults : Type 0) (m0 m1 : List Program) (r0 r1 : Option Ran) (x : Exit)
+pub headline_so : TextsCarry → (v : Verb) (left rest : Option (List ℕ)) (bytes : List ℕ) → list_all is_byte bytes ≡ true → (a : Answer) (old new : Option (List ℕ)) (faults : Type 0) (m0 m1 : List Program) (r0 r1 : Option Ran) (x : Exit)
     → IsInput 1048576 v left rest bytes → IsAnswered bytes v a → IsTaken a old new faults m0 m1 r0 r1 x → x ≡ e.Done → AreAsAlone (Some v) left m1 old new
 headline_so law verb.Run left rest bytes small a old new faults m0 m1 r0 r1 x r k u w = run_headline law verb.Run left rest bytes small a old new faults m0 m1 r0 r1 x tt r k u w
 headline_so law (verb.Gen n) left rest bytes small a old new faults m0 m1 r0 r1 x r k u w =
@@ -249,6 +251,26 @@ pub complete_so : (v : Verb) (left rest : Option (List ℕ)) (bytes : List ℕ) 
 complete_so v left rest bytes a old new faults m0 m1 r0 r1 x r k (s.IsTaken.whole q t m d) b n =
     subst IsDone (sym (q ∙ surely_done v bytes a k (certain_so (λ bs. IsSurelyDoneOf v bs) v left rest bytes r b))) tt
 complete_so v left rest bytes a old new faults m0 m1 r0 r1 x r k (s.IsTaken.cut q t f m d) b n = absurd (n f)
+
+-- what words decide is done, or refused by a line that they decide
+decided_whole : (v : Verb) (left rest old new : Option (List ℕ)) (bytes : List ℕ) (a : Answer) (x : Exit) → x ≡ exit_of a → IsInput 1048576 v left rest bytes
+    → IsNamedOf v bytes → Appends old new (text_of a) → (exit_of a ≡ e.Refused → CauseOf v bytes (text_of a)) → IsDecided (exit_of a) (Some v) left old new
+decided_whole v left rest old new bytes (Report made monitor text) x q r b t k = tt
+decided_whole v left rest old new bytes (File made text) x q r b t k = tt
+decided_whole v left rest old new bytes (Listing text) x q r b t k = tt
+decided_whole v left rest old new bytes (Crowded made line) x q r b t k =
+    over_so (λ bs. (told : List ℕ) × CrowdsOf v bs told × Appends old new told) v left rest bytes r
+    (line.items, refused_by_words v bytes (Crowded made line) b (k refl), t)
+decided_whole v left rest old new bytes (Refusal line) x q r b t k =
+    over_so (λ bs. (told : List ℕ) × CrowdsOf v bs told × Appends old new told) v left rest bytes r
+    (line.items, refused_by_words v bytes (Refusal line) b (k refl), t)
+
+pub decided_so : (v : Verb) (left rest : Option (List ℕ)) (bytes : List ℕ) (a : Answer) (old new : Option (List ℕ)) (faults : Type 0) (m0 m1 : List Program) (r0 r1 : Option Ran) (x : Exit)
+    → IsInput 1048576 v left rest bytes → IsAnswered bytes v a → IsTaken a old new faults m0 m1 r0 r1 x → IsLeftToWords (Some v) left → (faults → ⊥) → IsDecided x (Some v) left old new
+decided_so v left rest bytes a old new faults m0 m1 r0 r1 x r k (s.IsTaken.whole q t m d) b n =
+    subst (λ (y : Exit). IsDecided y (Some v) left old new) (sym q)
+    (decided_whole v left rest old new bytes a x q r (certain_so (λ bs. IsNamedOf v bs) v left rest bytes r b) t (line_so v bytes a k))
+decided_so v left rest bytes a old new faults m0 m1 r0 r1 x r k (s.IsTaken.cut q t f m d) b n = absurd (n f)
 
 -- an answer to bytes that a line refuses is that line
 told_by : (v : Verb) (bytes line : List ℕ) (a : Answer) → IsAnswered bytes v a → SureCauseOf v bytes line → (exit_of a ≡ e.Refused) × (text_of a ≡ line)
@@ -286,25 +308,34 @@ done_made (verb.Gen n) left old new m0 m1 runs = tt
 done_made verb.Prep left old new m0 m1 runs = absurd runs
 done_made verb.List left old new m0 m1 runs = absurd runs
 
-made_whole : (v : Verb) (left rest old new : Option (List ℕ)) (bytes : List ℕ) (a : Answer) (m0 m1 : List Program) → IsInput 1048576 v left rest bytes
-    → IsAnswered bytes v a → Appends old new (text_of a) → m1 ≡ made_by a m0 → MadeAt (exit_of a) (Some v) left old new m0 m1
-made_whole v left rest old new bytes a m0 m1 r (s.IsAnswered.report job runs k t) w m = done_made v left old new m0 m1 runs
-made_whole v left rest old new bytes a m0 m1 r (s.IsAnswered.crowded {made = made} {line = line} need given runs t d) w m =
-    crowded_made v left rest old new bytes line.items m0 m1 runs r w (inl (need, given, t, subst (λ (ms : List Program). IsCrowded bytes ms need given) (sym m) d))
-made_whole v left rest old new bytes a m0 m1 r (s.IsAnswered.file job p k n f) w m = tt
-made_whole v left rest old new bytes a m0 m1 r (s.IsAnswered.listing p k t) w m = m
-made_whole verb.Run left rest old new bytes a m0 m1 r (s.IsAnswered.refuses {line = line} k d) w m =
-    crowded_made verb.Run left rest old new bytes line.items m0 m1 tt r w (inr (m, d.0, d.1))
-made_whole (verb.Gen n) left rest old new bytes a m0 m1 r (s.IsAnswered.refuses {line = line} k d) w m =
-    crowded_made (verb.Gen n) left rest old new bytes line.items m0 m1 tt r w (inr (m, d.0, d.1))
-made_whole verb.Prep left rest old new bytes a m0 m1 r (s.IsAnswered.refuses k d) w m = m
-made_whole verb.List left rest old new bytes a m0 m1 r (s.IsAnswered.refuses k d) w m = m
+-- programs that the memory is too small for carry their units
+crowded_carry : TextsCarry → (bytes : List ℕ) (made : List Program) (need given : ℕ) → IsCrowded bytes made need given → CarriesCrowded bytes made need given
+crowded_carry law bytes made need given d = record { crowded = d; carry = carry_theirs law d.job.programs made d.is.are_made }
 
-pub made_so : (v : Verb) (left rest : Option (List ℕ)) (bytes : List ℕ) (a : Answer) (old new : Option (List ℕ)) (faults : Type 0) (m0 m1 : List Program) (r0 r1 : Option Ran) (x : Exit)
+made_whole : TextsCarry → (v : Verb) (left rest old new : Option (List ℕ)) (bytes : List ℕ) (a : Answer) (m0 m1 : List Program) → IsInput 1048576 v left rest bytes
+    → IsAnswered bytes v a → Appends old new (text_of a) → m1 ≡ made_by a m0 → MadeAt (exit_of a) (Some v) left old new m0 m1
+made_whole law v left rest old new bytes a m0 m1 r (s.IsAnswered.report job runs k t) w m = done_made v left old new m0 m1 runs
+made_whole law v left rest old new bytes a m0 m1 r (s.IsAnswered.crowded {made = made} {line = line} need given runs t d) w m =
+    crowded_made v left rest old new bytes line.items m0 m1 runs r w (inl (
+      need,
+      given,
+      t,
+      subst (λ (ms : List Program). CarriesCrowded bytes ms need given) (sym m) (crowded_carry law bytes made.items need given d),
+    ))
+made_whole law v left rest old new bytes a m0 m1 r (s.IsAnswered.file job p k n f) w m = tt
+made_whole law v left rest old new bytes a m0 m1 r (s.IsAnswered.listing p k t) w m = m
+made_whole law verb.Run left rest old new bytes a m0 m1 r (s.IsAnswered.refuses {line = line} k d) w m =
+    crowded_made verb.Run left rest old new bytes line.items m0 m1 tt r w (inr (m, d))
+made_whole law (verb.Gen n) left rest old new bytes a m0 m1 r (s.IsAnswered.refuses {line = line} k d) w m =
+    crowded_made (verb.Gen n) left rest old new bytes line.items m0 m1 tt r w (inr (m, d))
+made_whole law verb.Prep left rest old new bytes a m0 m1 r (s.IsAnswered.refuses k d) w m = m
+made_whole law verb.List left rest old new bytes a m0 m1 r (s.IsAnswered.refuses k d) w m = m
+
+pub made_so : TextsCarry → (v : Verb) (left rest : Option (List ℕ)) (bytes : List ℕ) (a : Answer) (old new : Option (List ℕ)) (faults : Type 0) (m0 m1 : List Program) (r0 r1 : Option Ran) (x : Exit)
     → IsInput 1048576 v left rest bytes → IsAnswered bytes v a → IsTaken a old new faults m0 m1 r0 r1 x → MadeAt x (Some v) left old new m0 m1
-made_so v left rest bytes a old new faults m0 m1 r0 r1 x r k (s.IsTaken.whole q t m d) =
-    subst (λ (x : Exit). MadeAt x (Some v) left old new m0 m1) (sym q) (made_whole v left rest old new bytes a m0 m1 r k t m)
-made_so v left rest bytes a old new faults m0 m1 r0 r1 x r k (s.IsTaken.cut q t f m d) = subst (λ (x : Exit). MadeAt x (Some v) left old new m0 m1) (sym q) m
+made_so law v left rest bytes a old new faults m0 m1 r0 r1 x r k (s.IsTaken.whole q t m d) =
+    subst (λ (x : Exit). MadeAt x (Some v) left old new m0 m1) (sym q) (made_whole law v left rest old new bytes a m0 m1 r k t m)
+made_so law v left rest bytes a old new faults m0 m1 r0 r1 x r k (s.IsTaken.cut q t f m d) = subst (λ (x : Exit). MadeAt x (Some v) left old new m0 m1) (sym q) m
 
 -- what is left of a job that was run and done
 done_ran : (v : Verb) (r0 r1 : Option Ran) → RunsJobs v → RanAt e.Done (Some v) r0 r1

@@ -1,73 +1,40 @@
 -- What is certain of bytes comes to one thing: a line that refuses them, or a job that runs.
-use Rattle.std.proofs.Common.{◌≡◌, ℕ, true, false, ◌+◌, ◌≤◌, List, [], ◌∷◌, map, Option, None, Some, Result, Ok, Err, sym, ap, subst, ◌∙◌}
+use Rattle.std.proofs.Common.{◌≡◌, ℕ, true, false, ◌+◌, ◌≤◌, List, map, None, Some, Result, Ok, Err, sym, ap, subst, ◌∙◌}
 use Rattle.hp_program.specs.declared.program.Program.{Program}
-use Rattle.job_text.specs.Jobs.{JobValue, JobIs, JobBreaks}
-use Rattle.job_text.specs.States.{TextValue, SeatValue}
-use Rattle.job_text.specs.Views.{seat_value}
-use Rattle.job_text.proofs.JobLaws.{jobs_are_unique, jobs_break_nothing, faults_are_unique}
+use Rattle.job_gen.specs.job_text.Jobs.{JobValue, JobIs}
+use Rattle.job_gen.specs.job_text.States.{SeatValue}
+use Rattle.job_gen.specs.job_text.Views.{seat_value}
+use Rattle.job_gen.proofs.job_text_proofs.JobLaws.{jobs_are_unique, jobs_break_nothing, faults_are_unique}
 use Rattle.job_report.specs.Refusals.{job_refused, memory_refused}
 use Rattle.mpe_progfile.specs.declared.faults.FileFault.{FileFault}
 use Rattle.mpe_progfile.specs.Files.{IsFile}
 use Rattle.mpe_progfile.specs.Reading.{Parts}
 use Rattle.mpe_progfile.proofs.FileLaws.{file_read}
-use Rattle.mpe_session.specs.declared.seat.Seat.{Seat}
-use Rattle.mpe_worlds.specs.Worlds.{World}
-use Rattle.mpe_turns.specs.declared.fault.OpenFault.{OpenFault}
-use Rattle.mpe_turns.specs.declared.fault.OpenFault.TheVariants.{MemoryTooSmall}
-use Rattle.mpe_turns.specs.Opening.{refusal}
-use Rattle.spl_meaning.specs.Tables.{Source}
-use Rattle.mpe_segmenter.specs.declared.faults.PrepFault.{PrepFault}
-use Rattle.spl_build.specs.Built.{IsBuilt, IsUnlinked}
-use Rattle.spl_module_names.specs.Faults.{tells_words}
-use Rattle.spl_module_names.proofs.FaultLaws.{one_told, none_built}
-use Rattle.spl_linkable.specs.Linkable as l
-use Rattle.spl_linkable.proofs.LinkLaws.{none_told}
-use Rattle.spl_program.proofs.ListLemmas.{all_spelled}
-use Rattle.spl_program.proofs.ProgramLaws.{programs_unique, faults_are_one, program_has_none}
-use Rattle.thin_jobs.specs.ThinUnits as u
-use Rattle.thin_jobs.specs.ThinShapes.{thin_in}
-use Rattle.thin_compiler.specs.ProgramViews.{IsMadeOf}
-use Rattle.spl_program.specs.declared.faults.ProgramFault.{ProgramFault}
-use Rattle.spl_program.specs.Programs.{IsFault}
-use Rattle.hp3000_top.specs.Programs.{IsThin, IsWithin, IsBeyond, IsMade, IsRefused, faulty, unlinked, fault_line, link_line, AreMade, FirstRefused, AreWithin, IsSure, AreSure, FirstFaulty}
-use Rattle.hp3000_top.specs.Programs as p
+use Rattle.job_gen.specs.mpe_session.declared.seat.Seat.{Seat}
+use Rattle.job_runs.specs.mpe_worlds.Worlds.{World}
+use Rattle.job_runs.specs.mpe_turns.declared.fault.OpenFault.{OpenFault}
+use Rattle.job_runs.specs.mpe_turns.Opening.{refusal}
+use Rattle.hp3000_top.specs.Programs.{AreMade, FirstRefused, AreSure, FirstFaulty}
 use Rattle.hp3000_top.specs.declared.verbs.Verb.{Verb}
 use Rattle.hp3000_top.specs.declared.verbs.Verb.TheVariants as verb
 use Rattle.hp3000_top.specs.Causes.{RunsJobs, IsJob, Cause, SureCause, Runs, open_line, IsPrepared, Unprepared, SurelyUnprepared, Unlisted, CauseOf, SureCauseOf, file_line}
 use Rattle.hp3000_top.specs.Causes as c
-use Rattle.hp3000_top.specs.Answers.{IsCrowded, IsSurelyCrowded, SurelyRuns, IsSurelyDoneOf}
-use Rattle.hp3000_top.specs.Answers as an
-use Rattle.hp3000_top.specs.Steps.{IsCopy, AreCopies, IsOfStack}
-use Rattle.hp3000_top.specs.Steps as s
-use Rattle.hp3000_top.proofs.Copies.{same_refusal}
+use Rattle.hp3000_top.specs.Answers.{IsCrowded, IsSurelyDoneOf}
 use Rattle.hp3000_top.specs.Needs.{Need, AllNeed, first_small, held_words, most_needed, SurelyOpens}
-use Rattle.hp3000_top.proofs.Sureness.{some_is, all_made_same, within_not_first, sure_not_first, first_not_made, first_same}
-use Rattle.hp3000_top.proofs.Needs.{all_fit, all_sure, smalls_same, opens_so, stacks_refuse}
+use Rattle.hp3000_top.proofs.Sureness.{some_is, sure_not_first, first_not_made, first_same}
+use Rattle.hp3000_top.proofs.Needs.{all_fit, all_sure, opens_so, stacks_refuse}
 
 -- ---- jobs
 
 same_job : (bytes : List ℕ) (a b : JobValue) → JobIs bytes false a → JobIs bytes false b → a ≡ b
 same_job bytes a b v w = jobs_are_unique bytes false a b v w
 
-within_not_first_of : (bytes : List ℕ) (a b : JobValue) (line : List ℕ) → JobIs bytes false a → AreWithin a.programs → JobIs bytes false b
-    → FirstRefused b.programs line → ⊥
-within_not_first_of bytes a b line v vs w ws = within_not_first vs (subst (λ (j : JobValue). FirstRefused j.programs line) (same_job bytes b a w v) ws)
-
 first_not_made_of : (bytes : List ℕ) (a b : JobValue) (made : List Program) (line : List ℕ) → JobIs bytes false a → FirstFaulty a.programs line → JobIs bytes false b
     → AreMade b.programs made → ⊥
 first_not_made_of bytes a b made line v vs w ws =
     first_not_made vs (subst (λ (j : JobValue). AreMade j.programs made) (same_job bytes b a w v) ws)
 
--- whether the sessions of a job of thin programs open does not hang on which of equal programs they are of
-open_same : (bytes : List ℕ) (a b : JobValue) (made other : List Program) (xs ys : List Seat) → AreWithin a.programs → IsJob bytes a made xs → IsJob bytes b other ys
-    → refusal b.memory ys other ≡ refusal a.memory xs made
-open_same bytes a b made other xs ys k v w =
-    let same : b ≡ a = same_job bytes b a w.is v.is in
-    ap (λ m. refusal m ys other) (ap (λ (j : JobValue). j.memory) same)
-    ∙ same_refusal a.memory xs ys (all_made_same k v.are_made (subst (λ (j : JobValue). AreMade j.programs other) same w.are_made))
-    (v.are_seats ∙ ap (λ (j : JobValue). j.sessions) (sym same) ∙ sym w.are_seats)
-
--- nor on which programs are made of texts that no line refuses
+-- a job of programs that no line refuses is not refused for a program
 sure_not_first_of : (bytes : List ℕ) (a b : JobValue) (line : List ℕ) → JobIs bytes false a → AreSure a.programs → JobIs bytes false b
     → FirstRefused b.programs line → ⊥
 sure_not_first_of bytes a b line v vs w ws = sure_not_first vs (subst (λ (j : JobValue). FirstRefused j.programs line) (same_job bytes b a w v) ws)
@@ -88,23 +55,6 @@ opens_of bytes x b made seats w =
     (ap (first_small 0 x.needs) sessions ∙ x.stacks)
     (subst (λ (m : ℕ). held_words (map seat_value seats) + most_needed x.needs ≤ m) (ap (λ (j : JobValue). j.memory) (sym same))
     (subst (λ (ss : List SeatValue). held_words ss + most_needed x.needs ≤ x.job.memory) (sym sessions) x.memory))
-
--- ---- the memory
-
-pub breaks_not_crowded : (bytes : List ℕ) (l r : ℕ) (made : List Program) → JobBreaks bytes false l r → IsSurelyCrowded bytes made → ⊥
-breaks_not_crowded bytes l r made k x = jobs_break_nothing bytes false x.crowded.job l r x.crowded.is.is k
-
-pub refused_not_crowded : (bytes : List ℕ) (job : JobValue) (line : List ℕ) (made : List Program) → JobIs bytes false job → FirstRefused job.programs line
-    → IsSurelyCrowded bytes made → ⊥
-refused_not_crowded bytes job line made is k x = within_not_first_of bytes x.crowded.job job line x.crowded.is.is x.within is k
-
-of_stack : (f : OpenFault) (need given : ℕ) → Some f ≡ Some (MemoryTooSmall need given) → IsOfStack f → ⊥
-of_stack f need given e k = subst IsOfStack (some_is e) k
-
-pub stack_not_crowded : (bytes : List ℕ) (job : JobValue) (programs made : List Program) (seats : List Seat) (f : OpenFault) → IsJob bytes job programs seats
-    → refusal job.memory seats programs ≡ Some f → IsOfStack f → IsSurelyCrowded bytes made → ⊥
-stack_not_crowded bytes job programs made seats f j r k x =
-    of_stack f x.need x.given (sym r ∙ open_same bytes x.crowded.job job made programs x.crowded.seats seats x.within x.crowded.is j ∙ x.crowded.refused) k
 
 -- a memory that is too small refuses a job
 pub crowded_cause : (bytes line : List ℕ) (made : List Program) (need given : ℕ) → line ≡ memory_refused need given → IsCrowded bytes made need given → Cause bytes line
@@ -129,10 +79,6 @@ sure_cause_same bytes a b (c.SureCause.stacks job needs w k o) (c.Cause.lines {l
 sure_cause_same bytes a b (c.SureCause.stacks job needs w k o) (c.Cause.program other v vs) = absurd (sure_not_first_of bytes job other b w (all_sure k) v vs)
 sure_cause_same bytes a b (c.SureCause.stacks {f = f} job needs w k o) (c.Cause.sessions other others places v q) =
     line_same (sym (stacks_refuse_of bytes job other others places needs f w k o v) ∙ q)
-sure_cause_same bytes a b (c.SureCause.sessions job made seats w k o) (c.Cause.lines {l = l} {r = r} v) = absurd (jobs_break_nothing bytes false job l r w.is v)
-sure_cause_same bytes a b (c.SureCause.sessions job made seats w k o) (c.Cause.program other v vs) = absurd (within_not_first_of bytes job other b w.is k v vs)
-sure_cause_same bytes a b (c.SureCause.sessions job made seats v k o) (c.Cause.sessions other others places w q) =
-    line_same (sym o ∙ sym (open_same bytes job other made others seats places k v w) ∙ q)
 
 -- a job that runs is not certainly refused
 runs_not_sure : (bytes line : List ℕ) (job : JobValue) (made : List Program) (w : World) → Runs bytes job made w → SureCause bytes line → ⊥
@@ -140,25 +86,12 @@ runs_not_sure bytes line job made w v (c.SureCause.lines {l = l} {r = r} b) = jo
 runs_not_sure bytes line job made w v (c.SureCause.program other b bs) = first_not_made_of bytes other job made line b bs v.is.is v.is.are_made
 runs_not_sure bytes line job made w v (c.SureCause.stacks {f = f} other needs b k o) =
     let n = sym v.opens ∙ stacks_refuse_of bytes other job made v.seats needs f b k o v.is in cc
-runs_not_sure bytes line job made w v (c.SureCause.sessions other others places b k q) =
-    let n = sym v.opens ∙ open_same bytes other job others made places v.seats k b v.is ∙ q in cc
 
--- and one of thin programs that runs is not refused
-thin_no_cause : (bytes line : List ℕ) (job : JobValue) (made : List Program) (w : World) → Runs bytes job made w → AreWithin job.programs → Cause bytes line → ⊥
-thin_no_cause bytes line job made w v k (c.Cause.lines {l = l} {r = r} b) = jobs_break_nothing bytes false job l r v.is.is b
-thin_no_cause bytes line job made w v k (c.Cause.program other b bs) = within_not_first_of bytes job other line v.is.is k b bs
-thin_no_cause bytes line job made w v k (c.Cause.sessions other others places b q) =
-    let n = sym v.opens ∙ sym (open_same bytes job other made others v.seats places k v.is b) ∙ q in cc
-
--- nor is one whose sessions surely open
+-- one whose sessions surely open is not refused
 opens_no_cause : (bytes line : List ℕ) → SurelyOpens bytes → Cause bytes line → ⊥
 opens_no_cause bytes line x (c.Cause.lines {l = l} {r = r} b) = jobs_break_nothing bytes false x.job l r x.is b
 opens_no_cause bytes line x (c.Cause.program other b bs) = sure_not_first_of bytes x.job other line x.is (all_sure x.need) b bs
 opens_no_cause bytes line x (c.Cause.sessions other others places b q) = let n = sym (opens_of bytes x other others places b) ∙ q in cc
-
-surely_no_cause : (bytes line : List ℕ) → SurelyRuns bytes → Cause bytes line → ⊥
-surely_no_cause bytes line (an.SurelyRuns.thin job made w v k) b = thin_no_cause bytes line job made w v k b
-surely_no_cause bytes line (an.SurelyRuns.bounded x) b = opens_no_cause bytes line x b
 
 -- ---- a job to be prepared
 
@@ -217,7 +150,7 @@ sure_same (verb.Gen n) bytes a b k l = sure_cause_same bytes a b k l
 
 -- and none refuses those of which something is surely made
 pub done_no_cause : (v : Verb) (bytes line : List ℕ) → IsSurelyDoneOf v bytes → CauseOf v bytes line → ⊥
-done_no_cause verb.Run bytes line b k = surely_no_cause bytes line b k
+done_no_cause verb.Run bytes line b k = opens_no_cause bytes line b k
 done_no_cause verb.Prep bytes line b k = sure_not_unprepared bytes line b.0 b.1 b.2 b.3 k
 done_no_cause verb.List bytes line b k = listed_no_cause bytes line b.0 b.1 k
-done_no_cause (verb.Gen n) bytes line b k = surely_no_cause bytes line b k
+done_no_cause (verb.Gen n) bytes line b k = opens_no_cause bytes line b k

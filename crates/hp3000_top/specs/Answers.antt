@@ -1,32 +1,29 @@
 -- What the top call answers and writes.
-use Rattle.std.specs.Prelude.{ℕ, ◌≡◌, ◌≤◌, true, List, [], ◌∷◌, length, slice_get, Option, None, Some, IfSome, ◌⊎◌}
+use Rattle.std.specs.Prelude.{ℕ, ◌≡◌, ◌≤◌, List, [], ◌∷◌, length, slice_get, Option, None, Some, IfSome, ◌⊎◌}
 use Rattle.std.specs.Io.KnownBytes.{Appends, IsAtEnd}
 use Rattle.hp_outside.specs.Whole.{AppendsPrefix, IsLongerThan}
-use Rattle.job_text.specs.Jobs.{JobValue}
-use Rattle.job_text.specs.States.{TextValue, SeatValue}
+use Rattle.job_gen.specs.job_text.Jobs.{JobValue}
+use Rattle.job_gen.specs.job_text.States.{TextValue, SeatValue}
 use Rattle.job_report.specs.Listings.{listing_of}
 use Rattle.job_gen.specs.Generated.{generated}
 use Rattle.job_report.specs.Refusals.{memory_refused}
 use Rattle.hp_program.specs.declared.program.Program.{Program}
 use Rattle.mpe_progfile.specs.Files.{IsFile}
-use Rattle.mpe_worlds.specs.Worlds.{Run, World}
-use Rattle.mpe_turns.specs.declared.fault.OpenFault.TheVariants.{MemoryTooSmall}
-use Rattle.mpe_turns.specs.Opening.{refusal}
-use Rattle.mpe_turns.specs.Monitors.{world_of}
-use Rattle.mpe_session.specs.declared.seat.Seat as seats
-use Rattle.thin_jobs.specs.ThinUnits as u
-use Rattle.thin_meaning.specs.ThinMeaning.{Seat, alone}
-use Rattle.thin_carries.specs.Carries.{flat_point}
+use Rattle.job_runs.specs.mpe_worlds.Worlds.{Run, World}
+use Rattle.job_runs.specs.mpe_turns.declared.fault.OpenFault.TheVariants.{MemoryTooSmall}
+use Rattle.job_runs.specs.mpe_turns.Opening.{refusal}
+use Rattle.job_runs.specs.mpe_turns.Monitors.{world_of}
+use Rattle.job_gen.specs.mpe_session.declared.seat.Seat as seats
 use Rattle.hp3000_top.specs.declared.exit.Exit.{Exit}
 use Rattle.hp3000_top.specs.declared.exit.Exit.TheVariants as e
 use Rattle.hp3000_top.specs.declared.ran.Ran.{Ran}
 use Rattle.hp3000_top.specs.declared.ran.Ran.TheVariants.{Plain}
 use Rattle.hp3000_top.specs.declared.verbs.Verb.{Verb}
 use Rattle.hp3000_top.specs.declared.verbs.Verb.TheVariants as verb
-use Rattle.spl_meaning.specs.Tables.{Source}
-use Rattle.hp3000_top.specs.Programs.{IsWithin, AreWithin, AreSure}
-use Rattle.spl_carried.specs.Covered.{is_covered_program}
-use Rattle.hp3000_top.specs.Carried.{IsCovered, CarryTheirs, FollowsUnits}
+use Rattle.spl_program.specs.spl_meaning.Tables.{Source}
+use Rattle.hp3000_top.specs.Programs.{AreSure}
+use Rattle.spl_program.specs.Programs.{IsProgram}
+use Rattle.hp3000_top.specs.Carried.{CarryTheirs, FollowsUnits}
 use Rattle.hp3000_top.specs.Needs.{SurelyOpens}
 use Rattle.hp3000_top.specs.Causes.{IsJob, account_of, Runs, IsPrepared, CauseOf, SureCauseOf, ComesTo}
 
@@ -120,23 +117,11 @@ Delivers (Some v) left made ran old new = Over v left (λ bytes. DeliversOf v by
 
 -- ---- the headline
 
--- what a source run alone is given where a session has this seat
-abbrev pub seat_of : SeatValue → Seat
-seat_of s = record { stack = s.stack; extra = s.extra; room = s.room; lines = s.lines }
-
--- the session has printed what the unit, run alone, has printed after some number of its steps, and stands as that run stands there
-abbrev pub IsAsAlone : u.Unit → SeatValue → Run → Type 0
-IsAsAlone unit seat r = (n : ℕ) × (alone unit (seat_of seat) n ≡ flat_point r.machine)
-
--- There is a session for each of the job's. Each is so whose program's text is that of a thin unit within its bounds, and each follows the run of
--- its units whose program's are other units that are covered. Thin units are covered too, so this is said of all that are.
+-- There is a session for each of the job's, and each follows the run of its program's units, alone.
 pub record EachIsAsAlone (job : JobValue) (runs : List Run) : Type 0 where
   pub count : length runs ≡ length job.sessions
-  pub each : (k : ℕ) (seat : SeatValue) (t : TextValue) (r : Run) → slice_get job.sessions k ≡ Some seat → slice_get job.programs seat.program ≡ Some t
-      → slice_get runs k ≡ Some r → (unit : u.Unit) → IsWithin t.units unit → IsAsAlone unit seat r
   pub follows : (k : ℕ) (seat : SeatValue) (t : TextValue) (r : Run) → slice_get job.sessions k ≡ Some seat → slice_get job.programs seat.program ≡ Some t
-      → slice_get runs k ≡ Some r → (us : List Source) → IsCovered t.units us → FollowsUnits us seat r
-  pub thin_too : (texts : List (List ℕ)) (unit : u.Unit) (w : IsWithin texts unit) → is_covered_program [] (w.thin.source ∷ []) ≡ true
+      → slice_get runs k ≡ Some r → (us : List Source) → IsProgram t.units us → FollowsUnits us seat r
 
 -- what was told is of a world of the job's sessions in which each is so, and the programs carry what they are made of
 pub record ReportsAsAlone (v : Verb) (bytes : List ℕ) (made : List Program) (old new : Option (List ℕ)) : Type 0 where
@@ -170,18 +155,13 @@ Certain (verb.Gen n) left P = P (generated n)
 Certain _ None P = ⊥
 Certain _ (Some bytes) P = (length bytes ≤ 1048576) × P bytes
 
--- The bytes are a job of thin programs within their bounds whose sessions open; or one whose programs no line refuses and whose sessions open whichever
--- form each branch takes.
-pub data SurelyRuns (bytes : List ℕ) : Type 0 where
-  thin : (job : JobValue) (made : List Program) (w : World) → Runs bytes job made w → AreWithin job.programs → SurelyRuns bytes
-  bounded : SurelyOpens bytes → SurelyRuns bytes
-
--- they are such a job; or one whose only program no line refuses; or a program's file
+-- The bytes are a job whose programs no line refuses and whose sessions open whichever form each branch takes; or one whose only program no line
+-- refuses; or a program's file.
 abbrev pub IsSurelyDoneOf : Verb → List ℕ → Type 0
-IsSurelyDoneOf verb.Run bytes = SurelyRuns bytes
+IsSurelyDoneOf verb.Run bytes = SurelyOpens bytes
 IsSurelyDoneOf verb.Prep bytes = (job : JobValue) × (p : Program) × IsPrepared bytes job p × AreSure job.programs
 IsSurelyDoneOf verb.List bytes = (p : Program) × IsFile p bytes
-IsSurelyDoneOf (verb.Gen n) bytes = SurelyRuns bytes
+IsSurelyDoneOf (verb.Gen n) bytes = SurelyOpens bytes
 
 -- the bytes that the verb is about are so
 abbrev pub IsSurelyDone : Option Verb → Option (List ℕ) → Type 0
@@ -214,23 +194,21 @@ pub record IsCrowded (bytes : List ℕ) (made : List Program) (need given : ℕ)
   pub is : IsJob bytes job made seats
   pub refused : refusal job.memory seats made ≡ Some (MemoryTooSmall need given)
 
+-- these programs carry the units of their texts
+pub record CarriesCrowded (bytes : List ℕ) (made : List Program) (need given : ℕ) : Type 0 where
+  pub crowded : IsCrowded bytes made need given
+  pub carry : CarryTheirs crowded.job.programs made
+
 -- this is the line of a memory that is too small
 abbrev pub IsOfMemory : List ℕ → Type 0
 IsOfMemory line = (need : ℕ) × (given : ℕ) × (line ≡ memory_refused need given)
 
--- the memory is too small for a job of thin programs within their bounds
-pub record IsSurelyCrowded (bytes : List ℕ) (made : List Program) : Type 0 where
-  pub need : ℕ
-  pub given : ℕ
-  pub crowded : IsCrowded bytes made need given
-  pub within : AreWithin crowded.job.programs
-
--- Where the line is that of a memory that is too small, it is too small for these programs; where it is another they are as before, and the bytes
--- are no job for which the memory surely is too small.
+-- Where the line is that of a memory that is too small, it is too small for these programs, which carry their units; where it is another they are as
+-- before.
 abbrev pub MadeBy : List ℕ → List ℕ → List Program → List Program → Type 0
 MadeBy bytes line old new =
-    ((need : ℕ) × (given : ℕ) × (line ≡ memory_refused need given) × IsCrowded bytes new need given)
-    ⊎ ((new ≡ old) × (IsOfMemory line → ⊥) × ((made : List Program) → IsSurelyCrowded bytes made → ⊥))
+    ((need : ℕ) × (given : ℕ) × (line ≡ memory_refused need given) × CarriesCrowded bytes new need given)
+    ⊎ ((new ≡ old) × (IsOfMemory line → ⊥))
 
 -- What is done by `run`, `gen` and `prep` has its programs; a job to be run that is refused has them where the line that was appended is that of a
 -- memory that is too small. Else they are as before.

@@ -3,25 +3,25 @@ use Rattle.std.specs.Prelude.{ℕ, ◌≡◌, Bool, true, false, List, [], ◌�
 use Rattle.job_report.specs.declared.refusals.FileRefusal.TheVariants as wrong
 use Rattle.job_report.specs.Refusals.{job_refused, stack_refused, memory_refused, file_refused}
 use Rattle.job_report.specs.Listings.{listing_of}
-use Rattle.job_text.specs.Jobs.{JobValue, JobIs, JobBreaks}
-use Rattle.job_text.specs.Views.{seat_value}
+use Rattle.job_gen.specs.job_text.Jobs.{JobValue, JobIs, JobBreaks}
+use Rattle.job_gen.specs.job_text.Views.{seat_value}
 use Rattle.job_runs.specs.Reported.{names_of, report_on, summary_on}
 use Rattle.hp_program.specs.declared.program.Program.{Program}
 use Rattle.mpe_progfile.specs.declared.faults.FileFault.{FileFault}
 use Rattle.mpe_progfile.specs.declared.faults.FileFault.TheVariants as file_fault
 use Rattle.mpe_progfile.specs.Files.{IsFile}
 use Rattle.mpe_progfile.specs.Reading.{read_file}
-use Rattle.mpe_session.specs.declared.seat.Seat.{Seat}
-use Rattle.mpe_overlay.specs.Codes.{codes_of}
-use Rattle.mpe_worlds.specs.Worlds.{World}
-use Rattle.mpe_worlds.specs.Opening.{opening}
-use Rattle.mpe_worlds.specs.Dispatch.{after}
-use Rattle.mpe_turns.specs.declared.fault.OpenFault.{OpenFault}
-use Rattle.mpe_turns.specs.declared.fault.OpenFault.TheVariants.{StackTooSmall, MemoryTooSmall, NoMemory}
-use Rattle.mpe_turns.specs.Opening.{refusal}
+use Rattle.job_gen.specs.mpe_session.declared.seat.Seat.{Seat}
+use Rattle.job_runs.specs.mpe_overlay.Codes.{codes_of}
+use Rattle.job_runs.specs.mpe_worlds.Worlds.{World}
+use Rattle.job_runs.specs.mpe_worlds.Opening.{opening}
+use Rattle.job_runs.specs.mpe_worlds.Dispatch.{after}
+use Rattle.job_runs.specs.mpe_turns.declared.fault.OpenFault.{OpenFault}
+use Rattle.job_runs.specs.mpe_turns.declared.fault.OpenFault.TheVariants.{StackTooSmall, MemoryTooSmall, NoMemory}
+use Rattle.job_runs.specs.mpe_turns.Opening.{refusal}
 use Rattle.hp3000_top.specs.declared.verbs.Verb.{Verb}
 use Rattle.hp3000_top.specs.declared.verbs.Verb.TheVariants as verb
-use Rattle.hp3000_top.specs.Programs.{AreMade, FirstRefused, AreWithin, FirstFaulty}
+use Rattle.hp3000_top.specs.Programs.{AreMade, FirstRefused, FirstFaulty}
 use Rattle.hp3000_top.specs.Needs.{Need, AllNeed, first_small}
 
 -- ---- a job to be run
@@ -115,15 +115,12 @@ pub data ComesTo (bytes : List ℕ) : Verb → List ℕ → Type 0 where
 -- ---- what is certain
 
 -- As a job to be run the bytes can be refused by no other line than this: a line of the job breaks a rule; a program has a fault that is certain,
--- behind such as no line refuses; no line refuses a program, and a stack is too small; or all programs are thin ones within their bounds, and the
--- sessions don't open.
+-- behind such as no line refuses; or no line refuses a program, and a stack is too small.
 pub data SureCause (bytes : List ℕ) : List ℕ → Type 0 where
   lines : {l r : ℕ} → JobBreaks bytes false l r → SureCause bytes (job_refused l r)
   program : {line : List ℕ} (job : JobValue) → JobIs bytes false job → FirstFaulty job.programs line → SureCause bytes line
   stacks : {f : OpenFault} (job : JobValue) (needs : List Need) → JobIs bytes false job → AllNeed job.programs needs
       → first_small 0 needs job.sessions ≡ Some f → SureCause bytes (open_line f)
-  sessions : {f : OpenFault} (job : JobValue) (made : List Program) (seats : List Seat) → IsJob bytes job made seats → AreWithin job.programs
-      → refusal job.memory seats made ≡ Some f → SureCause bytes (open_line f)
 
 -- As a job to be prepared they can be refused by no other line than this.
 pub data SurelyUnprepared (bytes : List ℕ) : List ℕ → Type 0 where

@@ -1,32 +1,25 @@
 -- What programs surely need, whichever form each branch takes, and jobs whose sessions surely open.
 use Rattle.std.specs.Prelude.{ℕ, ◌≡◌, ◌+◌, ◌≤◌, nat_lt, max, false, if◌then◌else◌, List, [], ◌∷◌, slice_get, Option, None, Some}
-use Rattle.job_text.specs.Jobs.{JobValue, JobIs}
-use Rattle.job_text.specs.States.{TextValue, SeatValue}
-use Rattle.hp_program.specs.declared.program.Program.{Program}
-use Rattle.hp_program.specs.Programs.{segments_of}
-use Rattle.mpe_worlds.specs.Opening.{largest_segment}
-use Rattle.mpe_turns.specs.declared.fault.OpenFault.{OpenFault}
-use Rattle.mpe_turns.specs.declared.fault.OpenFault.TheVariants.{StackTooSmall}
-use Rattle.mpe_turns.specs.Opening.{first_of_two, stack_needed}
-use Rattle.spl_meaning.specs.Tables.{Source}
-use Rattle.spl_meaning.specs.Bodies.{data_words}
+use Rattle.job_gen.specs.job_text.Jobs.{JobValue, JobIs}
+use Rattle.job_gen.specs.job_text.States.{TextValue, SeatValue}
+use Rattle.job_runs.specs.mpe_turns.declared.fault.OpenFault.{OpenFault}
+use Rattle.job_runs.specs.mpe_turns.declared.fault.OpenFault.TheVariants.{StackTooSmall}
+use Rattle.job_runs.specs.mpe_turns.Opening.{first_of_two}
+use Rattle.spl_program.specs.spl_meaning.Tables.{Source}
+use Rattle.spl_program.specs.spl_meaning.Bodies.{data_words}
 use Rattle.spl_linkable.specs.Linkable.{IsLinkable}
-use Rattle.spl_bounds.specs.Programs.{most_words}
-use Rattle.thin_jobs.specs.ThinUnits as u
-use Rattle.thin_compiler.specs.ProgramViews.{IsMadeOf}
-use Rattle.hp3000_top.specs.Programs.{IsWithin, IsBeyond}
+use Rattle.spl_numbered.specs.spl_bounds.Programs.{most_words}
+use Rattle.spl_program.specs.Programs.{IsProgram}
 
 -- the words of the stack of each of a program's sessions, and of its largest segment
 pub record Need : Type 0 where
   pub stack : ℕ
   pub words : ℕ
 
--- A program that no line refuses needs so much. Of a thin unit within its bounds there is one program. Linkable units have several; all have the
--- units' data words, above which the main body's marker stands, and none has a segment of more words than the greatest bound.
+-- A program that no line refuses needs so much. Linkable units have several programs; all have the units' data words, above which the main body's
+-- marker stands, and none has a segment of more words than the greatest bound.
 pub data Needs (t : TextValue) : Need → Type 0 where
-  is_thin : (unit : u.Unit) (p : Program) → IsWithin t.units unit → IsMadeOf unit.names unit.statements p
-      → Needs t (record { stack = stack_needed p; words = largest_segment (segments_of p) })
-  is_linkable : (us : List Source) → IsBeyond t.units us → IsLinkable us → Needs t (record { stack = data_words us + 4; words = most_words us })
+  is_linkable : (us : List Source) → IsProgram t.units us → IsLinkable us → Needs t (record { stack = data_words us + 4; words = most_words us })
 
 -- each of them
 pub data AllNeed : List TextValue → List Need → Type 0 where

@@ -1,45 +1,26 @@
 -- What is made of the texts of a job's programs: a program of each, or the line that tells why not.
-use Rattle.std.specs.Prelude.{ℕ, ◌≡◌, true, false, List, [], ◌∷◌, Option, None, Some}
+use Rattle.std.specs.Prelude.{ℕ, ◌≡◌, false, List, [], ◌∷◌, Option, None, Some}
 use Rattle.job_report.specs.declared.refusals.UnitRefusal.TheVariants as wrong
 use Rattle.job_report.specs.declared.refusals.ModulesRefusal.{ModulesRefusal}
 use Rattle.job_report.specs.declared.refusals.ModulesRefusal.TheVariants as modules
 use Rattle.job_report.specs.Refusals.{unit_refused, modules_refused}
-use Rattle.job_text.specs.States.{TextValue}
+use Rattle.job_gen.specs.job_text.States.{TextValue}
 use Rattle.hp_program.specs.declared.program.Program.{Program}
-use Rattle.spl_meaning.specs.Tables.{Source}
+use Rattle.spl_program.specs.spl_meaning.Tables.{Source}
 use Rattle.spl_program.specs.declared.faults.ProgramFault.{ProgramFault}
 use Rattle.spl_program.specs.declared.faults.ProgramFault.TheVariants as why
 use Rattle.spl_program.specs.Programs.{IsProgram, IsFault}
-use Rattle.mpe_segmenter.specs.declared.faults.PrepFault.{PrepFault}
-use Rattle.mpe_segmenter.specs.declared.faults.PrepFault.TheVariants as link
-use Rattle.spl_build.specs.Built.{IsBuilt, IsUnlinked}
-use Rattle.spl_module_names.specs.Faults.{tells_words}
+use Rattle.spl_linkable.specs.mpe_segmenter.declared.faults.PrepFault.{PrepFault}
+use Rattle.spl_linkable.specs.mpe_segmenter.declared.faults.PrepFault.TheVariants as link
+use Rattle.spl_linkable.specs.spl_build.Built.{IsBuilt, IsUnlinked}
+use Rattle.spl_linkable.specs.spl_module_names.Faults.{tells_words}
 use Rattle.spl_linkable.specs.Linkable.{IsLinkable}
-use Rattle.thin_jobs.specs.ThinUnits as u
-use Rattle.thin_jobs.specs.ThinShapes.{thin_in}
-use Rattle.thin_compiler.specs.ThinCode.{is_in_bounds}
-use Rattle.thin_compiler.specs.ProgramViews.{IsMadeOf}
 
--- the texts are those of one unit that breaks no rule and passes no limit, and its tree is that of this thin unit
-pub record IsThin (texts : List (List ℕ)) (unit : u.Unit) : Type 0 where
-  pub source : Source
-  pub program : IsProgram texts (source ∷ [])
-  pub thin : thin_in source.subprogram source.segments source.tree ≡ Some unit
-
--- the texts are those of this thin unit, and it is within its bounds
-pub record IsWithin (texts : List (List ℕ)) (unit : u.Unit) : Type 0 where
-  pub thin : IsThin texts unit
-  pub fits : is_in_bounds unit.names unit.statements ≡ true
-
--- the texts are those of these units, which break no rule and pass no limit, and are no thin unit within its bounds
-pub record IsBeyond (texts : List (List ℕ)) (us : List Source) : Type 0 where
-  pub program : IsProgram texts us
-  pub beyond : (unit : u.Unit) → IsThin texts unit → is_in_bounds unit.names unit.statements ≡ false
-
--- The program is made of these texts: of a thin unit within its bounds, or of other units. The second holds of more than one program.
-pub data IsMade (texts : List (List ℕ)) (p : Program) : Type 0 where
-  thin : (unit : u.Unit) → IsWithin texts unit → IsMadeOf unit.names unit.statements p → IsMade texts p
-  built : (us : List Source) → IsBeyond texts us → IsBuilt us p → IsMade texts p
+-- The program is built of the units that these texts are, which break no rule and pass no limit. This holds of more than one program.
+pub record IsMade (texts : List (List ℕ)) (p : Program) : Type 0 where
+  pub units : List Source
+  pub are : IsProgram texts units
+  pub built : IsBuilt units p
 
 -- the line for a program whose texts have this fault; want of memory has none
 abbrev pub fault_line : List ℕ → ProgramFault → List ℕ
@@ -71,7 +52,7 @@ link_line name f = told_line name (told_of f)
 -- a program is refused by this line: its texts have a fault; or they have none, and modules of its units have one
 pub data IsRefused (t : TextValue) : List ℕ → Type 0 where
   faulty : {f : ProgramFault} → IsFault t.units f → IsRefused t (fault_line t.name f)
-  unlinked : {f : PrepFault} (us : List Source) → IsBeyond t.units us → IsUnlinked us f → IsRefused t (link_line t.name f)
+  unlinked : {f : PrepFault} (us : List Source) → IsProgram t.units us → IsUnlinked us f → IsRefused t (link_line t.name f)
 
 -- the programs are made of these texts, each of its own
 pub data AreMade : List TextValue → List Program → Type 0 where
@@ -83,17 +64,13 @@ pub data FirstRefused : List TextValue → List ℕ → Type 0 where
   here : {t : TextValue} {ts : List TextValue} {line : List ℕ} → IsRefused t line → FirstRefused (t ∷ ts) line
   behind : {t : TextValue} {ts : List TextValue} {line : List ℕ} (p : Program) → IsMade t.units p → FirstRefused ts line → FirstRefused (t ∷ ts) line
 
--- ---- what is certain: of thin units within their bounds one program can be made, of linkable units some program, and a fault of texts is one
+-- ---- what is certain: of linkable units some program can be made, and a fault of texts is one
 
--- each of these texts is that of a thin unit within its bounds
-pub data AreWithin : List TextValue → Type 0 where
-  none : AreWithin []
-  more : {t : TextValue} {ts : List TextValue} (unit : u.Unit) → IsWithin t.units unit → AreWithin ts → AreWithin (t ∷ ts)
-
--- No line refuses a program: it is a thin unit within its bounds, or other units of which a program can be made whichever form each branch takes.
-pub data IsSure (t : TextValue) : Type 0 where
-  is_thin : (unit : u.Unit) → IsWithin t.units unit → IsSure t
-  is_linkable : (us : List Source) → IsBeyond t.units us → IsLinkable us → IsSure t
+-- No line refuses a program: of its units one can be made whichever form each branch takes.
+pub record IsSure (t : TextValue) : Type 0 where
+  pub units : List Source
+  pub are : IsProgram t.units units
+  pub linkable : IsLinkable units
 
 -- no line refuses any of them
 pub data AreSure : List TextValue → Type 0 where
@@ -104,6 +81,6 @@ pub data AreSure : List TextValue → Type 0 where
 -- each branch takes, so no fault that counts words.
 pub data FirstFaulty : List TextValue → List ℕ → Type 0 where
   here : {t : TextValue} {ts : List TextValue} {f : ProgramFault} → IsFault t.units f → FirstFaulty (t ∷ ts) (fault_line t.name f)
-  unlinkable : {t : TextValue} {ts : List TextValue} {f : PrepFault} (us : List Source) → IsBeyond t.units us → IsUnlinked us f → tells_words f ≡ false
+  unlinkable : {t : TextValue} {ts : List TextValue} {f : PrepFault} (us : List Source) → IsProgram t.units us → IsUnlinked us f → tells_words f ≡ false
       → FirstFaulty (t ∷ ts) (link_line t.name f)
   behind : {t : TextValue} {ts : List TextValue} {line : List ℕ} → IsSure t → FirstFaulty ts line → FirstFaulty (t ∷ ts) line

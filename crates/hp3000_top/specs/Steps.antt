@@ -1,42 +1,35 @@
 -- What the parts of the top call answer.
-use Rattle.std.specs.Prelude.{ℕ, ◌≡◌, ◌≤◌, true, false, List, [], ◌∷◌, length, Option, None, Some, Result, Ok, Err, Vec}
+use Rattle.std.specs.Prelude.{ℕ, ◌≡◌, ◌≤◌, List, [], ◌∷◌, length, Option, None, Some, Vec}
 use Rattle.std.specs.Global.{Global}
 use Rattle.std.specs.Io.KnownBytes.{Appends}
 use Rattle.hp_outside.specs.Whole.{ReadsToEnd, AppendsPrefix}
 use Rattle.job_gen.specs.Generated.{generated}
 use Rattle.job_report.specs.Listings.{listing_of}
 use Rattle.job_report.specs.Refusals.{job_refused, memory_refused}
-use Rattle.job_text.specs.declared.faults.JobFault.{JobFault}
-use Rattle.job_text.specs.declared.faults.JobFault.TheVariants as job_fault
-use Rattle.job_text.specs.Jobs.{JobValue}
-use Rattle.job_text.specs.States.{TextValue}
+use Rattle.job_gen.specs.job_text.declared.faults.JobFault.{JobFault}
+use Rattle.job_gen.specs.job_text.declared.faults.JobFault.TheVariants as job_fault
+use Rattle.job_gen.specs.job_text.Jobs.{JobValue}
+use Rattle.job_gen.specs.job_text.States.{TextValue}
 use Rattle.job_runs.specs.Reported.{names_of}
 use Rattle.hp_program.specs.declared.program.Program.{Program}
 use Rattle.hp_program.specs.Programs.{segments_of}
-use Rattle.mpe_overlay.specs.Codes.{codes_of}
-use Rattle.mpe_session.specs.declared.seat.Seat.{Seat}
-use Rattle.mpe_worlds.specs.Opening.{opening}
-use Rattle.mpe_worlds.specs.Dispatch.{after}
-use Rattle.mpe_turns.specs.declared.fault.OpenFault.{OpenFault}
-use Rattle.mpe_turns.specs.declared.fault.OpenFault.TheVariants.{StackTooSmall, MemoryTooSmall}
+use Rattle.job_runs.specs.mpe_overlay.Codes.{codes_of}
+use Rattle.job_gen.specs.mpe_session.declared.seat.Seat.{Seat}
+use Rattle.job_runs.specs.mpe_worlds.Opening.{opening}
+use Rattle.job_runs.specs.mpe_worlds.Dispatch.{after}
+use Rattle.job_runs.specs.mpe_turns.declared.fault.OpenFault.{OpenFault}
+use Rattle.job_runs.specs.mpe_turns.declared.fault.OpenFault.TheVariants.{StackTooSmall, MemoryTooSmall}
 use Rattle.mpe_progfile.specs.declared.faults.FileFault.{FileFault}
 use Rattle.mpe_progfile.specs.declared.faults.FileFault.TheVariants as file_fault
 use Rattle.mpe_progfile.specs.Files.{IsFile}
-use Rattle.mpe_turns.specs.declared.monitor.Monitor.{Monitor}
-use Rattle.mpe_turns.specs.Monitors.{world_of}
-use Rattle.mpe_turns.specs.Opening.{refusal}
-use Rattle.mpe_segmenter.specs.declared.faults.PrepFault.{PrepFault}
-use Rattle.spl_build.specs.Built.{IsUnlinked}
-use Rattle.spl_meaning.specs.Tables.{Source}
+use Rattle.job_runs.specs.mpe_turns.declared.monitor.Monitor.{Monitor}
+use Rattle.job_runs.specs.mpe_turns.Monitors.{world_of}
+use Rattle.job_runs.specs.mpe_turns.Opening.{refusal}
+use Rattle.spl_linkable.specs.mpe_segmenter.declared.faults.PrepFault.{PrepFault}
+use Rattle.spl_linkable.specs.spl_build.Built.{IsUnlinked}
+use Rattle.spl_program.specs.spl_meaning.Tables.{Source}
 use Rattle.spl_program.specs.declared.faults.ProgramFault.{ProgramFault}
 use Rattle.spl_program.specs.declared.faults.ProgramFault.TheVariants as why
-use Rattle.spl_tree.specs.declared.units.SplUnit.{SplUnit}
-use Rattle.thin_jobs.specs.ThinUnits as u
-use Rattle.thin_jobs.specs.ThinShapes.{thin_of}
-use Rattle.thin_jobs.specs.declared.unread.Unread.{Unread}
-use Rattle.thin_jobs.specs.declared.unread.Unread.TheVariants as unread
-use Rattle.thin_compiler.specs.ThinCode.{is_in_bounds}
-use Rattle.thin_compiler.specs.ProgramViews.{IsMadeOf}
 use Rattle.hp3000_top.specs.declared.unmade.Unmade.{Unmade}
 use Rattle.hp3000_top.specs.declared.unmade.Unmade.TheVariants as unmade
 use Rattle.hp3000_top.specs.declared.answer.Answer.{Answer}
@@ -49,7 +42,7 @@ use Rattle.hp3000_top.specs.declared.verbs.Verb.{Verb}
 use Rattle.hp3000_top.specs.declared.verbs.Verb.TheVariants as verb
 use Rattle.hp3000_top.specs.Programs.{link_line, IsRefused, FirstRefused}
 use Rattle.hp3000_top.specs.Causes.{RunsJobs, account_with, account_of, Runs, IsPrepared, CauseOf, open_line}
-use Rattle.hp3000_top.specs.Answers.{IsCrowded, IsOfMemory, IsSurelyCrowded}
+use Rattle.hp3000_top.specs.Answers.{IsCrowded, IsOfMemory}
 
 -- ---- programs
 
@@ -57,19 +50,6 @@ use Rattle.hp3000_top.specs.Answers.{IsCrowded, IsOfMemory, IsSurelyCrowded}
 abbrev pub IsTold : ProgramFault → Type 0
 IsTold why.NoMemory = ⊥
 IsTold _ = Unit {0}
-
--- the thin unit that units are, if they are one
-abbrev pub thin_among : List SplUnit → Option u.Unit
-thin_among (unit ∷ []) = thin_of unit
-thin_among _ = None
-
--- a program is made of the thin unit, or there is none within its bounds
-abbrev pub MakesThin : Result Program Unread → Option u.Unit → Type 0
-MakesThin (Ok p) None = ⊥
-MakesThin (Ok p) (Some unit) = IsMadeOf unit.names unit.statements p × (is_in_bounds unit.names unit.statements ≡ true)
-MakesThin (Err unread.Later) None = Unit {0}
-MakesThin (Err unread.Later) (Some unit) = is_in_bounds unit.names unit.statements ≡ false
-MakesThin (Err unread.NoMemory) _ = Unit {0}
 
 -- the line tells the first fault of modules of the units; want of memory says nothing
 abbrev pub UnlinkedBy : List ℕ → List Source → Unmade → Type 0
@@ -146,11 +126,11 @@ abbrev pub IsFileOf : List Program → Answer → Type 0
 IsFileOf programs (File made text) = (p : Program) × (programs ≡ p ∷ []) × (made.items ≡ programs) × IsFile p text.items
 IsFileOf programs _ = ⊥
 
--- no line of a memory that is too small, and no job for which it surely is
-abbrev pub IsRoomy : Verb → List ℕ → List ℕ → Type 0
-IsRoomy verb.Run bytes line = (IsOfMemory line → ⊥) × ((made : List Program) → IsSurelyCrowded bytes made → ⊥)
-IsRoomy (verb.Gen n) bytes line = (IsOfMemory line → ⊥) × ((made : List Program) → IsSurelyCrowded bytes made → ⊥)
-IsRoomy _ bytes line = Unit {0}
+-- no line of a memory that is too small
+abbrev pub IsRoomy : Verb → List ℕ → Type 0
+IsRoomy verb.Run line = IsOfMemory line → ⊥
+IsRoomy (verb.Gen n) line = IsOfMemory line → ⊥
+IsRoomy _ line = Unit {0}
 
 -- what the bytes come to is what is answered
 pub data IsAnswered (bytes : List ℕ) : Verb → Answer → Type 0 where
@@ -161,7 +141,7 @@ pub data IsAnswered (bytes : List ℕ) : Verb → Answer → Type 0 where
   file : {made : Vec Program Global} {text : Vec ℕ Global} (job : JobValue) (p : Program) → IsPrepared bytes job p → made.items ≡ p ∷ [] → IsFile p text.items
       → IsAnswered bytes verb.Prep (File made text)
   listing : {text : Vec ℕ Global} (p : Program) → IsFile p bytes → text.items ≡ listing_of p → IsAnswered bytes verb.List (Listing text)
-  refuses : {v : Verb} {line : Vec ℕ Global} → CauseOf v bytes line.items → IsRoomy v bytes line.items → IsAnswered bytes v (Refusal line)
+  refuses : {v : Verb} {line : Vec ℕ Global} → CauseOf v bytes line.items → IsRoomy v line.items → IsAnswered bytes v (Refusal line)
 
 -- ---- the output
 

@@ -1,22 +1,20 @@
 //! The programs of a job, made of their texts.
 ghost use Rattle.std.specs.Prelude.{◌≡◌, map, IfOk, IfErr};
 ghost use Rattle.job_report.specs.Refusals.{unit_refused};
-ghost use Rattle.job_text.specs.Fits.{Each, ProgramFits};
-ghost use Rattle.job_text.specs.Views.{text_value};
+ghost use Rattle.job_gen.specs.job_text.Fits.{Each, ProgramFits};
+ghost use Rattle.job_gen.specs.job_text.Views.{text_value};
 ghost use Rattle.hp3000_top.specs.Programs.{fault_line, IsMade, AreMade};
-ghost use Rattle.hp3000_top.specs.Steps.{IsTold, thin_among, MakesThin, RefusedBy, RefusedAmong};
+ghost use Rattle.hp3000_top.specs.Steps.{IsTold, RefusedBy, RefusedAmong};
 
 use crate::filing::through_file;
 use crate::linking::linked_program;
 use crate::unmade::Unmade;
 use hp_program::Program;
+use job_gen::job_text::Text;
 use job_report::{Refusal, UnitRefusal, refusal_line};
-use job_text::Text;
 use spl_program::{ProgramFault, read_program};
-use spl_tree::{At, Name, SplUnit};
+use spl_tree::{At, Name};
 use std::alloc::{AllocError, Global};
-use thin_compiler::{is_thin, make};
-use thin_jobs::Unread;
 
 /// The line for something wrong at a place of a program's units.
 fn unit_line(alloc: Global, name: &Name, at: At, fault: UnitRefusal) -> Result<Vec<u8>, AllocError>
@@ -39,19 +37,6 @@ fn fault_line(alloc: Global, name: &Name, fault: ProgramFault) -> Result<Vec<u8>
     }
 }
 
-/// The program of units, if they are one thin unit within its bounds.
-fn thin_program(alloc: Global, units: &[SplUnit]) -> Result<Program, Unread>
-    ensures { MakesThin result (thin_among units.now) }
-{
-    match units {
-        [unit] => match is_thin(unit) {
-            true => make(alloc, unit),
-            false => Err(Unread::Later),
-        },
-        _ => Err(Unread::Later),
-    }
-}
-
 /// The program that is made of a program's texts.
 fn made_program(alloc: Global, text: &Text) -> Result<Program, Unmade>
     requires { ProgramFits 1048576 (text_value text.now) }
@@ -65,11 +50,7 @@ fn made_program(alloc: Global, text: &Text) -> Result<Program, Unmade>
             return Err(Unmade::Refused { line });
         }
     };
-    match thin_program(alloc, &sound.units) {
-        Ok(program) => Ok(program),
-        Err(Unread::Later) => linked_program(alloc, &text.name, &sound),
-        Err(Unread::NoMemory) => Err(Unmade::NoMemory),
-    }
+    linked_program(alloc, &text.name, &sound)
 }
 
 /// The program that is made of a program's texts, as it is read of its file: what runs is what `prep` writes.

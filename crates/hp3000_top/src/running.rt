@@ -1,10 +1,10 @@
 //! A job run: its sessions open and take their turns.
 ghost use Rattle.std.specs.Prelude.{◌≡◌, length, map, IfOk};
-ghost use Rattle.job_text.specs.Fits.{JobFits};
-ghost use Rattle.job_text.specs.Views.{job_value, text_value};
+ghost use Rattle.job_gen.specs.job_text.Fits.{JobFits};
+ghost use Rattle.job_gen.specs.job_text.Views.{job_value, text_value};
 ghost use Rattle.job_report.specs.Refusals.{stack_refused, memory_refused};
 ghost use Rattle.job_runs.specs.Reported.{names_of};
-ghost use Rattle.mpe_turns.specs.Monitors.{world_of};
+ghost use Rattle.job_runs.specs.mpe_turns.Monitors.{world_of};
 ghost use Rattle.hp3000_top.specs.Causes.{account_with};
 ghost use Rattle.hp3000_top.specs.Programs.{AreMade};
 ghost use Rattle.hp3000_top.specs.Steps.{AreCopies, Answers, IsUnopened};
@@ -12,10 +12,10 @@ ghost use Rattle.hp3000_top.specs.Steps.{AreCopies, Answers, IsUnopened};
 use crate::answer::Answer;
 use crate::verbs::Verb;
 use hp_program::Program;
+use job_gen::job_text::{Job, Text};
 use job_report::{Refusal, refusal_line};
+use job_runs::mpe_turns::{Monitor, OpenFault};
 use job_runs::{report_on, summary_on, take_turns};
-use job_text::{Job, Text};
-use mpe_turns::{Monitor, OpenFault};
 use std::alloc::{AllocError, Global};
 
 /// Programs equal to these.

@@ -5,6 +5,7 @@ ghost use Rattle.std.specs.List.{list_all};
 ghost use Rattle.hp3000_top.specs.Verbs.{asked};
 ghost use Rattle.hp3000_top.specs.Carried.{is_byte};
 ghost use Rattle.hp3000_top.specs.Answers.{TakesNone, IsWhole, IsTooLong, IsSilent, Delivers, Refuses, BreaksOff, AreAsAlone, IsSurelyDone, IsDone, IsSurelyRefused, IsRefusedBy, MadeAt, RanAt};
+ghost use Rattle.hp3000_top.specs.Decided.{IsLeftToWords, IsDecided};
 ghost use Rattle.hp3000_top.specs.Steps.{IsInput, IsTaken};
 
 use crate::answer::Answer;
@@ -15,10 +16,10 @@ use crate::verbs::{Verb, verb_of};
 use hp_outside::{ReadAll, Sink, Source, read_all, write_all};
 use hp_program::Program;
 use job_gen::generate;
-use spl_carried::covered_programs_carry;
 use spl_numbered::texts_number_segments;
+use spl_shapes::{cut_tokens_have_bytes, spelled_units_are_shaped};
+use spl_sound_programs::sound_programs_carry;
 use std::alloc::Global;
-use thin_covered::thin_units_are_covered;
 
 /// The greatest number of bytes of an input.
 const LIMIT: usize = 1_048_576;
@@ -116,11 +117,11 @@ pub fn hp3000_main<I: Source, O: Sink>(
     ensures refused { result ≡ Exit.Refused → Refuses (asked (map (λ w. string_bytes w) words.now.items)) (I.left input.old) (O.written output.old) (O.written output.new) }
     ensures done { result ≡ Exit.Done → Delivers (asked (map (λ w. string_bytes w) words.now.items)) (I.left input.old) made.new.items ran.new (O.written output.old) (O.written output.new) }
 
-    // The headline: each session of a thin program has printed and ended exactly as its source, run alone, has at some step, and so
-    // has each whose program's main body is covered, unless its run made a stray reference; and the programs that were made carry their sources,
-    // both ways. And when it has to be done, or refused.
+    // The headline: each session has printed and ended exactly as its source, run alone, has at some step, unless that run made a stray reference; and
+    // the programs carry their sources, both ways. And when it has to be done, or refused, or either, as the words of the programs decide.
     ensures headline { result ≡ Exit.Done → AreAsAlone (asked (map (λ w. string_bytes w) words.now.items)) (I.left input.old) made.new.items (O.written output.old) (O.written output.new) }
     ensures complete { IsSurelyDone (asked (map (λ w. string_bytes w) words.now.items)) (I.left input.old) → (Rose (I.faults input.old) (I.faults input.new) → ⊥) → (Rose (O.faults output.old) (O.faults output.new) → ⊥) → IsDone result }
+    ensures decided { IsLeftToWords (asked (map (λ w. string_bytes w) words.now.items)) (I.left input.old) → (Rose (I.faults input.old) (I.faults input.new) → ⊥) → (Rose (O.faults output.old) (O.faults output.new) → ⊥) → IsDecided result (asked (map (λ w. string_bytes w) words.now.items)) (I.left input.old) (O.written output.old) (O.written output.new) }
     ensures faulty { (line : List ℕ) → IsSurelyRefused (asked (map (λ w. string_bytes w) words.now.items)) (I.left input.old) line → (Rose (I.faults input.old) (I.faults input.new) → ⊥) → (Rose (O.faults output.old) (O.faults output.new) → ⊥) → IsRefusedBy result (O.written output.old) (O.written output.new) line }
 
     // What is made, and left of the run.
@@ -141,7 +142,8 @@ pub fn hp3000_main<I: Source, O: Sink>(
     };
     are_bytes(&bytes);
     texts_number_segments();
-    covered_programs_carry();
-    thin_units_are_covered();
+    spelled_units_are_shaped();
+    cut_tokens_have_bytes();
+    sound_programs_carry();
     deliver(answer, output, made, ran)
 }

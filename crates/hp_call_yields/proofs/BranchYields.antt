@@ -3,12 +3,12 @@ use Rattle.std.proofs.Common.{◌≡◌, ℕ, ◌<◌, ◌≤◌, Bool, false, [
 use Rattle.std.specs.Prelude.{◌%◌, ◌==◌, not, nat_lt, if◌then◌else◌}
 use Rattle.std.proofs.lemmas.Bool.{lt-ltb}
 use Rattle.std.proofs.lemmas.Bool.Decides.{nat_tests}
-use Rattle.hp_word.specs.declared.endings.Trap.TheVariants.{StackOverflow}
-use Rattle.hp_instr.specs.declared.instruction.Instr.TheVariants as i
-use Rattle.hp_session.specs.State.{Machine, word, without}
-use Rattle.hp_memory_rows.specs.MemoryRows.{is_named}
-use Rattle.spl_follow.specs.Spots.{Spot, landed}
-use Rattle.spl_follow.specs.Doing.{body, turned, subroutine_called}
+use Rattle.hp_yields.specs.hp_word.declared.endings.Trap.TheVariants.{StackOverflow}
+use Rattle.hp_yields.specs.hp_instr.declared.instruction.Instr.TheVariants as i
+use Rattle.hp_yields.specs.hp_session.State.{Machine, word, without}
+use Rattle.hp_yields.specs.hp_memory_rows.MemoryRows.{is_named}
+use Rattle.hp_yields.specs.spl_follow.Spots.{Spot, landed}
+use Rattle.hp_yields.specs.spl_follow.Doing.{body, turned, subroutine_called}
 use Rattle.hp_yields.proofs.YieldForms.{taken}
 
 -- BR

@@ -7,18 +7,18 @@ use Rattle.std.proofs.Common.{◌≡◌, ℕ, ◌+◌, ◌-◌, ◌*◌, ◌<◌
 use Rattle.std.specs.Prelude.{◌==◌, ◌||◌, nat_lt, nat_le, slice_index}
 use Rattle.std.proofs.lemmas.Bool.{lt-ltb, le-leb, cond-true, cond-false}
 use Rattle.std.proofs.lemmas.Bool.Decides.{nat_tests}
-use Rattle.hp_word.specs.declared.arithmetic.Code.{Code}
-use Rattle.hp_word.specs.declared.arithmetic.Code.TheVariants.{Greater, Less, Equal}
-use Rattle.hp_word.specs.declared.endings.Trap.TheVariants.{StackOverflow, Mode}
-use Rattle.hp_instr.specs.Bits.{bits, bit}
-use Rattle.hp_session.specs.declared.registers.Regs.{Regs}
-use Rattle.hp_session.specs.declared.places.Place.TheVariants.{Stack}
-use Rattle.hp_session.specs.State.{Machine, Outcome, word, without, wrapped, at_place}
-use Rattle.hp_session.specs.Places.{area, read_at}
-use Rattle.hp_call_rows.specs.declared.call_rows.Frame.{Frame}
-use Rattle.hp_call_rows.specs.CallRows.{flag, code_bits, code_of_bits, status, with_status, marker, entered, marker_at, old_q, returned, exited, subroutine_left}
-use Rattle.hp_memory_rows.specs.MoveRows.{move_row}
-use Rattle.hp_flat.specs.Step.{control_row}
+use Rattle.hp_yields.specs.hp_word.declared.arithmetic.Code.{Code}
+use Rattle.hp_yields.specs.hp_word.declared.arithmetic.Code.TheVariants.{Greater, Less, Equal}
+use Rattle.hp_yields.specs.hp_word.declared.endings.Trap.TheVariants.{StackOverflow, Mode}
+use Rattle.hp_yields.specs.hp_instr.Bits.{bits, bit}
+use Rattle.hp_yields.specs.hp_session.declared.registers.Regs.{Regs}
+use Rattle.hp_yields.specs.hp_session.declared.places.Place.TheVariants.{Stack}
+use Rattle.hp_yields.specs.hp_session.State.{Machine, Outcome, word, without, wrapped, at_place}
+use Rattle.hp_yields.specs.hp_session.Places.{area, read_at}
+use Rattle.hp_yields.specs.hp_call_rows.declared.call_rows.Frame.{Frame}
+use Rattle.hp_yields.specs.hp_call_rows.CallRows.{flag, code_bits, code_of_bits, status, with_status, marker, entered, marker_at, old_q, returned, exited, subroutine_left}
+use Rattle.hp_yields.specs.hp_memory_rows.MoveRows.{move_row}
+use Rattle.hp_yields.specs.hp_flat.Step.{control_row}
 use Rattle.hp_call_yields.specs.Steps.{with_status_of}
 use Rattle.hp_yields.proofs.YieldForms.{taken, found}
 

@@ -2,11 +2,11 @@
 use Rattle.std.proofs.Common.{◌≡◌, ℕ, ◌-◌, ◌≤◌, true, false, length, Option, Some, Ok, Err, ap, ◌∙◌}
 use Rattle.std.specs.Prelude.{not}
 use Rattle.std.proofs.lemmas.Bool.{cond-true, cond-false}
-use Rattle.hp_word.specs.declared.endings.Trap.TheVariants.{Bounds, OutputLimit}
-use Rattle.hp_word.specs.declared.intrinsics.Intrinsic.{Intrinsic}
-use Rattle.hp_word.specs.Intrinsics.{Effect, outcome, is_in_bounds, has_room, taken_words}
-use Rattle.hp_session.specs.State.{Machine, Outcome}
-use Rattle.hp_call_rows.specs.GateRows.{intrinsic, effect, after_call, performed, performed_if, served}
+use Rattle.hp_yields.specs.hp_word.declared.endings.Trap.TheVariants.{Bounds, OutputLimit}
+use Rattle.hp_yields.specs.hp_word.declared.intrinsics.Intrinsic.{Intrinsic}
+use Rattle.hp_yields.specs.hp_word.Intrinsics.{Effect, outcome, is_in_bounds, has_room, taken_words}
+use Rattle.hp_yields.specs.hp_session.State.{Machine, Outcome}
+use Rattle.hp_yields.specs.hp_call_rows.GateRows.{intrinsic, effect, after_call, performed, performed_if, served}
 use Rattle.hp_yields.proofs.YieldForms.{taken, found, lost}
 
 -- what is done with an effect

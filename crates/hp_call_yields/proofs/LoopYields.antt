@@ -1,16 +1,16 @@
 -- TBA and MTBA as pieces of code: the variable is read at its address, and the loop goes on or the three words are deleted.
 use Rattle.std.proofs.Common.{◌≡◌, ℕ, ◌≤◌, Bool, true, false, length, Ok, Err, ◌∙◌}
 use Rattle.std.proofs.lemmas.Bool.{cond-true, cond-false}
-use Rattle.hp_word.specs.Words.{added}
-use Rattle.hp_word.specs.declared.endings.Trap.{Trap}
-use Rattle.hp_word.specs.declared.endings.Trap.TheVariants.{IntegerOverflow}
-use Rattle.hp_instr.specs.declared.instruction.Instr.TheVariants as i
-use Rattle.hp_session.specs.declared.places.Place.TheVariants.{Stack}
-use Rattle.hp_session.specs.State.{Machine, Outcome, then_with, word}
-use Rattle.hp_session.specs.Places.{read_at, written}
-use Rattle.hp_memory_rows.specs.MemoryRows.{settled_at, goes_on}
-use Rattle.spl_follow.specs.Spots.{Spot}
-use Rattle.spl_follow.specs.Doing.{loop_turning, turned}
+use Rattle.hp_yields.specs.hp_word.Words.{added}
+use Rattle.hp_yields.specs.hp_word.declared.endings.Trap.{Trap}
+use Rattle.hp_yields.specs.hp_word.declared.endings.Trap.TheVariants.{IntegerOverflow}
+use Rattle.hp_yields.specs.hp_instr.declared.instruction.Instr.TheVariants as i
+use Rattle.hp_yields.specs.hp_session.declared.places.Place.TheVariants.{Stack}
+use Rattle.hp_yields.specs.hp_session.State.{Machine, Outcome, then_with, word}
+use Rattle.hp_yields.specs.hp_session.Places.{read_at, written}
+use Rattle.hp_yields.specs.hp_memory_rows.MemoryRows.{settled_at, goes_on}
+use Rattle.hp_yields.specs.spl_follow.Spots.{Spot}
+use Rattle.hp_yields.specs.spl_follow.Doing.{loop_turning, turned}
 use Rattle.hp_yields.proofs.YieldForms.{taken, found, lost}
 
 -- what a variable's word does that was read: by TBA, and by MTBA

@@ -2,12 +2,12 @@
 use Rattle.std.proofs.Common.{◌≡◌, ℕ, ◌+◌, ◌≤◌, Bool, true, false, List, [], ◌∷◌, length, Ok, Err, ap, ◌∙◌}
 use Rattle.std.specs.Prelude.{◌==◌, not, nat_lt, if◌then◌else◌}
 use Rattle.std.proofs.lemmas.Bool.{cond-true, cond-false}
-use Rattle.hp_word.specs.declared.arithmetic.Code.TheVariants.{Greater, Less, Equal}
-use Rattle.hp_word.specs.declared.endings.Trap.{Trap}
-use Rattle.hp_session.specs.declared.places.Place.TheVariants.{Db}
-use Rattle.hp_session.specs.State.{Machine, Outcome, then_with, word, without, replaced, with_code, wrapped, passed}
-use Rattle.hp_session.specs.Places.{byte_read, written, byte_written}
-use Rattle.hp_memory_rows.specs.MoveRows.{element_done, source_word, source_byte, words_moved, bytes_moved, is_of_class, as_moved, bytes_moved_while, byte_passed, scan_ended, scanned_while, scanned_until, bytes_compared, move_row}
+use Rattle.hp_yields.specs.hp_word.declared.arithmetic.Code.TheVariants.{Greater, Less, Equal}
+use Rattle.hp_yields.specs.hp_word.declared.endings.Trap.{Trap}
+use Rattle.hp_yields.specs.hp_session.declared.places.Place.TheVariants.{Db}
+use Rattle.hp_yields.specs.hp_session.State.{Machine, Outcome, then_with, word, without, replaced, with_code, wrapped, passed}
+use Rattle.hp_yields.specs.hp_session.Places.{byte_read, written, byte_written}
+use Rattle.hp_yields.specs.hp_memory_rows.MoveRows.{element_done, source_word, source_byte, words_moved, bytes_moved, is_of_class, as_moved, bytes_moved_while, byte_passed, scan_ended, scanned_while, scanned_until, bytes_compared, move_row}
 use Rattle.hp_call_yields.specs.Steps.{passes_while, ends_until}
 use Rattle.hp_yields.proofs.YieldForms.{taken, found, lost}
 

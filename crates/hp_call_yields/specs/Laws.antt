@@ -1,26 +1,26 @@
 -- The laws of this crate: what each step of a move does, and what calls, returns, intrinsics and loops leave.
 use Rattle.std.specs.Prelude.{◌≡◌, ℕ, ◌+◌, ◌<◌, ◌≤◌, Bool, false, [], ◌∷◌, ◌++◌, length, Ok, Err, ◌%◌, ◌==◌, not, nat_lt, if◌then◌else◌, ◌-◌, true, List, take, slice_index, Some}
-use Rattle.hp_word.specs.declared.endings.Trap.TheVariants.{StackOverflow, Mode, Bounds, OutputLimit, IntegerOverflow}
-use Rattle.hp_instr.specs.declared.instruction.Instr.TheVariants as i
-use Rattle.hp_session.specs.State.{Machine, word, without, wrapped, at_place, replaced, with_code, passed}
-use Rattle.hp_memory_rows.specs.MemoryRows.{is_named, goes_on}
-use Rattle.spl_follow.specs.Spots.{Spot, landed}
-use Rattle.spl_follow.specs.Doing.{body, turned, subroutine_called, loop_turning}
-use Rattle.hp_word.specs.declared.arithmetic.Code.TheVariants.{Greater, Less, Equal}
-use Rattle.hp_instr.specs.Bits.{bits}
-use Rattle.hp_session.specs.declared.registers.Regs.{Regs}
-use Rattle.hp_session.specs.declared.places.Place.TheVariants.{Stack, Db}
-use Rattle.hp_session.specs.Places.{read_at, written, byte_read, byte_written}
-use Rattle.hp_call_rows.specs.declared.call_rows.Frame.{Frame}
-use Rattle.hp_call_rows.specs.CallRows.{status, with_status, marker, entered, marker_at, old_q, exited, subroutine_left}
-use Rattle.hp_memory_rows.specs.MoveRows.{move_row, element_done, source_word, source_byte, is_of_class, as_moved, byte_passed, scan_ended}
-use Rattle.hp_flat.specs.Step.{control_row}
+use Rattle.hp_yields.specs.hp_word.declared.endings.Trap.TheVariants.{StackOverflow, Mode, Bounds, OutputLimit, IntegerOverflow}
+use Rattle.hp_yields.specs.hp_instr.declared.instruction.Instr.TheVariants as i
+use Rattle.hp_yields.specs.hp_session.State.{Machine, word, without, wrapped, at_place, replaced, with_code, passed}
+use Rattle.hp_yields.specs.hp_memory_rows.MemoryRows.{is_named, goes_on}
+use Rattle.hp_yields.specs.spl_follow.Spots.{Spot, landed}
+use Rattle.hp_yields.specs.spl_follow.Doing.{body, turned, subroutine_called, loop_turning}
+use Rattle.hp_yields.specs.hp_word.declared.arithmetic.Code.TheVariants.{Greater, Less, Equal}
+use Rattle.hp_yields.specs.hp_instr.Bits.{bits}
+use Rattle.hp_yields.specs.hp_session.declared.registers.Regs.{Regs}
+use Rattle.hp_yields.specs.hp_session.declared.places.Place.TheVariants.{Stack, Db}
+use Rattle.hp_yields.specs.hp_session.Places.{read_at, written, byte_read, byte_written}
+use Rattle.hp_yields.specs.hp_call_rows.declared.call_rows.Frame.{Frame}
+use Rattle.hp_yields.specs.hp_call_rows.CallRows.{status, with_status, marker, entered, marker_at, old_q, exited, subroutine_left}
+use Rattle.hp_yields.specs.hp_memory_rows.MoveRows.{move_row, element_done, source_word, source_byte, is_of_class, as_moved, byte_passed, scan_ended}
+use Rattle.hp_yields.specs.hp_flat.Step.{control_row}
 use Rattle.hp_call_yields.specs.Steps.{with_status_of, passes_while, ends_until}
-use Rattle.hp_word.specs.declared.intrinsics.Intrinsic.{Intrinsic}
-use Rattle.hp_word.specs.Intrinsics.{is_in_bounds, has_room, taken_words}
-use Rattle.hp_call_rows.specs.GateRows.{intrinsic, effect, after_call, served}
-use Rattle.hp_word.specs.Words.{added}
-use Rattle.hp_word.specs.declared.endings.Trap.{Trap}
+use Rattle.hp_yields.specs.hp_word.declared.intrinsics.Intrinsic.{Intrinsic}
+use Rattle.hp_yields.specs.hp_word.Intrinsics.{is_in_bounds, has_room, taken_words}
+use Rattle.hp_yields.specs.hp_call_rows.GateRows.{intrinsic, effect, after_call, served}
+use Rattle.hp_yields.specs.hp_word.Words.{added}
+use Rattle.hp_yields.specs.hp_word.declared.endings.Trap.{Trap}
 
 -- MOVE
 pub record WordMoves : Type 0 where

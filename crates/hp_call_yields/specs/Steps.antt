@@ -1,7 +1,7 @@
 -- What decides a step of a scan, and the registers that a marker gives back.
 use Rattle.std.specs.Prelude.{ℕ, ◌%◌, ◌/◌, ◌==◌, ◌||◌, Bool}
-use Rattle.hp_session.specs.declared.registers.Regs.{Regs}
-use Rattle.hp_session.specs.State.{Machine, word}
+use Rattle.hp_yields.specs.hp_session.declared.registers.Regs.{Regs}
+use Rattle.hp_yields.specs.hp_session.State.{Machine, word}
 
 -- SCW passes a byte that is the test word's right half
 abbrev pub passes_while : ℕ → Machine → Bool

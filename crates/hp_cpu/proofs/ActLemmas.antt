@@ -30,9 +30,9 @@ use Rattle.hp_rows.specs.Standing.{standing}
 use Rattle.hp_rows.specs.Numbers.{numbers, exchanging, moved}
 use Rattle.hp_rows.specs.Performs.{Performs}
 use Rattle.hp_rows.specs.Flushes.{Flushes, flush_moved}
-use Rattle.hp_call_rows.specs.declared.call_rows.Frame.{Frame}
-use Rattle.hp_call_rows.specs.GateRows.{after_call, effect, performed}
-use Rattle.hp_call_rows.specs.CallRows.{called, called_through, exited, label_at, marker_at, returned, subroutine_called, subroutine_left}
+use Rattle.hp_calls.specs.hp_call_rows.declared.call_rows.Frame.{Frame}
+use Rattle.hp_calls.specs.hp_call_rows.GateRows.{after_call, effect, performed}
+use Rattle.hp_calls.specs.hp_call_rows.CallRows.{called, called_through, exited, label_at, marker_at, returned, subroutine_called, subroutine_left}
 use Rattle.hp_stackops.specs.StackUses.{used_by}
 use Rattle.hp_fields.specs.FieldRows.{field_row}
 use Rattle.hp_fields.specs.FieldUses.{field_uses}

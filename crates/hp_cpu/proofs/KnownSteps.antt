@@ -16,7 +16,7 @@ use Rattle.hp_tos.specs.declared.stack.Stack.{Stack}
 use Rattle.hp_session.specs.declared.registers.Regs.{Regs}
 use Rattle.hp_session.specs.State.{Machine, opened}
 use Rattle.hp_rows.specs.Numbers.{Numbers}
-use Rattle.hp_call_rows.specs.CallRows.{label_at}
+use Rattle.hp_calls.specs.hp_call_rows.CallRows.{label_at}
 use Rattle.hp_stackops.specs.StackUses.{used_by}
 use Rattle.hp_moves.specs.MoveUses.{move_uses, step_uses}
 use Rattle.hp_calls.specs.declared.phases.Phase.{Phase}

@@ -17,16 +17,16 @@ use Rattle.hp_program.specs.Valid.{label_of}
 use Rattle.hp_session.specs.State.{Machine, Outcome, passing, then_with}
 use Rattle.hp_session.proofs.KeepingForms.{Keeps}
 use Rattle.hp_session.proofs.KeepingLaws.{after_row, either, passing-kept}
-use Rattle.hp_stack_rows.proofs.StackKeeping.{operated-kept}
-use Rattle.hp_word_rows.specs.WordRows.{count_row}
-use Rattle.hp_word_rows.proofs.WordKeeping.{shifting-kept, short_branch-kept, immediate_row-kept, count_row-kept}
-use Rattle.hp_memory_rows.specs.MoveRows.{move_row}
-use Rattle.hp_memory_rows.proofs.MemoryKeeping.{memory_row-kept, code_loaded-kept, branched-kept, loop_tested-kept, loop_stepped-kept}
-use Rattle.hp_memory_rows.proofs.MoveKeeping.{move_row-kept}
-use Rattle.hp_call_rows.specs.CallRows.{called, called_through, entered, exited, label_at, marker, subroutine_called, subroutine_left}
-use Rattle.hp_call_rows.specs.GateRows.{served}
-use Rattle.hp_call_rows.proofs.CallKeeping.{exited-kept, subroutine_called-kept, subroutine_left-kept}
-use Rattle.hp_call_rows.proofs.GateKeeping.{served-kept}
+use Rattle.hp_flat.proofs.hp_stack_rows_proofs.StackKeeping.{operated-kept}
+use Rattle.hp_flat.specs.hp_word_rows.WordRows.{count_row}
+use Rattle.hp_flat.proofs.hp_word_rows_proofs.WordKeeping.{shifting-kept, short_branch-kept, immediate_row-kept, count_row-kept}
+use Rattle.hp_flat.specs.hp_memory_rows.MoveRows.{move_row}
+use Rattle.hp_flat.proofs.hp_memory_rows_proofs.MemoryKeeping.{memory_row-kept, code_loaded-kept, branched-kept, loop_tested-kept, loop_stepped-kept}
+use Rattle.hp_flat.proofs.hp_memory_rows_proofs.MoveKeeping.{move_row-kept}
+use Rattle.hp_calls.specs.hp_call_rows.CallRows.{called, called_through, entered, exited, label_at, marker, subroutine_called, subroutine_left}
+use Rattle.hp_calls.specs.hp_call_rows.GateRows.{served}
+use Rattle.hp_calls.proofs.hp_call_rows_proofs.CallKeeping.{exited-kept, subroutine_called-kept, subroutine_left-kept}
+use Rattle.hp_calls.proofs.hp_call_rows_proofs.GateKeeping.{served-kept}
 use Rattle.hp_flat.specs.Step.{at_left, by_word, control_row, outcome, pair_row, row, word_row}
 
 -- a session with STACK and an extra segment of the same lengths

@@ -9,8 +9,8 @@ use Rattle.hp_instr.specs.declared.instruction.Instr.{Instr}
 use Rattle.hp_instr.specs.declared.instruction.Instr.TheVariants as words
 use Rattle.hp_instr.specs.Groups.{control_group, group}
 use Rattle.hp_session.specs.State.{Machine, passing}
-use Rattle.hp_word_rows.specs.WordRows.{count_row}
-use Rattle.hp_memory_rows.specs.MoveRows.{move_row}
+use Rattle.hp_flat.specs.hp_word_rows.WordRows.{count_row}
+use Rattle.hp_flat.specs.hp_memory_rows.MoveRows.{move_row}
 use Rattle.hp_fields.specs.FieldRows.{field_act, field_row}
 use Rattle.hp_memref.specs.ReferenceRows.{reference_row}
 use Rattle.hp_moves.specs.MoveSteps.{instruction_row}

@@ -13,7 +13,7 @@ use Rattle.hp_tos.specs.declared.stack.Stack.{Stack}
 use Rattle.hp_tos.specs.StackView.{seen}
 use Rattle.hp_session.specs.declared.registers.Regs.{Regs}
 use Rattle.hp_session.specs.State.{Machine, opened, passing}
-use Rattle.hp_call_rows.specs.GateRows.{performed}
+use Rattle.hp_calls.specs.hp_call_rows.GateRows.{performed}
 use Rattle.hp_rows.specs.Standing.{standing}
 use Rattle.hp_rows.specs.Numbers.{Numbers}
 use Rattle.hp_calls.specs.declared.phases.Phase.{Phase}

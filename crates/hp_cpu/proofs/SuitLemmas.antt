@@ -23,8 +23,8 @@ use Rattle.hp_session.specs.declared.registers.Regs.{Regs}
 use Rattle.hp_session.specs.Keeping.{Continues}
 use Rattle.hp_session.specs.State.{Machine}
 use Rattle.hp_rows.specs.Standing.{standing}
-use Rattle.hp_call_rows.specs.declared.call_rows.Frame.{Frame}
-use Rattle.hp_call_rows.specs.CallRows.{current, label_at, marker_at}
+use Rattle.hp_calls.specs.hp_call_rows.declared.call_rows.Frame.{Frame}
+use Rattle.hp_calls.specs.hp_call_rows.CallRows.{current, label_at, marker_at}
 use Rattle.hp_calls.specs.declared.phases.Phase.{Phase}
 use Rattle.hp_calls.specs.declared.phases.Phase.TheVariants.{Ready, Entering, Returning}
 use Rattle.hp_calls.specs.declared.phases.Called.{Called}

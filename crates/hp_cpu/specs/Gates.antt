@@ -10,7 +10,7 @@ use Rattle.hp_instr.specs.Instructions.{instruction}
 use Rattle.hp_program.specs.Programs.{code_word}
 use Rattle.hp_session.specs.declared.registers.Regs.{Regs}
 use Rattle.hp_session.specs.State.{Machine}
-use Rattle.hp_call_rows.specs.CallRows.{label_at}
+use Rattle.hp_calls.specs.hp_call_rows.CallRows.{label_at}
 use Rattle.hp_calls.specs.Transfers.{wanted}
 
 -- the instruction of the word at P; none where there is no word

@@ -6,8 +6,8 @@ use Rattle.hp_instr.specs.declared.instruction.Instr.{Instr}
 use Rattle.hp_instr.specs.declared.instruction.Instr.TheVariants.{Control}
 use Rattle.hp_instr.specs.declared.labels.Label.{Label}
 use Rattle.hp_session.specs.State.{Machine}
-use Rattle.hp_call_rows.specs.declared.call_rows.Frame.{Frame}
-use Rattle.hp_call_rows.specs.CallRows.{label_at, marker_at}
+use Rattle.hp_calls.specs.hp_call_rows.declared.call_rows.Frame.{Frame}
+use Rattle.hp_calls.specs.hp_call_rows.CallRows.{label_at, marker_at}
 use Rattle.hp_calls.specs.declared.phases.Phase.{Phase}
 use Rattle.hp_calls.specs.declared.phases.Phase.TheVariants.{Ready, Returning}
 use Rattle.hp_calls.specs.Transfers.{phase_through}

@@ -6,7 +6,7 @@ use Rattle.hp_tos.specs.Calls.{flushed}
 use Rattle.hp_tos.specs.StackView.{seen}
 use Rattle.hp_session.specs.State.{Machine, passing}
 use Rattle.hp_rows.specs.Numbers.{Numbers, numbers}
-use Rattle.hp_call_rows.specs.GateRows.{performed}
+use Rattle.hp_calls.specs.hp_call_rows.GateRows.{performed}
 use Rattle.hp_calls.specs.declared.phases.Phase.TheVariants.{Ready}
 use Rattle.hp_calls.specs.Transfers.{Waits as StillAt}
 use Rattle.hp_flat.specs.Step.{outcome}

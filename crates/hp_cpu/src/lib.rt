@@ -9,6 +9,12 @@ mod transfers;
 mod words;
 
 pub use cpu::{Cpu, Stepped};
+pub use hp_calls;
 pub use hp_calls::Phase;
+pub use hp_fields;
+pub use hp_flat;
+pub use hp_memref;
+pub use hp_moves;
 pub use hp_session::Regs;
+pub use hp_stackops;
 pub use hp_tos::Stack;

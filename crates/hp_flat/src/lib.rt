@@ -14,6 +14,7 @@ mod tests;
 mod word_tests;
 
 pub use flat::{Flat, OpenFlat};
+pub use hp_program;
 pub use hp_program::{CodeStore, Defect, Fetched, Program};
 pub use hp_session::{Line, Regs};
 pub use laws::{ended_runs_stay, runs_continue, steps_add_up};

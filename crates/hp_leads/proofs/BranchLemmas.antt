@@ -4,16 +4,16 @@ use Rattle.std.specs.Prelude.{◌%◌, nat_lt, if◌then◌else◌}
 use Rattle.std.proofs.lemmas.Bool.{cond-true}
 use Rattle.std.proofs.lemmas.Bool.Decides.{nat_tests}
 use Rattle.std.proofs.lemmas.List.{append-nil}
-use Rattle.hp_word.specs.declared.endings.Trap.{Trap}
-use Rattle.hp_word.specs.declared.endings.Ending.TheVariants.{Running}
-use Rattle.hp_instr.specs.declared.instruction.Instr.{Instr}
-use Rattle.hp_instr.specs.declared.instruction.Instr.TheVariants as i
-use Rattle.hp_program.specs.Programs.{code_word}
-use Rattle.hp_session.specs.State.{Machine, Outcome, then_with, wrapped, displaced, branching}
-use Rattle.hp_memory_rows.specs.MemoryRows.{code_read, branched}
-use Rattle.hp_flat.specs.Step.{at_left, word_row, row, ended, is_running, step, after}
-use Rattle.spl_branch.specs.Branches.{aimed, gap, toward, through, past}
-use Rattle.spl_branch.specs.Pieces.{is_direct}
+use Rattle.spl_follow.specs.hp_word.declared.endings.Trap.{Trap}
+use Rattle.spl_follow.specs.hp_word.declared.endings.Ending.TheVariants.{Running}
+use Rattle.spl_follow.specs.hp_instr.declared.instruction.Instr.{Instr}
+use Rattle.spl_follow.specs.hp_instr.declared.instruction.Instr.TheVariants as i
+use Rattle.spl_follow.specs.hp_program.Programs.{code_word}
+use Rattle.spl_follow.specs.hp_session.State.{Machine, Outcome, then_with, wrapped, displaced, branching}
+use Rattle.spl_follow.specs.hp_memory_rows.MemoryRows.{code_read, branched}
+use Rattle.spl_follow.specs.hp_flat.Step.{at_left, word_row, row, ended, is_running, step, after}
+use Rattle.spl_follow.specs.spl_branch.Branches.{aimed, gap, toward, through, past}
+use Rattle.spl_follow.specs.spl_branch.Pieces.{is_direct}
 use Rattle.spl_follow.specs.Spots.{Spot, spot, landed, next_word, pos, Point, on, Ground, start_at, visit_of, met, visits, print_between, prints}
 use Rattle.spl_follow.specs.Leading.{Reaches, Leads}
 use Rattle.spl_follow.specs.Doing.{turned, turning}

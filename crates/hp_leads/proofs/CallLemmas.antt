@@ -1,17 +1,17 @@
 -- Calls: a PCAL through an entry that leads to a procedure or to the gate, and a SCAL through a local entry.
 use Rattle.std.proofs.Common.{◌≡◌, ℕ, ◌+◌, ◌<◌, Bool, true, false, List, None, Some, Ok, Err, refl, sym, ap, subst, ◌∙◌, arith}
 use Rattle.std.specs.Prelude.{◌==◌, ◌||◌, nat_lt, if◌then◌else◌}
-use Rattle.hp_word.specs.declared.endings.Trap.TheVariants.{BadEntry, Mode}
-use Rattle.hp_instr.specs.declared.instruction.Instr.TheVariants as i
-use Rattle.hp_instr.specs.declared.labels.Label.{Label}
-use Rattle.hp_instr.specs.declared.labels.Label.TheVariants.{Local, External, Bad}
-use Rattle.hp_instr.specs.Labels.{label}
-use Rattle.hp_program.specs.Programs.{words_of}
-use Rattle.hp_program.specs.Valid.{entries_of, label_of}
-use Rattle.hp_session.specs.State.{Machine, Outcome, then_with, pushing, wrapped, at_place, passing}
-use Rattle.hp_call_rows.specs.CallRows.{label_at, entered, called_through, called as pcal_row, subroutine_at, subroutine_called as scal_row}
-use Rattle.hp_call_rows.specs.GateRows.{served}
-use Rattle.hp_flat.specs.Step.{at_left, control_row, word_row, row, ended, step}
+use Rattle.spl_follow.specs.hp_word.declared.endings.Trap.TheVariants.{BadEntry, Mode}
+use Rattle.spl_follow.specs.hp_instr.declared.instruction.Instr.TheVariants as i
+use Rattle.spl_follow.specs.hp_instr.declared.labels.Label.{Label}
+use Rattle.spl_follow.specs.hp_instr.declared.labels.Label.TheVariants.{Local, External, Bad}
+use Rattle.spl_follow.specs.hp_instr.Labels.{label}
+use Rattle.spl_follow.specs.hp_program.Programs.{words_of}
+use Rattle.spl_follow.specs.hp_program.Valid.{entries_of, label_of}
+use Rattle.spl_follow.specs.hp_session.State.{Machine, Outcome, then_with, pushing, wrapped, at_place, passing}
+use Rattle.spl_follow.specs.hp_call_rows.CallRows.{label_at, entered, called_through, called as pcal_row, subroutine_at, subroutine_called as scal_row}
+use Rattle.spl_follow.specs.hp_call_rows.GateRows.{served}
+use Rattle.spl_follow.specs.hp_flat.Step.{at_left, control_row, word_row, row, ended, step}
 use Rattle.hp_steady.specs.Rest.{Stays}
 use Rattle.hp_steady.proofs.StayForms.{pushing-stays}
 use Rattle.hp_steady.proofs.GateStays.{served-stays}

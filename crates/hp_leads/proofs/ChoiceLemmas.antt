@@ -4,22 +4,22 @@
 -- 3. a choice leaves the session where it stands                          (choice_stays)
 use Rattle.std.proofs.Common.{◌≡◌, ℕ, ◌+◌, Bool, true, false, List, length, Ok, Err, refl, ap}
 use Rattle.std.specs.Prelude.{◌%◌, ◌==◌, not, nat_le, if◌then◌else◌, Result, MatchResult, ⊤}
-use Rattle.hp_word.specs.Words.{added}
-use Rattle.hp_word.specs.declared.endings.Trap.{Trap}
-use Rattle.hp_word.specs.declared.endings.Trap.TheVariants.{StackUnderflow, Illegal, IntegerOverflow}
-use Rattle.hp_word.specs.declared.arithmetic.Arith.{Arith}
-use Rattle.hp_instr.specs.declared.instruction.Instr.{Instr}
-use Rattle.hp_instr.specs.declared.instruction.Instr.TheVariants as i
-use Rattle.hp_session.specs.declared.places.Place.{Place}
-use Rattle.hp_session.specs.declared.places.Place.TheVariants.{Stack}
-use Rattle.hp_session.specs.State.{Machine, Outcome, then_with, word, taking, without, instead, with_x, wrapped, branching}
-use Rattle.hp_session.specs.Places.{read_at, written}
-use Rattle.hp_word_rows.specs.WordRows.{branch_on_top, branch_on_x, branch_on_range, branch_on_parity, short_branch}
-use Rattle.hp_memory_rows.specs.MemoryRows.{settled_at, goes_on, branched, looped, loop_tested, loop_stepped}
-use Rattle.hp_flat.specs.Step.{at_left, word_row, row}
+use Rattle.spl_follow.specs.hp_word.Words.{added}
+use Rattle.spl_follow.specs.hp_word.declared.endings.Trap.{Trap}
+use Rattle.spl_follow.specs.hp_word.declared.endings.Trap.TheVariants.{StackUnderflow, Illegal, IntegerOverflow}
+use Rattle.spl_follow.specs.hp_word.declared.arithmetic.Arith.{Arith}
+use Rattle.spl_follow.specs.hp_instr.declared.instruction.Instr.{Instr}
+use Rattle.spl_follow.specs.hp_instr.declared.instruction.Instr.TheVariants as i
+use Rattle.spl_follow.specs.hp_session.declared.places.Place.{Place}
+use Rattle.spl_follow.specs.hp_session.declared.places.Place.TheVariants.{Stack}
+use Rattle.spl_follow.specs.hp_session.State.{Machine, Outcome, then_with, word, taking, without, instead, with_x, wrapped, branching}
+use Rattle.spl_follow.specs.hp_session.Places.{read_at, written}
+use Rattle.spl_follow.specs.hp_word_rows.WordRows.{branch_on_top, branch_on_x, branch_on_range, branch_on_parity, short_branch}
+use Rattle.spl_follow.specs.hp_memory_rows.MemoryRows.{settled_at, goes_on, branched, looped, loop_tested, loop_stepped}
+use Rattle.spl_follow.specs.hp_flat.Step.{at_left, word_row, row}
 use Rattle.hp_steady.specs.Rest.{rest, Stays}
 use Rattle.hp_steady.proofs.StayForms.{written-stays}
-use Rattle.spl_branch.specs.Pieces.{is_direct}
+use Rattle.spl_follow.specs.spl_branch.Pieces.{is_direct}
 use Rattle.spl_follow.specs.Spots.{Spot, landed}
 use Rattle.spl_follow.specs.Doing.{short_turning, loop_turning, tested_turning, stepped_turning, turned}
 use Rattle.hp_leads.specs.Choices.{Choice, chosen, having, range_choice, short_choice, loop_choice, tested_choice, stepped_choice, choice, goes_back, distance}

@@ -1,9 +1,9 @@
 -- Where entries of small tables lead, and choices of branches, by computing. A table has its labels with the first one last, and their number.
 use Rattle.std.proofs.Common.{◌≡◌, ℕ, true, false, List, [], ◌∷◌, Some, None, Ok, refl}
-use Rattle.hp_instr.specs.declared.instruction.Instr.TheVariants as i
-use Rattle.hp_instr.specs.Labels.{label}
-use Rattle.hp_session.specs.State.{Machine, without, opened}
-use Rattle.hp_memory_rows.specs.MemoryRows.{is_named}
+use Rattle.spl_follow.specs.hp_instr.declared.instruction.Instr.TheVariants as i
+use Rattle.spl_follow.specs.hp_instr.Labels.{label}
+use Rattle.spl_follow.specs.hp_session.State.{Machine, without, opened}
+use Rattle.spl_follow.specs.hp_memory_rows.MemoryRows.{is_named}
 use Rattle.spl_follow.specs.Doing.{gate, body}
 use Rattle.hp_leads.specs.Words.{entry_way, subroutine_way}
 use Rattle.hp_leads.specs.Choices.{chosen, choice}

@@ -5,10 +5,10 @@
 use Rattle.std.proofs.Common.{◌≡◌, ℕ, ◌+◌, ◌-◌, ◌<◌, true, false, [], ◌++◌, Ok, Err, refl, ap, ◌∙◌, arith}
 use Rattle.std.proofs.lemmas.Bool.{cond-true}
 use Rattle.std.proofs.lemmas.List.{append-nil}
-use Rattle.hp_word.specs.declared.endings.Ending.TheVariants.{Running}
-use Rattle.hp_instr.specs.declared.instruction.Instr.{Instr}
-use Rattle.hp_session.specs.State.{Machine, Outcome, then_with, wrapped, passing}
-use Rattle.hp_flat.specs.Step.{at_right, row, ended, is_running, outcome, step, after}
+use Rattle.spl_follow.specs.hp_word.declared.endings.Ending.TheVariants.{Running}
+use Rattle.spl_follow.specs.hp_instr.declared.instruction.Instr.{Instr}
+use Rattle.spl_follow.specs.hp_session.State.{Machine, Outcome, then_with, wrapped, passing}
+use Rattle.spl_follow.specs.hp_flat.Step.{at_right, row, ended, is_running, outcome, step, after}
 use Rattle.hp_steady.specs.Rest.{Stays, StaysSeated}
 use Rattle.spl_follow.specs.Spots.{Spot, spot, landed, next_word, pos, Point, Ground, start_at, print_between}
 use Rattle.spl_follow.specs.Leading.{Reaches, Leads}

@@ -4,15 +4,15 @@ use Rattle.std.specs.Prelude.{◌==◌, ◌&&◌, nat_le, if◌then◌else◌, O
 use Rattle.std.proofs.lemmas.Bool.{cond-true, cond-false, eq-eqb, ne_eqb}
 use Rattle.std.proofs.Math.Logic.{⊎_elim}
 use Rattle.std.proofs.lemmas.Bool.Decides.{nat_tests}
-use Rattle.hp_instr.specs.declared.instruction.Instr.{Instr}
-use Rattle.hp_instr.specs.declared.instruction.Instr.TheVariants as i
-use Rattle.hp_instr.specs.declared.instruction.Mode.{Mode}
-use Rattle.hp_instr.specs.declared.instruction.Op.{Op}
-use Rattle.hp_session.specs.State.{Machine, Outcome, then_with, wrapped, passing, passed}
-use Rattle.hp_stack_rows.specs.StackRows.{operated}
-use Rattle.hp_word_rows.specs.WordRows.{count_row}
-use Rattle.hp_memory_rows.specs.MoveRows.{move_row}
-use Rattle.hp_flat.specs.Step.{at_left, pair_row, control_row, word_row, row, ended, step}
+use Rattle.spl_follow.specs.hp_instr.declared.instruction.Instr.{Instr}
+use Rattle.spl_follow.specs.hp_instr.declared.instruction.Instr.TheVariants as i
+use Rattle.spl_follow.specs.hp_instr.declared.instruction.Mode.{Mode}
+use Rattle.spl_follow.specs.hp_instr.declared.instruction.Op.{Op}
+use Rattle.spl_follow.specs.hp_session.State.{Machine, Outcome, then_with, wrapped, passing, passed}
+use Rattle.spl_follow.specs.hp_stack_rows.StackRows.{operated}
+use Rattle.spl_follow.specs.hp_word_rows.WordRows.{count_row}
+use Rattle.spl_follow.specs.hp_memory_rows.MoveRows.{move_row}
+use Rattle.spl_follow.specs.hp_flat.Step.{at_left, pair_row, control_row, word_row, row, ended, step}
 use Rattle.hp_steady.specs.Rest.{seat, Stays, StaysOrPasses}
 use Rattle.hp_steady.proofs.StackStays.{operated-stays}
 use Rattle.hp_steady.proofs.WordStays.{shifting-stays, immediate_row-stays, count_row-stays}

@@ -1,16 +1,16 @@
 -- What a branch does before it goes on: whether it is taken, and the machine as it is then. So its row, and what it does as a piece of code,
 -- are told by the places alone at which they go on.
 use Rattle.std.specs.Prelude.{ℕ, ◌+◌, ◌%◌, ◌==◌, Bool, true, false, not, nat_le, length, if◌then◌else◌, Result, Ok, Err}
-use Rattle.hp_word.specs.Words.{added}
-use Rattle.hp_word.specs.declared.endings.Trap.{Trap}
-use Rattle.hp_word.specs.declared.endings.Trap.TheVariants.{Illegal, StackUnderflow}
-use Rattle.hp_instr.specs.declared.instruction.Instr.{Instr}
-use Rattle.hp_instr.specs.declared.instruction.Instr.TheVariants as i
-use Rattle.hp_session.specs.declared.places.Place.TheVariants.{Stack}
-use Rattle.hp_session.specs.State.{Machine, then_with, word, without, instead, with_x, with_code, wrapped}
-use Rattle.hp_session.specs.Places.{read_at}
-use Rattle.hp_word_rows.specs.WordRows.{range_code, is_equal}
-use Rattle.hp_memory_rows.specs.MemoryRows.{settled_at, is_named, goes_on}
+use Rattle.spl_follow.specs.hp_word.Words.{added}
+use Rattle.spl_follow.specs.hp_word.declared.endings.Trap.{Trap}
+use Rattle.spl_follow.specs.hp_word.declared.endings.Trap.TheVariants.{Illegal, StackUnderflow}
+use Rattle.spl_follow.specs.hp_instr.declared.instruction.Instr.{Instr}
+use Rattle.spl_follow.specs.hp_instr.declared.instruction.Instr.TheVariants as i
+use Rattle.spl_follow.specs.hp_session.declared.places.Place.TheVariants.{Stack}
+use Rattle.spl_follow.specs.hp_session.State.{Machine, then_with, word, without, instead, with_x, with_code, wrapped}
+use Rattle.spl_follow.specs.hp_session.Places.{read_at}
+use Rattle.spl_follow.specs.hp_word_rows.WordRows.{range_code, is_equal}
+use Rattle.spl_follow.specs.hp_memory_rows.MemoryRows.{settled_at, is_named, goes_on}
 
 -- a branch taken or not, and the machine that goes on
 pub record Choice : Type 0 where

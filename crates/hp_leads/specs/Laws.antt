@@ -1,10 +1,10 @@
 -- The laws of this crate: real words as what leads from their place on. Each holds at every place of every program.
 use Rattle.std.specs.Prelude.{◌≡◌, ◌==◌, ◌<◌, ℕ, ◌+◌, Bool, true, false, Some}
-use Rattle.hp_instr.specs.declared.instruction.Instr.{Instr}
-use Rattle.hp_instr.specs.declared.instruction.Instr.TheVariants as i
-use Rattle.hp_instr.specs.declared.instruction.Op.{Op}
-use Rattle.spl_branch.specs.Branches.{aimed, toward, through, past}
-use Rattle.spl_branch.specs.Pieces.{is_direct}
+use Rattle.spl_follow.specs.hp_instr.declared.instruction.Instr.{Instr}
+use Rattle.spl_follow.specs.hp_instr.declared.instruction.Instr.TheVariants as i
+use Rattle.spl_follow.specs.hp_instr.declared.instruction.Op.{Op}
+use Rattle.spl_follow.specs.spl_branch.Branches.{aimed, toward, through, past}
+use Rattle.spl_follow.specs.spl_branch.Pieces.{is_direct}
 use Rattle.spl_follow.specs.Spots.{next_word, Point, on, Ground}
 use Rattle.spl_follow.specs.Leading.{Leads}
 use Rattle.spl_follow.specs.Doing.{doing, turning, Way, calling}

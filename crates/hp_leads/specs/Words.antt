@@ -1,14 +1,14 @@
 -- What is said of the words of a program, so that they lead from one place to another: the instruction at a place, and where a call's entry
 -- and a branch's displacement go.
 use Rattle.std.specs.Prelude.{◌≡◌, ◌==◌, ◌||◌, ℕ, ◌+◌, ◌%◌, Bool, true, false, nat_lt, if◌then◌else◌, List, Option, None, Some}
-use Rattle.hp_instr.specs.declared.instruction.Instr.{Instr}
-use Rattle.hp_instr.specs.declared.instruction.Instr.TheVariants as i
-use Rattle.hp_instr.specs.declared.labels.Label.{Label}
-use Rattle.hp_instr.specs.declared.labels.Label.TheVariants.{Local, External, Bad}
-use Rattle.hp_instr.specs.Instructions.{instruction}
-use Rattle.hp_instr.specs.Labels.{label}
-use Rattle.hp_program.specs.Programs.{code_word, words_of}
-use Rattle.hp_program.specs.Valid.{entries_of, label_of}
+use Rattle.spl_follow.specs.hp_instr.declared.instruction.Instr.{Instr}
+use Rattle.spl_follow.specs.hp_instr.declared.instruction.Instr.TheVariants as i
+use Rattle.spl_follow.specs.hp_instr.declared.labels.Label.{Label}
+use Rattle.spl_follow.specs.hp_instr.declared.labels.Label.TheVariants.{Local, External, Bad}
+use Rattle.spl_follow.specs.hp_instr.Instructions.{instruction}
+use Rattle.spl_follow.specs.hp_instr.Labels.{label}
+use Rattle.spl_follow.specs.hp_program.Programs.{code_word, words_of}
+use Rattle.spl_follow.specs.hp_program.Valid.{entries_of, label_of}
 use Rattle.spl_follow.specs.Spots.{Spot, Point, Ground, start_at}
 use Rattle.spl_follow.specs.Doing.{Way, gate, body, is_move}
 

@@ -2,3 +2,5 @@
 pub mod Valid
 pub mod Programs
 pub mod Stores
+-- Passed on from the crates below.
+pub use Rattle.hp_instr.specs as hp_instr

@@ -1,11 +1,11 @@
 -- An intrinsic leaves the session at its call: it prints and takes lines, but neither P nor the segment moves.
 use Rattle.std.proofs.Common.{◌≡◌, ℕ, Bool, true, false, length, Option, None, Some, Ok, Err, refl}
 use Rattle.std.specs.Prelude.{◌-◌, not, nat_le, if◌then◌else◌}
-use Rattle.hp_word.specs.declared.endings.Trap.TheVariants.{Bounds, OutputLimit, StackUnderflow}
-use Rattle.hp_word.specs.declared.intrinsics.Intrinsic.{Intrinsic}
-use Rattle.hp_word.specs.Intrinsics.{Effect, outcome, is_in_bounds, has_room, taken_words}
-use Rattle.hp_session.specs.State.{Machine, then_with}
-use Rattle.hp_call_rows.specs.GateRows.{intrinsic, effect, after_call, performed, performed_if, served}
+use Rattle.hp_flat.specs.hp_word.declared.endings.Trap.TheVariants.{Bounds, OutputLimit, StackUnderflow}
+use Rattle.hp_flat.specs.hp_word.declared.intrinsics.Intrinsic.{Intrinsic}
+use Rattle.hp_flat.specs.hp_word.Intrinsics.{Effect, outcome, is_in_bounds, has_room, taken_words}
+use Rattle.hp_flat.specs.hp_session.State.{Machine, then_with}
+use Rattle.hp_flat.specs.hp_call_rows.GateRows.{intrinsic, effect, after_call, performed, performed_if, served}
 use Rattle.hp_steady.specs.Rest.{seat, StaysSeated}
 
 after_call-stays : (m : Machine) (n : ℕ) (e : Effect) → seat (after_call n e m) ≡ seat m

@@ -1,14 +1,14 @@
 -- Each instruction with an operand in memory leaves the session where it stands. A law has its row's name. What follows from an answer
 -- stays for every answer.
 use Rattle.std.proofs.Common.{ℕ, Bool, List, refl, ◌∙◌}
-use Rattle.hp_word.specs.declared.arithmetic.Arith.{Arith}
-use Rattle.hp_instr.specs.declared.instruction.Mode.{Mode}
-use Rattle.hp_session.specs.declared.places.Place.{Place}
-use Rattle.hp_session.specs.State.{Machine, Outcome, word, displaced}
-use Rattle.hp_session.specs.Places.{put, operand, byte_operand, read_at, byte_read, moved}
+use Rattle.hp_flat.specs.hp_word.declared.arithmetic.Arith.{Arith}
+use Rattle.hp_flat.specs.hp_instr.declared.instruction.Mode.{Mode}
+use Rattle.hp_flat.specs.hp_session.declared.places.Place.{Place}
+use Rattle.hp_flat.specs.hp_session.State.{Machine, Outcome, word, displaced}
+use Rattle.hp_flat.specs.hp_session.Places.{put, operand, byte_operand, read_at, byte_read, moved}
 use Rattle.hp_steady.specs.Rest.{Stays}
 use Rattle.hp_steady.proofs.StayForms.{either, taking-stays, after_answer, after_row, pushing-stays, pushing_all-stays, settled-stays, put-stays, written-stays, byte_written-stays}
-use Rattle.hp_memory_rows.specs.MemoryRows.{reading, loaded, stored, compared_in_memory, with_memory, settled_at, in_memory, index_loaded, byte_loaded, byte_stored, double_loaded, double_stored, address_loaded, memory_row, code_read, code_loaded}
+use Rattle.hp_flat.specs.hp_memory_rows.MemoryRows.{reading, loaded, stored, compared_in_memory, with_memory, settled_at, in_memory, index_loaded, byte_loaded, byte_stored, double_loaded, double_stored, address_loaded, memory_row, code_read, code_loaded}
 
 -- a row that reads its operand's word
 reading-stays : (m : Machine) (size : ℕ) (mode : Mode) (i x : Bool) (go : ℕ → Outcome) → ((w : ℕ) → Stays m (go w))

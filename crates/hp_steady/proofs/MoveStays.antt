@@ -1,9 +1,9 @@
 -- A step of a move leaves the session at its word, or past it. A law has its row's name.
 use Rattle.std.proofs.Common.{◌≡◌, ◌⊎◌, inl, inr, ℕ, Bool, true, false, List, length, refl}
 use Rattle.std.specs.Prelude.{if◌then◌else◌, nat_le, Result, Ok, Err}
-use Rattle.hp_word.specs.declared.endings.Trap.{Trap}
-use Rattle.hp_session.specs.State.{Machine, Outcome, then_with, taking, passed}
-use Rattle.hp_memory_rows.specs.MoveRows.{element_done, words_moved, bytes_moved, bytes_moved_while, scan_ended, scanned_while, scanned_until, bytes_compared, move_row}
+use Rattle.hp_flat.specs.hp_word.declared.endings.Trap.{Trap}
+use Rattle.hp_flat.specs.hp_session.State.{Machine, Outcome, then_with, taking, passed}
+use Rattle.hp_flat.specs.hp_memory_rows.MoveRows.{element_done, words_moved, bytes_moved, bytes_moved_while, scan_ended, scanned_while, scanned_until, bytes_compared, move_row}
 use Rattle.hp_steady.specs.Rest.{rest, Stays, StaysOrPasses}
 use Rattle.hp_steady.proofs.StayForms.{written-stays, byte_written-stays}
 

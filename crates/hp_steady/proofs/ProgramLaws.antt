@@ -3,11 +3,11 @@ use Rattle.std.proofs.Common.{◌≡◌, ℕ, ◌<◌, ◌≤◌, List, length, 
 use Rattle.std.specs.Prelude.{slice_get, option_and_then}
 use Rattle.std.proofs.lemmas.Bool.Decides.{nat_tests}
 use Rattle.std.proofs.lemmas.Option.{slice_get_within}
-use Rattle.hp_program.specs.declared.program.Program.{Program}
-use Rattle.hp_program.specs.Programs.{code_word, segments_of}
-use Rattle.hp_program.specs.Valid.{is_head}
-use Rattle.hp_program.proofs.ValidLaws.{right_head, segment_fits, program_labels_lead}
-use Rattle.hp_session.specs.State.{Machine}
+use Rattle.hp_flat.specs.hp_program.declared.program.Program.{Program}
+use Rattle.hp_flat.specs.hp_program.Programs.{code_word, segments_of}
+use Rattle.hp_flat.specs.hp_program.Valid.{is_head}
+use Rattle.hp_flat.proofs.hp_program_proofs.ValidLaws.{right_head, segment_fits, program_labels_lead}
+use Rattle.hp_flat.specs.hp_session.State.{Machine}
 use Rattle.hp_flat.specs.Step.{step}
 use Rattle.hp_flat.proofs.StepKeeping.{step-continues}
 

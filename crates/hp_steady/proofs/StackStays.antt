@@ -1,15 +1,15 @@
 -- Each operation on the top words leaves the session where it stands. A law has its row's name.
 use Rattle.std.proofs.Common.{ℕ, ◌+◌, [], refl}
 use Rattle.std.specs.Prelude.{bit_and, bit_or, bit_xor, ◌==◌, ◌∷◌, Ok}
-use Rattle.hp_word.specs.Words.{added, subtracted, logically_added, logically_subtracted, double_added, double_subtracted, words_compared, logically_compared}
-use Rattle.hp_word.specs.declared.arithmetic.Arith.{Arith}
-use Rattle.hp_word.specs.declared.arithmetic.Wide.{Wide}
-use Rattle.hp_word.specs.declared.arithmetic.Code.{Code}
-use Rattle.hp_session.specs.State.{Machine, word, with_x, wrapped, pushing, pushing_all, deleted}
+use Rattle.hp_flat.specs.hp_word.Words.{added, subtracted, logically_added, logically_subtracted, double_added, double_subtracted, words_compared, logically_compared}
+use Rattle.hp_flat.specs.hp_word.declared.arithmetic.Arith.{Arith}
+use Rattle.hp_flat.specs.hp_word.declared.arithmetic.Wide.{Wide}
+use Rattle.hp_flat.specs.hp_word.declared.arithmetic.Code.{Code}
+use Rattle.hp_flat.specs.hp_session.State.{Machine, word, with_x, wrapped, pushing, pushing_all, deleted}
 use Rattle.hp_steady.specs.Rest.{Stays}
 use Rattle.hp_steady.proofs.StayForms.{either, taking-stays, pushing-stays, pushing_all-stays, deleted-stays, settled-stays, settled_below-stays, settled_double-stays, quotient-stays, logical_quotient-stays}
-use Rattle.hp_session.specs.Results.{logical}
-use Rattle.hp_stack_rows.specs.StackRows.{binary, product, negative, stepped, stepped_below, division, logical_division, logical_binary, logical_product, double_binary, double_negative, bitwise, inverted, comparison, double_comparison, tested, double_tested, byte_tested, x_from_below, x_from_top, x_plus_top, top_plus_x, x_and_top, x_and_below, below_becomes, exchanged, doubles_exchanged, rotated, below_deleted, copied, double_copied, operated}
+use Rattle.hp_flat.specs.hp_session.Results.{logical}
+use Rattle.hp_flat.specs.hp_stack_rows.StackRows.{binary, product, negative, stepped, stepped_below, division, logical_division, logical_binary, logical_product, double_binary, double_negative, bitwise, inverted, comparison, double_comparison, tested, double_tested, byte_tested, x_from_below, x_from_top, x_plus_top, top_plus_x, x_and_top, x_and_below, below_becomes, exchanged, doubles_exchanged, rotated, below_deleted, copied, double_copied, operated}
 
 binary-stays : (m : Machine) (f : ℕ → ℕ → Arith) → Stays m (binary f m)
 unfolding binary

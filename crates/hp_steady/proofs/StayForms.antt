@@ -1,16 +1,16 @@
 -- The forms in which rows are told, one law a form: a row that changes words, X and flags alone has the same rest by computing.
 use Rattle.std.proofs.Common.{◌≡◌, ℕ, Bool, true, false, List, length, refl}
 use Rattle.std.specs.Prelude.{if◌then◌else◌, Result, Ok, Err, Option, None, Some, nat_le, nat_lt, slice_set, ◌+◌}
-use Rattle.hp_word.specs.declared.endings.Trap.{Trap}
-use Rattle.hp_word.specs.declared.arithmetic.Arith.{Arith}
-use Rattle.hp_word.specs.declared.arithmetic.Wide.{Wide}
-use Rattle.hp_word.specs.declared.arithmetic.Quotient.{Quotient}
-use Rattle.hp_word.specs.Bytes.{with_byte}
-use Rattle.hp_session.specs.declared.places.Place.{Place}
-use Rattle.hp_session.specs.declared.places.Place.TheVariants.{Db, Stack}
-use Rattle.hp_session.specs.State.{Machine, Outcome, then_with, taking, pushing, pushing_all, deleted}
-use Rattle.hp_session.specs.Results.{settled, settled_below, settled_double, quotient, logical_quotient}
-use Rattle.hp_session.specs.Places.{address, area, read_at, word_of_byte, put, written, byte_written}
+use Rattle.hp_flat.specs.hp_word.declared.endings.Trap.{Trap}
+use Rattle.hp_flat.specs.hp_word.declared.arithmetic.Arith.{Arith}
+use Rattle.hp_flat.specs.hp_word.declared.arithmetic.Wide.{Wide}
+use Rattle.hp_flat.specs.hp_word.declared.arithmetic.Quotient.{Quotient}
+use Rattle.hp_flat.specs.hp_word.Bytes.{with_byte}
+use Rattle.hp_flat.specs.hp_session.declared.places.Place.{Place}
+use Rattle.hp_flat.specs.hp_session.declared.places.Place.TheVariants.{Db, Stack}
+use Rattle.hp_flat.specs.hp_session.State.{Machine, Outcome, then_with, taking, pushing, pushing_all, deleted}
+use Rattle.hp_flat.specs.hp_session.Results.{settled, settled_below, settled_double, quotient, logical_quotient}
+use Rattle.hp_flat.specs.hp_session.Places.{address, area, read_at, word_of_byte, put, written, byte_written}
 use Rattle.hp_steady.specs.Rest.{rest, Stays}
 
 -- where either of two is answered

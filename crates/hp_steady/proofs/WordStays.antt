@@ -1,12 +1,12 @@
 -- Each instruction on the top words, X and the number of words leaves the session where it stands. A law has its row's name.
 use Rattle.std.proofs.Common.{ℕ, ◌≡◌, refl}
 use Rattle.std.specs.Prelude.{◌+◌, Option, None, Some, Ok, Err, nat_le, length}
-use Rattle.hp_word.specs.declared.arithmetic.Arith.{Arith}
-use Rattle.hp_word.specs.declared.arithmetic.Quotient.{Quotient}
-use Rattle.hp_session.specs.State.{Machine, without}
+use Rattle.hp_flat.specs.hp_word.declared.arithmetic.Arith.{Arith}
+use Rattle.hp_flat.specs.hp_word.declared.arithmetic.Quotient.{Quotient}
+use Rattle.hp_flat.specs.hp_session.State.{Machine, without}
 use Rattle.hp_steady.specs.Rest.{rest, Stays}
 use Rattle.hp_steady.proofs.StayForms.{either, taking-stays, pushing-stays, pushing_all-stays, deleted-stays, settled-stays}
-use Rattle.hp_word_rows.specs.WordRows.{shifting, split_mode, joined_mode, compared_with, with_number, quotient_alone, divided_by, field_taken, field_put, bits_with, immediate_row, having_room, roomy, count_row}
+use Rattle.hp_flat.specs.hp_word_rows.WordRows.{shifting, split_mode, joined_mode, compared_with, with_number, quotient_alone, divided_by, field_taken, field_put, bits_with, immediate_row, having_room, roomy, count_row}
 
 pub shifting-stays : (m : Machine) (kind : ℕ) (places : ℕ) → Stays m (shifting kind places m)
 unfolding shifting

@@ -1,15 +1,15 @@
 -- The laws of this crate: which rows leave the session where it stands, that a step only adds to what is printed, and how far the words
 -- of a program reach.
 use Rattle.std.specs.Prelude.{◌≡◌, ◌<◌, ℕ, Bool, List, length, take, Some}
-use Rattle.hp_instr.specs.declared.instruction.Mode.{Mode}
-use Rattle.hp_program.specs.declared.program.Program.{Program}
-use Rattle.hp_program.specs.Programs.{code_word, segments_of}
-use Rattle.hp_session.specs.State.{Machine}
-use Rattle.hp_stack_rows.specs.StackRows.{operated}
-use Rattle.hp_word_rows.specs.WordRows.{shifting, immediate_row, count_row}
-use Rattle.hp_memory_rows.specs.MemoryRows.{memory_row, code_loaded}
-use Rattle.hp_memory_rows.specs.MoveRows.{move_row}
-use Rattle.hp_call_rows.specs.GateRows.{served}
+use Rattle.hp_flat.specs.hp_instr.declared.instruction.Mode.{Mode}
+use Rattle.hp_flat.specs.hp_program.declared.program.Program.{Program}
+use Rattle.hp_flat.specs.hp_program.Programs.{code_word, segments_of}
+use Rattle.hp_flat.specs.hp_session.State.{Machine}
+use Rattle.hp_flat.specs.hp_stack_rows.StackRows.{operated}
+use Rattle.hp_flat.specs.hp_word_rows.WordRows.{shifting, immediate_row, count_row}
+use Rattle.hp_flat.specs.hp_memory_rows.MemoryRows.{memory_row, code_loaded}
+use Rattle.hp_flat.specs.hp_memory_rows.MoveRows.{move_row}
+use Rattle.hp_flat.specs.hp_call_rows.GateRows.{served}
 use Rattle.hp_flat.specs.Step.{step}
 use Rattle.hp_steady.specs.Rest.{Stays, StaysSeated, StaysOrPasses}
 

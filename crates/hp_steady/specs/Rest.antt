@@ -1,7 +1,7 @@
 -- Where a session stands, and what else no instruction changes that neither branches nor calls.
 use Rattle.std.specs.Prelude.{◌≡◌, ◌⊎◌, ℕ, Bool, List, MatchResult, ⊤}
-use Rattle.hp_word.specs.declared.endings.Ending.{Ending}
-use Rattle.hp_session.specs.State.{Machine, Outcome, passed}
+use Rattle.hp_flat.specs.hp_word.declared.endings.Ending.{Ending}
+use Rattle.hp_flat.specs.hp_session.State.{Machine, Outcome, passed}
 
 -- the place of the next step, Q, and whether overflow traps
 pub record Seat : Type 0 where

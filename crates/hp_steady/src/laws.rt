@@ -1,7 +1,7 @@
 //! The laws of this crate, as the contracts of functions that do nothing.
 ghost use Rattle.hp_steady.specs.Laws.{OperationsStay, ShiftsStay, ImmediatesStay, CountsStay, MemoryRowsStay, CodeLoadsStay, MovesStayOrPass, IntrinsicsStay, StepsAddPrints, WordsAreNear};
 
-use hp_program::Program;
+use hp_flat::hp_program::Program;
 
 /// Operations on the top words leave the session where it stands.
 pub fn operations_stay()

@@ -3,7 +3,7 @@
 ghost use Rattle.std.specs.Prelude.{◌==◌, None, if◌then◌else◌};
 
 use super::stacks::{self, Lacking, has_words, numbers};
-use hp_calls::{
+use hp_cpu::hp_calls::{
     Called, Phase, call_at_once, exit, exit_at_once, finish_transfer, pcal, scal, sxit,
 };
 use hp_program::{CodeStore, Fetched, Program};

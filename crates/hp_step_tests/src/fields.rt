@@ -1,6 +1,6 @@
 //! Each instruction once over the register stack, with what it leaves worked by hand from the rules; and each trap.
 use super::stacks::{self, has_words, numbers};
-use hp_fields::field_op;
+use hp_cpu::hp_fields::field_op;
 use hp_instr::{Group, decode, group_of};
 use hp_session::Regs;
 use hp_tos::Stack;
@@ -162,7 +162,7 @@ fn the_mode_is_split_once_and_joined_once(rt: HostRuntime) -> Result<(), Fail> {
     assert_eq!(rt; done(0o020002, &mut regs, &mut stack), Some(Ok(())));
     assert!(rt; !stack.is_split());
     assert_eq!(rt; done(0o020405, &mut regs, &mut stack), Some(Ok(())));
-    assert_eq!(rt; (regs.p, stack.words(), stack.sr), (13, 3, 2));
+    assert_eq!(rt; (regs.p, stack.words(), stack.top.len()), (13, 3, 2));
     assert_eq!(rt; done(0o000000, &mut regs, &mut stack), None);
     Ok(())
 }

@@ -1,8 +1,8 @@
 //! Steps of each move over the register stack, with what they leave worked by hand from the rules; each trap; and a move that is
 //! cut after each element.
 use super::stacks::{self, has_words, numbers};
+use hp_cpu::hp_moves::{MoveStep, move_op};
 use hp_instr::{Group, decode, group_of};
-use hp_moves::{MoveStep, move_op};
 use hp_program::Program;
 use hp_session::Regs;
 use hp_tos::Stack;

@@ -1,8 +1,8 @@
 //! Each operation once over the register stack, with what it leaves worked by hand from the rules; and each trap.
 use super::stacks::{self, has_words, numbers};
+use hp_cpu::hp_stackops::stack_op;
 use hp_instr::Op;
 use hp_session::Regs;
-use hp_stackops::stack_op;
 use hp_tos::Stack;
 use hp_word::{Code, Trap};
 use std::alloc::{AllocError, Global};

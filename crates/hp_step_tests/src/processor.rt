@@ -4,9 +4,9 @@ ghost use Rattle.std.specs.Prelude.{◌≡◌, ◌==◌, ◌≤◌, None, Some, 
 ghost use Rattle.hp_word.specs.declared.endings.Ending.TheVariants.{Running};
 
 use super::stacks::{Lacking, has_words, numbers, stack_with};
-use hp_calls::finish_transfer;
+use hp_cpu::hp_calls::finish_transfer;
+use hp_cpu::hp_flat::Flat;
 use hp_cpu::{Cpu, Phase, Regs, Stack, Stepped};
-use hp_flat::Flat;
 use hp_program::{CodeStore, Fetched, Program};
 use hp_word::{Code, Ending, Intrinsic, Trap};
 use std::alloc::{AllocError, Global};
@@ -401,7 +401,7 @@ fn there_is_no_word_past_the_end(rt: HostRuntime) -> Result<(), Fail> {
         };
         assert_eq!(rt; cpu.step(&program), Stepped::Trapped(Trap::CodeBounds));
         assert_eq!(rt; cpu.regs, regs);
-        assert_eq!(rt; cpu.stack.sr, 2);
+        assert_eq!(rt; cpu.stack.top.len(), 2);
     }
     Ok(())
 }
@@ -411,7 +411,7 @@ fn state(cpu: &Cpu) -> (Regs, Phase, u8, u64, u64, u16) {
     (
         cpu.regs,
         cpu.phase,
-        cpu.stack.sr,
+        cpu.stack.top.len() as u8,
         cpu.stack.fills,
         cpu.stack.spills,
         cpu.stack.words(),

@@ -1,7 +1,7 @@
 //! Each instruction once over the register stack, with what it leaves worked by hand from the rules; each mode, and each trap.
 use super::stacks::{self, has_words, numbers};
+use hp_cpu::hp_memref::memory_op;
 use hp_instr::{Group, decode, group_of};
-use hp_memref::memory_op;
 use hp_program::Program;
 use hp_session::Regs;
 use hp_tos::Stack;
@@ -418,7 +418,7 @@ fn split_mode_refers_to_the_extra_segment_from_db(rt: HostRuntime) -> Result<(),
         done(0o043000, &mut regs, &mut stack, &program),
         Some(Err(Trap::Bounds))
     );
-    assert_eq!(rt; (regs.p, stack.sr), (8, 2));
+    assert_eq!(rt; (regs.p, stack.top.len()), (8, 2));
     assert_eq!(rt; done(0o020401, &mut regs, &mut stack, &program), None);
     Ok(())
 }

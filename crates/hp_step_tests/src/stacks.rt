@@ -46,7 +46,7 @@ pub fn has_words(stack: &Stack, words: &[u16]) -> bool {
 /// How many words stand in registers, and how many were filled and spilled since.
 pub fn numbers(stack: &Stack, fills: u64, spills: u64) -> (u8, u64, u64) {
     (
-        stack.sr,
+        stack.top.len() as u8,
         stack.fills.wrapping_sub(fills),
         stack.spills.wrapping_sub(spills),
     )

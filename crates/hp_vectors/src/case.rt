@@ -4,7 +4,7 @@ ghost use Rattle.std.specs.Prelude.{◌≤◌, IfOk, IfSome, vec_len, vec_capaci
 
 use crate::fields::{State, bytes, number, words};
 use crate::processor::Seated;
-use hp_flat::{Flat, Line, Program};
+use hp_cpu::hp_flat::{Flat, Line, Program};
 use std::alloc::{AllocError, Global};
 
 /// A case whose lines are being read.

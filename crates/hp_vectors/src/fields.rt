@@ -1,6 +1,6 @@
 //! The state of a session as a case tells it: fields of the form NAME=value, parted by blanks.
 
-use hp_flat::Regs;
+use hp_cpu::hp_flat::Regs;
 use hp_word::{Code, Ending, Trap};
 use std::alloc::{AllocError, Global};
 

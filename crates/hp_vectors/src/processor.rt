@@ -2,9 +2,9 @@
 ghost use Rattle.std.specs.Prelude.{◌≤◌, vec_len, vec_capacity};
 
 use crate::fields::State;
-use hp_calls::finish_transfer;
+use hp_cpu::hp_calls::finish_transfer;
+use hp_cpu::hp_flat::{Line, Program};
 use hp_cpu::{Cpu, Phase, Stepped};
-use hp_flat::{Line, Program};
 use hp_tos::Stack;
 use hp_word::Ending;
 use mpe_gate::{Served, serve};
@@ -128,7 +128,7 @@ impl Seated {
             (regs.carry == wanted.regs.carry, "CARRY"),
             (regs.code == wanted.regs.code, "CODE"),
             (stack.is_split() == wanted.split, "SPLIT"),
-            (stack.sr == wanted.in_registers, "SR"),
+            (stack.top.len() as u8 == wanted.in_registers, "SR"),
             (stack.fills == wanted.fills, "FILLS"),
             (stack.spills == wanted.spills, "SPILLS"),
             (self.terminal.next_line == wanted.next_line, "NEXTLINE"),

@@ -4,16 +4,16 @@ use Rattle.std.specs.Prelude.{◌%◌, nat_lt, slice_index, slice_set, if◌then
 use Rattle.std.proofs.lemmas.Bool.{lt-ltb, cond-true, cond-false}
 use Rattle.std.proofs.lemmas.Bool.Decides.{nat_tests}
 use Rattle.std.proofs.lemmas.List.{length-set}
-use Rattle.hp_word.specs.declared.endings.Trap.{Trap}
-use Rattle.hp_word.specs.declared.endings.Trap.TheVariants.{Bounds}
-use Rattle.hp_word.specs.Bytes.{with_byte}
-use Rattle.hp_instr.specs.declared.instruction.Mode.{Mode}
-use Rattle.hp_program.specs.Programs.{code_word}
-use Rattle.hp_session.specs.declared.places.Place.{Place}
-use Rattle.hp_session.specs.declared.places.Place.TheVariants.{Db, Stack}
-use Rattle.hp_session.specs.State.{Machine, Outcome, then_with, word, without, pushing, pushing_all, with_x, displaced}
-use Rattle.hp_session.specs.Places.{address, area, read_at, moved, operand, byte_operand, word_of_byte, byte_read, put, written, byte_written}
-use Rattle.hp_memory_rows.specs.MemoryRows.{loaded, stored, index_loaded, byte_loaded, byte_stored, double_loaded, double_stored, address_loaded, memory_row, present, code_read, code_loaded}
+use Rattle.spl_follow.specs.hp_word.declared.endings.Trap.{Trap}
+use Rattle.spl_follow.specs.hp_word.declared.endings.Trap.TheVariants.{Bounds}
+use Rattle.spl_follow.specs.hp_word.Bytes.{with_byte}
+use Rattle.spl_follow.specs.hp_instr.declared.instruction.Mode.{Mode}
+use Rattle.spl_follow.specs.hp_program.Programs.{code_word}
+use Rattle.spl_follow.specs.hp_session.declared.places.Place.{Place}
+use Rattle.spl_follow.specs.hp_session.declared.places.Place.TheVariants.{Db, Stack}
+use Rattle.spl_follow.specs.hp_session.State.{Machine, Outcome, then_with, word, without, pushing, pushing_all, with_x, displaced}
+use Rattle.spl_follow.specs.hp_session.Places.{address, area, read_at, moved, operand, byte_operand, word_of_byte, byte_read, put, written, byte_written}
+use Rattle.spl_follow.specs.hp_memory_rows.MemoryRows.{loaded, stored, index_loaded, byte_loaded, byte_stored, double_loaded, double_stored, address_loaded, memory_row, present, code_read, code_loaded}
 use Rattle.spl_follow.specs.Yielding.{Puts, PutsFar}
 use Rattle.hp_yields.specs.Rows.{Places, Sided, held, with_held}
 use Rattle.hp_yields.proofs.YieldForms.{taken, found, lost, places_of, places_none, pushes, pushes_all}

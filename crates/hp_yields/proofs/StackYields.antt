@@ -1,14 +1,14 @@
 -- Operations on the top words, told of the stack. Each stands under its code.
 use Rattle.std.proofs.Common.{◌≡◌, ℕ, ◌+◌, ◌-◌, ◌<◌, ◌≤◌, [], ◌∷◌, length, Ok}
 use Rattle.std.specs.Prelude.{bit_and, bit_or, bit_xor}
-use Rattle.hp_word.specs.declared.arithmetic.Arith.{Arith}
-use Rattle.hp_word.specs.declared.arithmetic.Wide.{Wide}
-use Rattle.hp_word.specs.declared.arithmetic.Code.{Code}
-use Rattle.hp_word.specs.Words.{added, subtracted, multiplied, negated, divided, logically_added, logically_subtracted, logically_multiplied, logically_divided, double_added, double_subtracted, double_negated, words_compared, logically_compared, doubles_compared, word_code}
-use Rattle.hp_word.specs.Bytes.{double, high_word, low_word}
-use Rattle.hp_session.specs.State.{Machine, word, with_code}
-use Rattle.hp_session.specs.Results.{settled, keeping_carry, settled_double, keeping_double_carry, logical, coded, quotient, logical_quotient}
-use Rattle.hp_stack_rows.specs.StackRows.{binary, product, negative, division, logical_division, logical_binary, logical_product, upper_double, lower_double, double_binary, double_negative, bitwise, inverted, comparison, double_comparison, tested, x_from_top, exchanged, rotated, below_deleted, copied, operated}
+use Rattle.spl_follow.specs.hp_word.declared.arithmetic.Arith.{Arith}
+use Rattle.spl_follow.specs.hp_word.declared.arithmetic.Wide.{Wide}
+use Rattle.spl_follow.specs.hp_word.declared.arithmetic.Code.{Code}
+use Rattle.spl_follow.specs.hp_word.Words.{added, subtracted, multiplied, negated, divided, logically_added, logically_subtracted, logically_multiplied, logically_divided, double_added, double_subtracted, double_negated, words_compared, logically_compared, doubles_compared, word_code}
+use Rattle.spl_follow.specs.hp_word.Bytes.{double, high_word, low_word}
+use Rattle.spl_follow.specs.hp_session.State.{Machine, word, with_code}
+use Rattle.spl_follow.specs.hp_session.Results.{settled, keeping_carry, settled_double, keeping_double_carry, logical, coded, quotient, logical_quotient}
+use Rattle.spl_follow.specs.hp_stack_rows.StackRows.{binary, product, negative, division, logical_division, logical_binary, logical_product, upper_double, lower_double, double_binary, double_negative, bitwise, inverted, comparison, double_comparison, tested, x_from_top, exchanged, rotated, below_deleted, copied, operated}
 use Rattle.spl_follow.specs.Yielding.{Yields}
 use Rattle.hp_yields.specs.Rows.{Settles, SettlesWide, Divides, DividesLogically, Codes, Places}
 use Rattle.hp_yields.proofs.YieldForms.{taken, yields_of, replaces, settles, settles_of, settles_wide, settles_wide_of, divides, divides_of, divides_logically, divides_logically_of, codes, codes_deleted, codes_of, places, places_deleted, places_of, pushes, pushes_all, drops}

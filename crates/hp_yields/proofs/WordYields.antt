@@ -4,14 +4,14 @@ use Rattle.std.specs.Prelude.{◌==◌, nat_le, bit_and, bit_or, replicate}
 use Rattle.std.proofs.lemmas.Bool.{le-leb}
 use Rattle.std.proofs.lemmas.Bool.Decides.{nat_tests}
 use Rattle.std.proofs.lemmas.List.{length-replicate}
-use Rattle.hp_word.specs.declared.endings.Trap.TheVariants.{StackOverflow}
-use Rattle.hp_word.specs.Bits.{shifted, field, with_field}
-use Rattle.hp_word.specs.Words.{word_code}
-use Rattle.hp_instr.specs.Bits.{bits}
-use Rattle.hp_instr.specs.Fields.{field_length}
-use Rattle.hp_session.specs.State.{Machine, Outcome, word, without}
-use Rattle.hp_session.specs.Results.{coded}
-use Rattle.hp_word_rows.specs.WordRows.{shift_of, shifting, minus, field_taken, field_put, bits_with, immediate_row, having_room, roomy, count_row}
+use Rattle.spl_follow.specs.hp_word.declared.endings.Trap.TheVariants.{StackOverflow}
+use Rattle.spl_follow.specs.hp_word.Bits.{shifted, field, with_field}
+use Rattle.spl_follow.specs.hp_word.Words.{word_code}
+use Rattle.spl_follow.specs.hp_instr.Bits.{bits}
+use Rattle.spl_follow.specs.hp_instr.Fields.{field_length}
+use Rattle.spl_follow.specs.hp_session.State.{Machine, Outcome, word, without}
+use Rattle.spl_follow.specs.hp_session.Results.{coded}
+use Rattle.spl_follow.specs.hp_word_rows.WordRows.{shift_of, shifting, minus, field_taken, field_put, bits_with, immediate_row, having_room, roomy, count_row}
 use Rattle.hp_yields.specs.Rows.{Codes, Places}
 use Rattle.hp_yields.proofs.YieldForms.{taken, codes, codes_of, places_of, places_none, places_deleted, pushes, pushes_all, drops}
 

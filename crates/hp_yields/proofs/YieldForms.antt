@@ -4,14 +4,14 @@ use Rattle.std.specs.Prelude.{Result}
 use Rattle.std.proofs.lemmas.Bool.{lt-ltb, le-leb}
 use Rattle.std.proofs.lemmas.List.{append-nil}
 use Rattle.std.proofs.Math.Seq.{take-length}
-use Rattle.hp_word.specs.declared.arithmetic.Arith.{Arith}
-use Rattle.hp_word.specs.declared.arithmetic.Wide.{Wide}
-use Rattle.hp_word.specs.declared.arithmetic.Quotient.{Quotient}
-use Rattle.hp_word.specs.declared.arithmetic.Code.{Code}
-use Rattle.hp_word.specs.declared.endings.Trap.{Trap}
-use Rattle.hp_word.specs.Words.{word_code}
-use Rattle.hp_session.specs.State.{Machine, Outcome, then_with, taking, without, replaced, pushing, pushing_all, deleted, with_x, with_code}
-use Rattle.hp_session.specs.Results.{settled, settled_double, quotient, logical_quotient}
+use Rattle.spl_follow.specs.hp_word.declared.arithmetic.Arith.{Arith}
+use Rattle.spl_follow.specs.hp_word.declared.arithmetic.Wide.{Wide}
+use Rattle.spl_follow.specs.hp_word.declared.arithmetic.Quotient.{Quotient}
+use Rattle.spl_follow.specs.hp_word.declared.arithmetic.Code.{Code}
+use Rattle.spl_follow.specs.hp_word.declared.endings.Trap.{Trap}
+use Rattle.spl_follow.specs.hp_word.Words.{word_code}
+use Rattle.spl_follow.specs.hp_session.State.{Machine, Outcome, then_with, taking, without, replaced, pushing, pushing_all, deleted, with_x, with_code}
+use Rattle.spl_follow.specs.hp_session.Results.{settled, settled_double, quotient, logical_quotient}
 use Rattle.spl_follow.specs.Yielding.{Yields}
 use Rattle.hp_yields.specs.Rows.{Settles, SettlesWide, Divides, DividesLogically, Codes, Places}
 

@@ -1,22 +1,22 @@
 -- The laws of this crate: what each row leaves in place of the top words, and when it traps. A is the top word, B and C are beneath it.
 use Rattle.std.specs.Prelude.{◌≡◌, ℕ, ◌+◌, ◌<◌, ◌≤◌, Bool, true, false, List, [], ◌∷◌, length, Some, Ok, Err, ◌%◌, slice_index, slice_set, ◌-◌, bit_and, bit_or, bit_xor, replicate}
-use Rattle.hp_word.specs.declared.endings.Trap.{Trap}
-use Rattle.hp_word.specs.declared.endings.Trap.TheVariants.{Bounds, StackOverflow}
-use Rattle.hp_word.specs.Bytes.{with_byte, double, high_word, low_word}
-use Rattle.hp_instr.specs.declared.instruction.Mode.{Mode}
-use Rattle.hp_program.specs.Programs.{code_word}
-use Rattle.hp_session.specs.declared.places.Place.{Place}
-use Rattle.hp_session.specs.State.{Machine, word, without, displaced, with_code}
-use Rattle.hp_session.specs.Places.{address, read_at, moved, operand, byte_operand, word_of_byte, byte_read, put, written, byte_written}
-use Rattle.hp_memory_rows.specs.MemoryRows.{memory_row, code_loaded}
+use Rattle.spl_follow.specs.hp_word.declared.endings.Trap.{Trap}
+use Rattle.spl_follow.specs.hp_word.declared.endings.Trap.TheVariants.{Bounds, StackOverflow}
+use Rattle.spl_follow.specs.hp_word.Bytes.{with_byte, double, high_word, low_word}
+use Rattle.spl_follow.specs.hp_instr.declared.instruction.Mode.{Mode}
+use Rattle.spl_follow.specs.hp_program.Programs.{code_word}
+use Rattle.spl_follow.specs.hp_session.declared.places.Place.{Place}
+use Rattle.spl_follow.specs.hp_session.State.{Machine, word, without, displaced, with_code}
+use Rattle.spl_follow.specs.hp_session.Places.{address, read_at, moved, operand, byte_operand, word_of_byte, byte_read, put, written, byte_written}
+use Rattle.spl_follow.specs.hp_memory_rows.MemoryRows.{memory_row, code_loaded}
 use Rattle.spl_follow.specs.Yielding.{Puts, PutsFar, Yields}
 use Rattle.hp_yields.specs.Rows.{Places, Sided, held, with_held, Settles, SettlesWide, Divides, DividesLogically, Codes}
-use Rattle.hp_word.specs.Words.{added, subtracted, multiplied, negated, divided, logically_added, logically_subtracted, logically_multiplied, logically_divided, double_added, double_subtracted, double_negated, words_compared, logically_compared, doubles_compared, word_code}
-use Rattle.hp_stack_rows.specs.StackRows.{upper_double, lower_double, operated}
-use Rattle.hp_word.specs.Bits.{shifted, field, with_field}
-use Rattle.hp_instr.specs.Bits.{bits}
-use Rattle.hp_instr.specs.Fields.{field_length}
-use Rattle.hp_word_rows.specs.WordRows.{shift_of, shifting, minus, immediate_row, count_row}
+use Rattle.spl_follow.specs.hp_word.Words.{added, subtracted, multiplied, negated, divided, logically_added, logically_subtracted, logically_multiplied, logically_divided, double_added, double_subtracted, double_negated, words_compared, logically_compared, doubles_compared, word_code}
+use Rattle.spl_follow.specs.hp_stack_rows.StackRows.{upper_double, lower_double, operated}
+use Rattle.spl_follow.specs.hp_word.Bits.{shifted, field, with_field}
+use Rattle.spl_follow.specs.hp_instr.Bits.{bits}
+use Rattle.spl_follow.specs.hp_instr.Fields.{field_length}
+use Rattle.spl_follow.specs.hp_word_rows.WordRows.{shift_of, shifting, minus, immediate_row, count_row}
 
 -- ADD, SUB, MPY, DIV and NEG: of B and A, in this order
 pub record IntegerOperators : Type 0 where

@@ -1,14 +1,14 @@
 -- What is said of rows, told of the stack: what they leave in place of the top words, and when they trap.
 use Rattle.std.specs.Prelude.{◌≡◌, ℕ, Bool, true, false, List, [], ◌∷◌, Option, None, Some, Err}
-use Rattle.hp_word.specs.declared.arithmetic.Arith.{Arith}
-use Rattle.hp_word.specs.declared.arithmetic.Wide.{Wide}
-use Rattle.hp_word.specs.declared.arithmetic.Quotient.{Quotient}
-use Rattle.hp_word.specs.declared.arithmetic.Code.{Code}
-use Rattle.hp_word.specs.declared.endings.Trap.TheVariants.{IntegerOverflow, DivideByZero}
-use Rattle.hp_word.specs.Bytes.{high_word, low_word}
-use Rattle.hp_session.specs.declared.places.Place.{Place}
-use Rattle.hp_session.specs.declared.places.Place.TheVariants.{Db, Stack}
-use Rattle.hp_session.specs.State.{Machine, Outcome}
+use Rattle.spl_follow.specs.hp_word.declared.arithmetic.Arith.{Arith}
+use Rattle.spl_follow.specs.hp_word.declared.arithmetic.Wide.{Wide}
+use Rattle.spl_follow.specs.hp_word.declared.arithmetic.Quotient.{Quotient}
+use Rattle.spl_follow.specs.hp_word.declared.arithmetic.Code.{Code}
+use Rattle.spl_follow.specs.hp_word.declared.endings.Trap.TheVariants.{IntegerOverflow, DivideByZero}
+use Rattle.spl_follow.specs.hp_word.Bytes.{high_word, low_word}
+use Rattle.spl_follow.specs.hp_session.declared.places.Place.{Place}
+use Rattle.spl_follow.specs.hp_session.declared.places.Place.TheVariants.{Db, Stack}
+use Rattle.spl_follow.specs.hp_session.State.{Machine, Outcome}
 use Rattle.spl_follow.specs.Yielding.{Yields}
 
 -- ---- results

@@ -2,15 +2,15 @@
 use Rattle.std.proofs.Common.{◌≡◌, ℕ, zero, suc, ◌+◌, Bool, true, false, cond, List, [], ◌∷◌, ◌++◌, Option, None, Some, refl, sym, ap, ◌∙◌, arith, append_assoc, append-nil, subst}
 use Rattle.std.specs.Prelude.{Ok, Err, codes}
 use Rattle.std.specs.Fmt.{digits}
-use Rattle.job_lines.specs.declared.settings.Settings.{Settings}
-use Rattle.job_lines.specs.declared.place.Place.{Place}
-use Rattle.job_lines.specs.declared.place.Place.TheVariants.{Outside, InUnit}
-use Rattle.job_lines.specs.Lines.{lines}
-use Rattle.job_lines.specs.Numbers.{number_in}
-use Rattle.job_lines.specs.Names.{is_program_name}
-use Rattle.job_lines.specs.Sizes.{option, options}
-use Rattle.job_lines.specs.Commands.{command_of}
-use Rattle.job_lines.specs.Says.{is_command, unit_line, command_said, said_at}
+use Rattle.job_text.specs.job_lines.declared.settings.Settings.{Settings}
+use Rattle.job_text.specs.job_lines.declared.place.Place.{Place}
+use Rattle.job_text.specs.job_lines.declared.place.Place.TheVariants.{Outside, InUnit}
+use Rattle.job_text.specs.job_lines.Lines.{lines}
+use Rattle.job_text.specs.job_lines.Numbers.{number_in}
+use Rattle.job_text.specs.job_lines.Names.{is_program_name}
+use Rattle.job_text.specs.job_lines.Sizes.{option, options}
+use Rattle.job_text.specs.job_lines.Commands.{command_of}
+use Rattle.job_text.specs.job_lines.Says.{is_command, unit_line, command_said, said_at}
 use Rattle.job_text.specs.States.{TextValue, SeatValue, State, start, at_last, with_unit_line, after}
 use Rattle.job_text.specs.Rules.{broken}
 use Rattle.job_text.specs.Jobs.{JobIs}

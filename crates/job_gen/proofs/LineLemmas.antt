@@ -5,7 +5,7 @@ use Rattle.std.specs.List.{slice_split, onto_first, list_all}
 use Rattle.std.specs.Fmt.{decimal}
 use Rattle.std.proofs.lemmas.Fmt.{decimal_by_steps}
 use Rattle.std.proofs.lemmas.Bool.Decides.{nat_tests}
-use Rattle.job_lines.specs.Lines.{without_return, lines_of_parts, lines}
+use Rattle.job_text.specs.job_lines.Lines.{without_return, lines_of_parts, lines}
 use Rattle.job_gen.specs.Draws.{next, drawn}
 use Rattle.job_gen.specs.Pieces.{Piece, bytes, draw, Line, filled, behind, ended, text_of, behind_all}
 

@@ -6,4 +6,5 @@ mod jobs;
 #[cfg(test)]
 mod tests;
 
+pub use job_text;
 pub use jobs::generate;

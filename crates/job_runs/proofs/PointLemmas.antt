@@ -5,14 +5,14 @@ use Rattle.std.specs.Global.{Global}
 use Rattle.std.proofs.Math.Seq.{take-suc}
 use Rattle.std.proofs.lemmas.List.{map_push, take_all}
 use Rattle.std.proofs.lemmas.Option.{slice_get_read}
-use Rattle.hp_word.specs.declared.endings.Ending.{Ending}
+use Rattle.job_report.specs.hp_word.declared.endings.Ending.{Ending}
 use Rattle.job_text.specs.declared.job.Text.{Text}
 use Rattle.job_text.specs.Views.{text_value}
 use Rattle.job_report.specs.declared.point.Point.{Point}
 use Rattle.job_report.specs.Reports.{Reported, reported, report_of, summary_of}
 use Rattle.mpe_turns.specs.declared.session.Session.{Session}
 use Rattle.mpe_turns.specs.Stands.{run_of, runs_of}
-use Rattle.mpe_worlds.specs.Worlds.{Run, World, segments_at}
+use Rattle.mpe_turns.specs.mpe_worlds.Worlds.{Run, World, segments_at}
 use Rattle.job_runs.specs.Reported.{AreOf, names_of, reported_of, counted, report_on, summary_on}
 
 -- the name of a program

@@ -2,11 +2,11 @@
 use Rattle.std.proofs.Common.{◌≡◌, ℕ, zero, suc, ◌+◌, ◌-◌, ◌*◌, ◌<◌, ◌≤◌, Bool, true, false, List, Option, None, Some, refl, sym, ap, ◌∙◌, arith}
 use Rattle.std.proofs.Math.Nat.{mul-suc}
 use Rattle.std.specs.Prelude.{is_some, if◌then◌else◌}
-use Rattle.mpe_worlds.specs.Worlds.{World}
-use Rattle.mpe_worlds.specs.Turns.{turned}
-use Rattle.mpe_worlds.specs.Dispatch.{after, next_of, turned_if}
-use Rattle.mpe_worlds.specs.Alone.{EachGoesOn}
-use Rattle.mpe_worlds.proofs.AloneLaws.{each_stays, each_goes_on_twice, turned_goes_on}
+use Rattle.mpe_turns.specs.mpe_worlds.Worlds.{World}
+use Rattle.mpe_turns.specs.mpe_worlds.Turns.{turned}
+use Rattle.mpe_turns.specs.mpe_worlds.Dispatch.{after, next_of, turned_if}
+use Rattle.mpe_turns.specs.mpe_worlds.Alone.{EachGoesOn}
+use Rattle.mpe_turns.proofs.mpe_worlds_proofs.AloneLaws.{each_stays, each_goes_on_twice, turned_goes_on}
 
 -- no turn is left
 pub no_turn : (codes : List (List (List ℕ))) (quantum n : ℕ) (w : World) → n ≡ 0 → after codes quantum n w ≡ w

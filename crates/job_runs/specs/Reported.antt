@@ -2,7 +2,7 @@
 use Rattle.std.specs.Prelude.{ℕ, ◌≡◌, ◌<◌, slice_get, Bool, List, [], map, get_or, Option, None, Some, if◌then◌else◌}
 use Rattle.job_text.specs.States.{TextValue}
 use Rattle.job_report.specs.Reports.{Reported, report_of, summary_of}
-use Rattle.mpe_worlds.specs.Worlds.{Run, World}
+use Rattle.mpe_turns.specs.mpe_worlds.Worlds.{Run, World}
 use Rattle.mpe_turns.specs.declared.session.Session.{Session}
 
 -- each session is of one of so many programs

@@ -4,5 +4,6 @@
 mod reports;
 mod turns;
 
+pub use mpe_turns;
 pub use reports::{report_on, summary_on};
 pub use turns::take_turns;

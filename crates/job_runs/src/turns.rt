@@ -1,7 +1,7 @@
 //! The turns of a job.
 ghost use Rattle.std.specs.Prelude.{◌≡◌, ◌≤◌, ◌+◌, ◌*◌, ◌^◌};
-ghost use Rattle.mpe_worlds.specs.Alone.{EachGoesOn};
-ghost use Rattle.mpe_worlds.specs.Dispatch.{after};
+ghost use Rattle.mpe_turns.specs.mpe_worlds.Alone.{EachGoesOn};
+ghost use Rattle.mpe_turns.specs.mpe_worlds.Dispatch.{after};
 ghost use Rattle.mpe_turns.specs.Monitors.{codes_in, world_of};
 
 use mpe_turns::Monitor;

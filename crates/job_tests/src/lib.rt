@@ -1,4 +1,4 @@
-//! Tests of jobs, of reports and of names in thin jobs. They stand beside the crates that they test, since a crate with tests is
+//! Tests of jobs and of reports. They stand beside the crates that they test, since a crate with tests is
 //! proved a second time with them.
 #![tactic(auto)]
 
@@ -8,5 +8,3 @@ mod lines;
 mod reports;
 #[cfg(test)]
 mod texts;
-#[cfg(test)]
-mod thin;

@@ -8,3 +8,7 @@ pub mod Laws
 pub mod Verdicts
 pub mod Views
 pub mod Answers
+-- Passed on from the crates below.
+pub use Rattle.hp_session.specs as hp_session
+pub use Rattle.job_lines.specs as job_lines
+pub use Rattle.mpe_session.specs as mpe_session

@@ -90,7 +90,7 @@ fn serve_alone(
         printed: terminal.printed.clone()?,
         taken: terminal.next_line,
         numbers: (
-            stack.sr,
+            stack.top.len() as u8,
             stack.fills.wrapping_sub(fills),
             stack.spills.wrapping_sub(spills),
         ),

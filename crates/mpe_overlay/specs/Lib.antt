@@ -4,3 +4,5 @@ pub mod Codes
 pub mod Holds
 pub mod Needs
 pub mod Held
+-- Passed on from the crates below.
+pub use Rattle.mpe_regions.specs as mpe_regions

@@ -5,7 +5,7 @@ use Rattle.std.proofs.lemmas.Bool.{leb-true, ltb-true, lt-leb}
 use Rattle.hp_program.specs.declared.program.Defect.{Defect}
 use Rattle.hp_program.specs.declared.program.Defect.TheVariants as defect
 use Rattle.hp_program.specs.Valid.{is_well_sized, bad_segment, bad_table, is_head, is_local, is_local_entry, entries_of, label_of, first_defect, or_else}
-use Rattle.hp_instr.specs.Labels.{label}
+use Rattle.hp_program.specs.hp_instr.Labels.{label}
 use Rattle.mpe_progfile.specs.declared.faults.FileFault.TheVariants as fault
 use Rattle.mpe_progfile.specs.Reading.{Parts, table_read, labelled}
 use Rattle.mpe_progfile.proofs.SizeLemmas.{first_sized}

@@ -17,3 +17,6 @@ pub mod ValidLemmas
 pub mod PrepareLemmas
 pub mod SiteLaws
 pub mod KnownFaults
+-- Passed on from the crates below.
+pub use Rattle.hp_program.proofs as hp_program_proofs
+pub use Rattle.spl_branch.proofs as spl_branch_proofs

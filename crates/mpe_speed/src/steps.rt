@@ -1,9 +1,9 @@
 //! Steps by the processor alone, and in turns.
 use crate::jobs::{Job, opened, program};
-use hp_cpu::{Cpu, Phase, Regs, Stack, Stepped};
 use hp_program::Program;
 use hp_word::Code;
 use mpe_turns::Monitor;
+use mpe_turns::hp_cpu::{Cpu, Phase, Regs, Stack, Stepped};
 use std::alloc::{AllocError, Global};
 
 /// A processor at the first word of a segment, with one data word of 0 beneath the main body's marker.

@@ -4,7 +4,7 @@ use Rattle.std.specs.Prelude.{if◌then◌else◌}
 use Rattle.std.proofs.lemmas.List.{at_drop_all, at_drop_more, get_or-map, length-map}
 use Rattle.hp_word.specs.declared.endings.Ending.{Ending}
 use Rattle.hp_word.specs.declared.endings.Ending.TheVariants.{Running, Terminated, Quit, Trapped}
-use Rattle.hp_flat.specs.Step.{is_running}
+use Rattle.mpe_worlds.specs.hp_flat.Step.{is_running}
 use Rattle.mpe_worlds.specs.Worlds.{Run}
 use Rattle.mpe_worlds.specs.Dispatch.{first_live, next_among, or_else}
 use Rattle.mpe_turns.specs.declared.session.Session.{Session}

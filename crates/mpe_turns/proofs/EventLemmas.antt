@@ -6,7 +6,7 @@ use Rattle.std.proofs.lemmas.List.{at_drop_all, at_drop_more}
 use Rattle.std.proofs.lemmas.Option.{slice_get-map}
 use Rattle.hp_word.specs.declared.endings.Ending.{Ending}
 use Rattle.hp_word.specs.declared.endings.Ending.TheVariants.{Running, Terminated, Quit, Trapped}
-use Rattle.hp_flat.specs.Step.{is_running}
+use Rattle.mpe_worlds.specs.hp_flat.Step.{is_running}
 use Rattle.mpe_worlds.specs.declared.event.Event.{Event}
 use Rattle.mpe_worlds.specs.declared.event.Event.TheVariants.{Turn, Evict}
 use Rattle.mpe_worlds.specs.Turns.{evicted, turned}

@@ -8,10 +8,10 @@ use Rattle.std.proofs.lemmas.Bool.{true≢false}
 use Rattle.std.proofs.lemmas.Option.{slice_get-map}
 use Rattle.hp_program.specs.declared.program.Program.{Program}
 use Rattle.hp_program.specs.Programs.{segments_of}
-use Rattle.hp_calls.specs.Phases.{HoldsOf}
-use Rattle.hp_flat.specs.Step.{is_running}
-use Rattle.mpe_regions.specs.Area.{Area, is_live}
-use Rattle.mpe_regions.specs.Kept.{Kept}
+use Rattle.mpe_worlds.specs.hp_calls.Phases.{HoldsOf}
+use Rattle.mpe_worlds.specs.hp_flat.Step.{is_running}
+use Rattle.mpe_overlay.specs.mpe_regions.Area.{Area, is_live}
+use Rattle.mpe_overlay.specs.mpe_regions.Kept.{Kept}
 use Rattle.mpe_overlay.specs.declared.overlay.Overlay.{Overlay}
 use Rattle.mpe_overlay.specs.declared.view.SegmentView.{SegmentView}
 use Rattle.mpe_overlay.specs.declared.view.View.{View}

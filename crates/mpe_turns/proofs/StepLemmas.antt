@@ -12,32 +12,32 @@ use Rattle.hp_word.specs.declared.intrinsics.Intrinsic.{Intrinsic}
 use Rattle.hp_word.specs.Intrinsics.{answer_words}
 use Rattle.hp_program.specs.declared.program.Program.{Program}
 use Rattle.hp_program.specs.Programs.{segments_of}
-use Rattle.hp_tos.specs.Calls.{flushed}
-use Rattle.hp_tos.specs.Seen.{Seen}
-use Rattle.hp_tos.specs.StackView.{seen}
-use Rattle.hp_session.specs.declared.registers.Regs.{Regs}
-use Rattle.hp_session.specs.State.{Machine, Outcome, passing}
-use Rattle.hp_call_rows.specs.GateRows.{performed}
-use Rattle.hp_rows.specs.Numbers.{exchanging, numbers}
-use Rattle.hp_rows.specs.Standing.{standing}
-use Rattle.hp_calls.specs.declared.phases.Phase.{Phase}
-use Rattle.hp_calls.specs.declared.phases.Phase.TheVariants.{Ready, Entering, Returning}
-use Rattle.hp_calls.specs.Phases.{destination, finished}
-use Rattle.hp_rows.specs.Flushes.{flush_moved}
+use Rattle.mpe_gate.specs.hp_tos.Calls.{flushed}
+use Rattle.mpe_gate.specs.hp_tos.Seen.{Seen}
+use Rattle.mpe_gate.specs.hp_tos.StackView.{seen}
+use Rattle.mpe_gate.specs.hp_session.declared.registers.Regs.{Regs}
+use Rattle.mpe_gate.specs.hp_session.State.{Machine, Outcome, passing}
+use Rattle.mpe_gate.specs.hp_call_rows.GateRows.{performed}
+use Rattle.mpe_gate.specs.hp_rows.Numbers.{exchanging, numbers}
+use Rattle.mpe_gate.specs.hp_rows.Standing.{standing}
+use Rattle.mpe_worlds.specs.hp_calls.declared.phases.Phase.{Phase}
+use Rattle.mpe_worlds.specs.hp_calls.declared.phases.Phase.TheVariants.{Ready, Entering, Returning}
+use Rattle.mpe_worlds.specs.hp_calls.Phases.{destination, finished}
+use Rattle.mpe_gate.specs.hp_rows.Flushes.{flush_moved}
 use Rattle.hp_program.proofs.ValidLaws.{program_labels_lead}
-use Rattle.hp_flat.proofs.StepKeeping.{step-continues}
-use Rattle.hp_flat.specs.Step.{ended, is_running, step}
-use Rattle.hp_cpu.specs.declared.cpu.Cpu.{Cpu}
-use Rattle.hp_cpu.specs.Counts.{numbers_after}
-use Rattle.hp_cpu.specs.Gates.{instruction_at}
-use Rattle.hp_cpu.specs.Steps.{Calls, Goes, Traps, Waits}
-use Rattle.hp_cpu.specs.Stood.{needed, registers, stood}
-use Rattle.hp_cpu.specs.Suits.{IsTransferOf, Suits}
+use Rattle.mpe_worlds.proofs.hp_flat_proofs.StepKeeping.{step-continues}
+use Rattle.mpe_worlds.specs.hp_flat.Step.{ended, is_running, step}
+use Rattle.mpe_worlds.specs.hp_cpu.declared.cpu.Cpu.{Cpu}
+use Rattle.mpe_worlds.specs.hp_cpu.Counts.{numbers_after}
+use Rattle.mpe_worlds.specs.hp_cpu.Gates.{instruction_at}
+use Rattle.mpe_worlds.specs.hp_cpu.Steps.{Calls, Goes, Traps, Waits}
+use Rattle.mpe_worlds.specs.hp_cpu.Stood.{needed, registers, stood}
+use Rattle.mpe_worlds.specs.hp_cpu.Suits.{IsTransferOf, Suits}
 use Rattle.mpe_gate.specs.declared.gate.Served.{Served}
 use Rattle.mpe_gate.specs.declared.gate.Served.TheVariants.{Went, Ended, Trapped}
 use Rattle.mpe_gate.specs.Seated.{seated}
 use Rattle.mpe_gate.specs.Serves.{CameTo, serve_moved}
-use Rattle.mpe_regions.specs.Area.{Area, is_live, region_of}
+use Rattle.mpe_overlay.specs.mpe_regions.Area.{Area, is_live, region_of}
 use Rattle.mpe_overlay.specs.declared.view.SegmentView.{SegmentView}
 use Rattle.mpe_overlay.specs.Codes.{key_of}
 use Rattle.mpe_overlay.specs.Held.{held_in}

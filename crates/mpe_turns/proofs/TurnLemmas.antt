@@ -12,13 +12,13 @@ use Rattle.hp_word.specs.declared.endings.Ending.TheVariants.{Running}
 use Rattle.hp_program.specs.declared.program.Program.{Program}
 use Rattle.hp_program.specs.Programs.{segments_of}
 use Rattle.hp_program.specs.Valid.{is_local_entry}
-use Rattle.hp_calls.specs.declared.phases.Phase.{Phase}
-use Rattle.hp_calls.specs.declared.phases.Phase.TheVariants.{Ready, Entering, Returning}
-use Rattle.hp_calls.specs.Phases.{destination}
-use Rattle.hp_flat.specs.Step.{is_running}
-use Rattle.hp_cpu.specs.Stood.{needed}
-use Rattle.mpe_regions.specs.Area.{Area, is_live}
-use Rattle.mpe_regions.specs.Loads.{needed as loaded}
+use Rattle.mpe_worlds.specs.hp_calls.declared.phases.Phase.{Phase}
+use Rattle.mpe_worlds.specs.hp_calls.declared.phases.Phase.TheVariants.{Ready, Entering, Returning}
+use Rattle.mpe_worlds.specs.hp_calls.Phases.{destination}
+use Rattle.mpe_worlds.specs.hp_flat.Step.{is_running}
+use Rattle.mpe_worlds.specs.hp_cpu.Stood.{needed}
+use Rattle.mpe_overlay.specs.mpe_regions.Area.{Area, is_live}
+use Rattle.mpe_overlay.specs.mpe_regions.Loads.{needed as loaded}
 use Rattle.mpe_overlay.specs.Codes.{codes_of, key_of, segment_at, size_of}
 use Rattle.mpe_overlay.specs.Needs.{counted}
 use Rattle.mpe_overlay.proofs.SegmentLemmas.{segment_at-program}

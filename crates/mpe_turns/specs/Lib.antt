@@ -6,3 +6,7 @@ pub mod Opening
 pub mod Opened
 pub mod Steps
 pub mod Answers
+-- Passed on from the crates below.
+pub use Rattle.mpe_gate.specs.hp_tos
+pub use Rattle.mpe_overlay.specs as mpe_overlay
+pub use Rattle.mpe_worlds.specs as mpe_worlds

@@ -1,14 +1,14 @@
 -- For which session of a world a session stands, and what that needs.
 use Rattle.std.specs.Prelude.{◌≡◌, ℕ, ◌<◌, ◌≤◌, true, List, length, map, slice_get, Some}
-use Rattle.hp_tos.specs.StackView.{seen}
-use Rattle.hp_session.specs.SessionView.{lines_of}
-use Rattle.hp_session.specs.State.{Machine}
-use Rattle.hp_rows.specs.Numbers.{numbers}
+use Rattle.mpe_gate.specs.hp_tos.StackView.{seen}
+use Rattle.mpe_gate.specs.hp_session.SessionView.{lines_of}
+use Rattle.mpe_gate.specs.hp_session.State.{Machine}
+use Rattle.mpe_gate.specs.hp_rows.Numbers.{numbers}
 use Rattle.hp_program.specs.declared.program.Program.{Program}
 use Rattle.hp_program.specs.Programs.{segments_of}
 use Rattle.hp_program.specs.Valid.{is_local_entry}
-use Rattle.hp_calls.specs.declared.phases.Phase.TheVariants.{Entering, Returning}
-use Rattle.hp_cpu.specs.Stood.{registers}
+use Rattle.mpe_worlds.specs.hp_calls.declared.phases.Phase.TheVariants.{Entering, Returning}
+use Rattle.mpe_worlds.specs.hp_cpu.Stood.{registers}
 use Rattle.mpe_overlay.specs.Codes.{codes_of, segment_at}
 use Rattle.mpe_worlds.specs.Worlds.{Run, segments_at}
 use Rattle.mpe_turns.specs.declared.session.Session.{Session}

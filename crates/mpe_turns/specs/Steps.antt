@@ -5,13 +5,13 @@ use Rattle.hp_word.specs.declared.endings.Ending.TheVariants.{Running, Trapped a
 use Rattle.hp_word.specs.declared.intrinsics.Intrinsic.{Intrinsic}
 use Rattle.hp_program.specs.declared.program.Program.{Program}
 use Rattle.hp_program.specs.Programs.{segments_of}
-use Rattle.hp_tos.specs.StackView.{seen}
-use Rattle.hp_calls.specs.Phases.{HoldsOf}
-use Rattle.hp_flat.specs.Step.{is_running}
+use Rattle.mpe_gate.specs.hp_tos.StackView.{seen}
+use Rattle.mpe_worlds.specs.hp_calls.Phases.{HoldsOf}
+use Rattle.mpe_worlds.specs.hp_flat.Step.{is_running}
 use Rattle.mpe_gate.specs.declared.gate.Served.{Served}
 use Rattle.mpe_gate.specs.declared.gate.Served.TheVariants.{Went, Ended, Trapped}
 use Rattle.mpe_gate.specs.Serves.{Serves}
-use Rattle.mpe_regions.specs.Area.{Area}
+use Rattle.mpe_overlay.specs.mpe_regions.Area.{Area}
 use Rattle.mpe_overlay.specs.declared.view.SegmentView.{SegmentView}
 use Rattle.mpe_overlay.specs.Held.{held_in}
 use Rattle.mpe_worlds.specs.RunSteps.{can_step, stepping}

@@ -16,3 +16,5 @@ pub use session::{Session, Turned};
 
 #[cfg(test)]
 mod tests;
+
+pub use mpe_worlds::hp_cpu;

@@ -11,11 +11,11 @@ ghost use Rattle.mpe_turns.specs.Stands.{IsSessionOf, run_of};
 use crate::fault::OpenFault;
 use crate::monitor::Monitor;
 use crate::session::Session;
-use hp_cpu::{Cpu, Phase, Regs, Stack};
 use hp_program::{Program, label_word, segment_words};
 use hp_word::{Code, Ending};
 use mpe_overlay::Overlay;
 use mpe_session::{Seat, Terminal};
+use mpe_worlds::hp_cpu::{Cpu, Phase, Regs, Stack};
 use std::alloc::{AllocError, Global};
 
 /// The words of stack that a session of a program needs.

@@ -1,7 +1,7 @@
 //! A session at its terminal, and what a turn answers.
-use hp_cpu::Cpu;
 use hp_word::{Ending, Trap};
 use mpe_session::Terminal;
+use mpe_worlds::hp_cpu::Cpu;
 
 /// A session of a monitor.
 #[derive(Debug, Drop)]

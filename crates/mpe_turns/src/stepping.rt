@@ -3,18 +3,18 @@ ghost use Rattle.std.specs.Prelude.{◌≡◌, ℕ, ◌+◌, ◌-◌, ◌<◌, �
 ghost use Rattle.hp_word.specs.declared.endings.Ending.TheVariants.{Running};
 ghost use Rattle.hp_program.specs.declared.program.Program.{Program};
 ghost use Rattle.hp_program.specs.Programs.{segments_of};
-ghost use Rattle.hp_tos.specs.StackView.{seen};
-ghost use Rattle.hp_cpu.specs.Stood.{needed};
+ghost use Rattle.mpe_gate.specs.hp_tos.StackView.{seen};
+ghost use Rattle.mpe_worlds.specs.hp_cpu.Stood.{needed};
 ghost use Rattle.mpe_worlds.specs.RunSteps.{stepping};
 ghost use Rattle.mpe_turns.specs.Stands.{IsSessionOf, run_of};
 ghost use Rattle.mpe_turns.specs.Answers.{answer_by};
 ghost use Rattle.mpe_turns.specs.Steps.{MakesOne, MakesSome, RunsOver, ServesCall, area_of};
 
 use crate::session::{Session, Turned};
-use hp_cpu::Stepped;
 use hp_word::{Ending, Intrinsic};
 use mpe_gate::{Served, serve};
 use mpe_overlay::{Overlay, SegmentView};
+use mpe_worlds::hp_cpu::Stepped;
 
 /// Counts a step after which the session goes on.
 #[inline(always)]

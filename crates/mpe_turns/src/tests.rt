@@ -59,7 +59,7 @@ fn told(monitor: &Monitor, who: usize) -> Option<(u64, Ending, u8, u64, u64)> {
     Some((
         session.steps,
         session.ending,
-        stack.sr,
+        stack.top.len() as u8,
         stack.fills,
         stack.spills,
     ))

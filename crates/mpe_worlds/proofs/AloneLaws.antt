@@ -4,8 +4,8 @@ use Rattle.std.specs.Prelude.{slice_get, slice_set, ◌⊎◌, if◌then◌else�
 use Rattle.std.proofs.lemmas.Bool.{cases_eq}
 use Rattle.std.proofs.lemmas.List.{length-set}
 use Rattle.std.proofs.lemmas.Option.{same_Some, slice_get_within}
-use Rattle.hp_flat.specs.Step.{after}
-use Rattle.hp_flat.proofs.RunLaws.{after-add}
+use Rattle.hp_cpu.specs.hp_flat.Step.{after}
+use Rattle.hp_cpu.proofs.hp_flat_proofs.RunLaws.{after-add}
 use Rattle.mpe_worlds.specs.declared.event.Event.{Event}
 use Rattle.mpe_worlds.specs.declared.event.Event.TheVariants.{Turn, Evict}
 use Rattle.mpe_worlds.specs.Worlds.{Run, World, segments_at}

@@ -1,18 +1,18 @@
 -- How a step moves SR, fills and spills rests on these numbers and the words alone, and not on the memory that is reserved.
 use Rattle.std.proofs.Common.{◌≡◌, ℕ, refl, ap, ◌∙◌}
 use Rattle.std.specs.Prelude.{Option, None, Some, Result, Ok, Err}
-use Rattle.hp_word.specs.declared.endings.Trap.{Trap}
-use Rattle.hp_word.specs.declared.endings.Trap.TheVariants.{IntegerOverflow, DivideByZero, Bounds, StackOverflow, StackUnderflow, Illegal, CodeBounds, BadEntry, OutputLimit, Mode}
-use Rattle.hp_instr.specs.Groups.{group}
-use Rattle.hp_instr.specs.declared.groups.Group.{Group}
-use Rattle.hp_instr.specs.declared.groups.Group.TheVariants as groups
-use Rattle.hp_instr.specs.declared.instruction.Instr.{Instr}
-use Rattle.hp_instr.specs.declared.instruction.Instr.TheVariants as words
-use Rattle.hp_tos.specs.Seen.{Seen}
-use Rattle.hp_session.specs.declared.registers.Regs.{Regs}
-use Rattle.hp_rows.specs.Numbers.{Way, filling, dropping, Uses, at_hand, exchanging, moved}
-use Rattle.hp_rows.specs.Flushes.{flush_moved}
-use Rattle.hp_memref.specs.ReferenceUses.{reference_uses}
+use Rattle.hp_cpu.specs.hp_word.declared.endings.Trap.{Trap}
+use Rattle.hp_cpu.specs.hp_word.declared.endings.Trap.TheVariants.{IntegerOverflow, DivideByZero, Bounds, StackOverflow, StackUnderflow, Illegal, CodeBounds, BadEntry, OutputLimit, Mode}
+use Rattle.hp_cpu.specs.hp_instr.Groups.{group}
+use Rattle.hp_cpu.specs.hp_instr.declared.groups.Group.{Group}
+use Rattle.hp_cpu.specs.hp_instr.declared.groups.Group.TheVariants as groups
+use Rattle.hp_cpu.specs.hp_instr.declared.instruction.Instr.{Instr}
+use Rattle.hp_cpu.specs.hp_instr.declared.instruction.Instr.TheVariants as words
+use Rattle.hp_cpu.specs.hp_tos.Seen.{Seen}
+use Rattle.hp_cpu.specs.hp_session.declared.registers.Regs.{Regs}
+use Rattle.hp_cpu.specs.hp_rows.Numbers.{Way, filling, dropping, Uses, at_hand, exchanging, moved}
+use Rattle.hp_cpu.specs.hp_rows.Flushes.{flush_moved}
+use Rattle.hp_cpu.specs.hp_memref.ReferenceUses.{reference_uses}
 use Rattle.hp_cpu.specs.Counts.{group_numbers, instruction_numbers, numbers_after}
 
 -- the same stack with other memory reserved

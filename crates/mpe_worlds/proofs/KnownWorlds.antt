@@ -1,16 +1,16 @@
 -- Turns, dispatch and events of small worlds, worked by hand from the rules.
 use Rattle.std.proofs.Common.{◌≡◌, ℕ, false, List, [], ◌∷◌, None, Some, Option, refl}
 use Rattle.std.specs.Prelude.{slice_get, option_map}
-use Rattle.hp_word.specs.declared.endings.Ending.{Ending}
-use Rattle.hp_word.specs.declared.endings.Ending.TheVariants.{Running, Terminated, Trapped}
-use Rattle.hp_word.specs.declared.endings.Trap.TheVariants.{CodeBounds}
-use Rattle.hp_instr.specs.Fields.{is_op}
-use Rattle.hp_instr.specs.Instructions.{instruction, pair}
-use Rattle.hp_program.specs.Programs.{code_word}
-use Rattle.hp_session.specs.State.{opened}
-use Rattle.hp_stack_rows.specs.StackRows.{operated}
-use Rattle.hp_stackops.specs.StackUses.{used_by}
-use Rattle.hp_flat.specs.Step.{outcome, pair_row, row, step}
+use Rattle.hp_cpu.specs.hp_word.declared.endings.Ending.{Ending}
+use Rattle.hp_cpu.specs.hp_word.declared.endings.Ending.TheVariants.{Running, Terminated, Trapped}
+use Rattle.hp_cpu.specs.hp_word.declared.endings.Trap.TheVariants.{CodeBounds}
+use Rattle.hp_cpu.specs.hp_instr.Fields.{is_op}
+use Rattle.hp_cpu.specs.hp_instr.Instructions.{instruction, pair}
+use Rattle.hp_cpu.specs.hp_program.Programs.{code_word}
+use Rattle.hp_cpu.specs.hp_session.State.{opened}
+use Rattle.hp_cpu.specs.hp_stack_rows.StackRows.{operated}
+use Rattle.hp_cpu.specs.hp_stackops.StackUses.{used_by}
+use Rattle.hp_cpu.specs.hp_flat.Step.{outcome, pair_row, row, step}
 use Rattle.hp_cpu.specs.Counts.{instruction_numbers}
 use Rattle.hp_cpu.specs.Gates.{called_gate}
 use Rattle.mpe_overlay.specs.Codes.{segment_at}

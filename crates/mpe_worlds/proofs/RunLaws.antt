@@ -4,8 +4,8 @@
 use Rattle.std.proofs.Common.{◌≡◌, ℕ, zero, suc, ◌+◌, ◌≤◌, Bool, true, false, List, refl, ◌∙◌, arith}
 use Rattle.std.specs.Prelude.{if◌then◌else◌}
 use Rattle.std.proofs.lemmas.Bool.{and_parts}
-use Rattle.hp_flat.specs.Step.{after, is_running}
-use Rattle.mpe_regions.specs.Area.{Area, is_live}
+use Rattle.hp_cpu.specs.hp_flat.Step.{after, is_running}
+use Rattle.mpe_overlay.specs.mpe_regions.Area.{Area, is_live}
 use Rattle.mpe_worlds.specs.Worlds.{Run}
 use Rattle.mpe_worlds.specs.RunSteps.{can_step, key_needed, stepped, stepping}
 

@@ -1,7 +1,7 @@
 -- That each session of a world goes on as if it ran alone.
 use Rattle.std.specs.Prelude.{◌≡◌, ℕ, ◌≤◌, ◌-◌, List, length, slice_get, Some}
-use Rattle.hp_session.specs.State.{Machine}
-use Rattle.hp_flat.specs.Step.{after}
+use Rattle.hp_cpu.specs.hp_session.State.{Machine}
+use Rattle.hp_cpu.specs.hp_flat.Step.{after}
 use Rattle.mpe_worlds.specs.Worlds.{Run, World, segments_at}
 
 -- a session of the same program, which has made no fewer steps. It stands where the flat machine of its program stands after so

@@ -1,7 +1,7 @@
 -- Whose turn is next, and a job's turns.
 use Rattle.std.specs.Prelude.{ℕ, zero, suc, ◌+◌, List, [], ◌∷◌, drop, map, Option, None, Some, is_some, if◌then◌else◌}
-use Rattle.hp_word.specs.declared.endings.Ending.{Ending}
-use Rattle.hp_flat.specs.Step.{is_running}
+use Rattle.hp_cpu.specs.hp_word.declared.endings.Ending.{Ending}
+use Rattle.hp_cpu.specs.hp_flat.Step.{is_running}
 use Rattle.mpe_worlds.specs.Worlds.{World}
 use Rattle.mpe_worlds.specs.Turns.{turned}
 

@@ -1,6 +1,6 @@
 -- What a list of events makes of a world. An event whose conditions do not hold is passed over.
 use Rattle.std.specs.Prelude.{ℕ, ◌+◌, ◌^◌, Bool, false, ◌&&◌, nat_le, List, [], ◌∷◌, slice_get, Option, None, Some, is_some, if◌then◌else◌}
-use Rattle.hp_flat.specs.Step.{is_running}
+use Rattle.hp_cpu.specs.hp_flat.Step.{is_running}
 use Rattle.mpe_overlay.specs.Codes.{key_of, segment_at}
 use Rattle.mpe_worlds.specs.declared.event.Event.{Event}
 use Rattle.mpe_worlds.specs.declared.event.Event.TheVariants.{Turn, Evict}

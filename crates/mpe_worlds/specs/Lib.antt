@@ -7,3 +7,7 @@ pub mod Turns
 pub mod Dispatch
 pub mod Events
 pub mod Alone
+-- Passed on from the crates below.
+pub use Rattle.hp_cpu.specs.hp_calls
+pub use Rattle.hp_cpu.specs as hp_cpu
+pub use Rattle.hp_cpu.specs.hp_flat

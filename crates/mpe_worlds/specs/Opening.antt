@@ -1,8 +1,8 @@
 -- How a world opens: each session as its program's opens, nothing loaded, nothing counted; and when the memory is enough for it.
 use Rattle.std.specs.Prelude.{ℕ, ◌+◌, ◌-◌, max, List, [], ◌∷◌, ◌++◌, length, slice_get, Option, None, Some}
-use Rattle.hp_flat.specs.Views.{opened_of}
-use Rattle.hp_program.specs.declared.program.Program.{Program}
-use Rattle.hp_rows.specs.Numbers.{Numbers}
+use Rattle.hp_cpu.specs.hp_flat.Views.{opened_of}
+use Rattle.hp_cpu.specs.hp_program.declared.program.Program.{Program}
+use Rattle.hp_cpu.specs.hp_rows.Numbers.{Numbers}
 use Rattle.mpe_session.specs.declared.seat.Seat.{Seat}
 use Rattle.mpe_worlds.specs.Worlds.{Run, World}
 

@@ -1,17 +1,17 @@
 -- A step of a session: the flat machine's, and how it moves SR, fills and spills.
 use Rattle.std.specs.Prelude.{ℕ, zero, suc, ◌+◌, Bool, ◌&&◌, List, Option, None, Some, Result, Ok, Err, if◌then◌else◌}
-use Rattle.hp_word.specs.declared.endings.Trap.{Trap}
-use Rattle.hp_word.specs.declared.intrinsics.Intrinsic.{Intrinsic}
-use Rattle.hp_word.specs.Intrinsics.{answer_words}
-use Rattle.hp_tos.specs.Seen.{Seen}
-use Rattle.hp_session.specs.declared.registers.Regs.{Regs}
-use Rattle.hp_session.specs.State.{Machine, Outcome}
-use Rattle.hp_rows.specs.Numbers.{Numbers}
-use Rattle.hp_rows.specs.Flushes.{flush_moved}
-use Rattle.hp_flat.specs.Step.{is_running, outcome, step}
+use Rattle.hp_cpu.specs.hp_word.declared.endings.Trap.{Trap}
+use Rattle.hp_cpu.specs.hp_word.declared.intrinsics.Intrinsic.{Intrinsic}
+use Rattle.hp_cpu.specs.hp_word.Intrinsics.{answer_words}
+use Rattle.hp_cpu.specs.hp_tos.Seen.{Seen}
+use Rattle.hp_cpu.specs.hp_session.declared.registers.Regs.{Regs}
+use Rattle.hp_cpu.specs.hp_session.State.{Machine, Outcome}
+use Rattle.hp_cpu.specs.hp_rows.Numbers.{Numbers}
+use Rattle.hp_cpu.specs.hp_rows.Flushes.{flush_moved}
+use Rattle.hp_cpu.specs.hp_flat.Step.{is_running, outcome, step}
 use Rattle.hp_cpu.specs.Counts.{numbers_after}
 use Rattle.hp_cpu.specs.Gates.{called_gate, instruction_at}
-use Rattle.mpe_regions.specs.Area.{Area, is_live}
+use Rattle.mpe_overlay.specs.mpe_regions.Area.{Area, is_live}
 use Rattle.mpe_overlay.specs.Codes.{key_of}
 use Rattle.mpe_worlds.specs.Worlds.{Run}
 

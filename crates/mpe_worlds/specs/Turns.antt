@@ -1,7 +1,7 @@
 -- What a turn and an eviction make of a world.
 use Rattle.std.specs.Prelude.{ℕ, ◌+◌, List, slice_get, slice_set, Option, None, Some, if◌then◌else◌}
-use Rattle.mpe_regions.specs.Area.{Area, is_live}
-use Rattle.mpe_regions.specs.Loads.{needed, dropped}
+use Rattle.mpe_overlay.specs.mpe_regions.Area.{Area, is_live}
+use Rattle.mpe_overlay.specs.mpe_regions.Loads.{needed, dropped}
 use Rattle.mpe_overlay.specs.Codes.{key_of, size_of}
 use Rattle.mpe_worlds.specs.Worlds.{Run, World, segments_at}
 use Rattle.mpe_worlds.specs.RunSteps.{key_needed, stepping}

@@ -1,8 +1,8 @@
 -- What a monitor stands for: sessions of the flat machine, each with its counts, the code area, and what is counted of all.
 use Rattle.std.specs.Prelude.{ℕ, List, [], slice_get, unwrap_or}
-use Rattle.hp_rows.specs.Numbers.{Numbers}
-use Rattle.hp_session.specs.State.{Machine}
-use Rattle.mpe_regions.specs.Area.{Area}
+use Rattle.hp_cpu.specs.hp_rows.Numbers.{Numbers}
+use Rattle.hp_cpu.specs.hp_session.State.{Machine}
+use Rattle.mpe_overlay.specs.mpe_regions.Area.{Area}
 
 -- a session of a world
 pub record Run : Type 0 where

@@ -6,4 +6,5 @@ mod event;
 mod laws;
 
 pub use event::Event;
+pub use hp_cpu;
 pub use laws::{events_leave_each_alone, turns_leave_each_alone};

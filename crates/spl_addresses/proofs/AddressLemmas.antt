@@ -1,62 +1,62 @@
 -- Addresses of variables and of what cells lead to, and addresses that are stored in pointers.
-use Rattle.std.proofs.Common.{◌≡◌, ℕ, ◌+◌, ◌*◌, ◌-◌, ◌%◌, ◌<◌, ◌≤◌, Bool, true, false, List, [], ◌∷◌, length, map, refl, sym, ap, subst, ◌∙◌, arith}
+use Rattle.std.proofs.Common.{◌≡◌, ℕ, ◌+◌, ◌*◌, ◌-◌, ◌%◌, ◌≤◌, Bool, true, false, List, [], ◌∷◌, map, refl, sym, ap, subst, ◌∙◌, arith}
 use Rattle.std.specs.Prelude.{◌^◌, Option, Some, None, nat_lt, if◌then◌else◌}
-use Rattle.hp_word.specs.declared.endings.Trap.TheVariants.{Bounds}
-use Rattle.hp_word.specs.Bits.{shifted}
-use Rattle.hp_word.proofs.ShiftLemmas.{shifted-Lsl}
-use Rattle.hp_instr.specs.declared.instruction.Instr.TheVariants as instr
-use Rattle.hp_session.specs.State.{Machine, word}
-use Rattle.hp_session.specs.Places.{address}
-use Rattle.hp_word_rows.specs.WordRows.{shift_of, shifting}
-use Rattle.hp_memory_rows.specs.MemoryRows.{memory_row}
-use Rattle.hp_flat.specs.Step.{at_left}
-use Rattle.hp_yields.proofs.MemoryYields as rows
-use Rattle.hp_yields.proofs.WordYields as word_rows
-use Rattle.spl_tree.specs.declared.expressions.Kind.{Kind}
-use Rattle.spl_tree.specs.declared.expressions.Kind.TheVariants as kind
-use Rattle.spl_frames.specs.Words.{AreWords}
-use Rattle.spl_meaning.specs.Elements.{with_one}
-use Rattle.spl_meaning.specs.Places.{Place}
-use Rattle.spl_meaning.specs.References.{Setting, address_of, data_word_read, word_at, placed_word, word_stored, variable_located, element_address, element_located, led_located, own_located}
-use Rattle.spl_meaning.specs.States.{Data, State, Begun, Outcome, done, leaves, spent, ends, strays, trapped, then_go}
-use Rattle.spl_meaning.specs.Statements.{cell_stored}
-use Rattle.spl_meaning.specs.Values.{address_done}
-use Rattle.spl_code.specs.Code.{as_value}
-use Rattle.spl_code.specs.Operands.{mode_of, own_address, cell_address}
-use Rattle.spl_code.specs.Parts.{Part, pieces}
-use Rattle.spl_code.specs.Stores.{pointer_stored}
-use Rattle.spl_follow.specs.Spots.{Spot, pos, Point, on, Ground}
-use Rattle.spl_follow.specs.Leading.{Leads}
-use Rattle.spl_follow.specs.Matching.{IsValue}
-use Rattle.spl_follow.specs.Following.{Rate, tally, tally_with, Follows, NoExit}
-use Rattle.spl_follow.specs.Doing.{doing}
-use Rattle.spl_follow.specs.Yielding.{Yields}
-use Rattle.spl_follow.specs.Parts.{Ready, Gives, Completes}
-use Rattle.spl_follow.specs.Simulating.{Surroundings, Simulates}
-use Rattle.spl_follow.proofs.FollowLemmas.{bind_follows}
-use Rattle.spl_follow.proofs.KeepLemmas.{value_word}
-use Rattle.spl_follow.proofs.WayLemmas.{goes_none}
-use Rattle.spl_values.specs.Reached.{is_reached}
-use Rattle.spl_values.proofs.GiveLemmas.{last_leads, ready_room, row_gives, row_behind}
-use Rattle.spl_values.proofs.VariableLemmas.{variables_give as words_give}
-use Rattle.spl_values.proofs.WholeLemmas.{same_simulates}
-use Rattle.spl_operands.specs.Operands.{Finds}
-use Rattle.spl_operands.proofs.OperandLemmas.{place_based}
-use Rattle.spl_operands.proofs.StoreLemmas.{store_follows}
-use Rattle.spl_operands.proofs.AssignLemmas.{value_storing, value_stored}
-use Rattle.spl_variables.proofs.OwnLemmas.{place_low, own_finds, own_refers}
+use Rattle.spl_variables.specs.hp_word.declared.endings.Trap.TheVariants.{Bounds}
+use Rattle.spl_variables.specs.hp_word.Bits.{shifted}
+use Rattle.spl_variables.proofs.hp_word_proofs.ShiftLemmas.{shifted-Lsl}
+use Rattle.spl_variables.specs.hp_instr.declared.instruction.Instr.TheVariants as instr
+use Rattle.spl_variables.specs.hp_session.State.{Machine}
+use Rattle.spl_variables.specs.hp_word_rows.WordRows.{shift_of, shifting}
+use Rattle.spl_variables.specs.hp_memory_rows.MemoryRows.{memory_row}
+use Rattle.spl_variables.specs.hp_flat.Step.{at_left}
+use Rattle.spl_variables.proofs.hp_yields_proofs.MemoryYields as rows
+use Rattle.spl_variables.proofs.hp_yields_proofs.WordYields as word_rows
+use Rattle.spl_variables.specs.spl_tree.declared.expressions.Kind.{Kind}
+use Rattle.spl_variables.specs.spl_tree.declared.expressions.Kind.TheVariants as kind
+use Rattle.spl_variables.specs.spl_frames.Words.{AreWords}
+use Rattle.spl_variables.specs.spl_meaning.Elements.{with_one}
+use Rattle.spl_variables.specs.spl_meaning.Places.{Place}
+use Rattle.spl_variables.specs.spl_meaning.References.{Setting, address_of, data_word_read, word_at, placed_word, word_stored, element_address, element_located, led_located, own_located}
+use Rattle.spl_variables.specs.spl_meaning.States.{Data, State, Begun, Outcome, done, leaves, spent, ends, strays, trapped, then_go}
+use Rattle.spl_variables.specs.spl_meaning.Statements.{cell_stored}
+use Rattle.spl_variables.specs.spl_meaning.Values.{address_done}
+use Rattle.spl_variables.specs.spl_code.Code.{as_value}
+use Rattle.spl_variables.specs.spl_code.Operands.{mode_of, own_address, cell_address}
+use Rattle.spl_variables.specs.spl_code.Parts.{Part, pieces}
+use Rattle.spl_variables.specs.spl_code.Stores.{pointer_stored}
+use Rattle.spl_variables.specs.spl_follow.Spots.{Spot, pos, Point, on, Ground}
+use Rattle.spl_variables.specs.spl_follow.Leading.{Leads}
+use Rattle.spl_variables.specs.spl_follow.Matching.{IsValue}
+use Rattle.spl_variables.specs.spl_follow.Following.{Rate, tally, tally_with, Follows, NoExit}
+use Rattle.spl_variables.specs.spl_follow.Doing.{doing}
+use Rattle.spl_variables.specs.spl_follow.Yielding.{Yields}
+use Rattle.spl_variables.specs.spl_follow.Parts.{Ready, Gives, Completes}
+use Rattle.spl_variables.specs.spl_follow.Simulating.{Surroundings, Simulates}
+use Rattle.spl_variables.proofs.spl_follow_proofs.FollowLemmas.{bind_follows}
+use Rattle.spl_variables.proofs.spl_follow_proofs.KeepLemmas.{value_word}
+use Rattle.spl_variables.proofs.spl_follow_proofs.WayLemmas.{goes_none}
+use Rattle.spl_variables.specs.spl_values.Reached.{is_reached, is_seen}
+use Rattle.spl_variables.proofs.spl_values_proofs.GiveLemmas.{last_leads, ready_room, row_gives, row_behind}
+use Rattle.spl_variables.proofs.spl_values_proofs.VariableLemmas.{variables_give as words_give}
+use Rattle.spl_variables.proofs.spl_values_proofs.WholeLemmas.{same_simulates}
+use Rattle.spl_variables.proofs.spl_operands_proofs.SeenLemmas.{seen_based}
+use Rattle.spl_variables.proofs.spl_operands_proofs.StoreLemmas.{store_follows}
+use Rattle.spl_variables.proofs.spl_operands_proofs.AssignLemmas.{value_storing, value_stored}
+use Rattle.spl_variables.proofs.OwnLemmas.{seen_low, own_finds, own_refers}
 use Rattle.spl_addresses.specs.Laws.{AddressesOfVariablesSimulate, AddressesOfCellsSimulate, PointersAssigned}
 
 -- ---- variables
 
 -- LRA gives the address of a variable's word
 lra_gives : (g : Ground) (w : Rate) (st : Setting) (marks : ℕ → Spot) (d : ℕ) (p : Point) (q : Spot) (k need : ℕ) (place : Place) (s : State)
-    (l : List Begun) (m : Machine) → is_reached st k place ≡ true → 1 ≤ need
+    (l : List Begun) (m : Machine) → is_seen st k place ≡ true → 1 ≤ need
     → Leads g p q (doing g.segments (instr.Memory 15 true false false (mode_of k place)) q) → Ready st d p k need s l m
     → Gives g w st marks as_value 1 p q k s l m (done (address_of place s.now ∷ []) s)
-lra_gives g w st marks d p q k need place s l m reached enough leads ready =
-    let low = place_low st s.now k k place (at_left m) reached ready.matches in
-    let f = own_finds kind.Integer (mode_of k place) (address_of place s.now) (at_left m) (place_based st s.now k k place (at_left m) reached ready.matches) low in
+lra_gives g w st marks d p q k need place s l m seen enough leads ready =
+    let room = ready.room in
+    let low = seen_low st s.now k place (at_left m) seen ready.matches in
+    let based = seen_based st s.now k place (at_left m) seen ready.matches (omega (arith, room)) in
+    let f = own_finds kind.Integer (mode_of k place) (address_of place s.now) (at_left m) based low in
     row_gives g w st marks d p q (doing g.segments (instr.Memory 15 true false false (mode_of k place)) q) k need s l m (address_of place s.now)
     (memory_row 15 true (mode_of k place) false false (at_left m)) leads refl ready
     (subst (λ (a : ℕ). Yields 0 (a ∷ []) m (memory_row 15 true (mode_of k place) false false (at_left m))) f.at
@@ -77,36 +77,36 @@ doubles st p k d m v s n x =
     (word_rows.shift 2 1 (at_left n) (omega (arith, words))).words
 
 -- the address of a word
-word_address : (z : Surroundings) (d k need : ℕ) (place : Place) → is_reached z.setting k place ≡ true → 1 ≤ need
+word_address : (z : Surroundings) (d k need : ℕ) (place : Place) → is_seen z.setting k place ≡ true → 1 ≤ need
     → Simulates z d as_value 1 k need (pieces (own_address kind.Integer false (mode_of k place))) (λ s. done (address_of place s.now % 65536 ∷ []) s)
-word_address z d k need place reached enough = record {
+word_address z d k need place seen enough = record {
   does = λ h ws p q s l m stands front ready.
-      let low = place_low z.setting s.now k k place (at_left m) reached ready.matches in
+      let low = seen_low z.setting s.now k place (at_left m) seen ready.matches in
       let same : address_of place s.now ≡ address_of place s.now % 65536 = omega (arith, low) in
       subst (λ (a : ℕ). Gives z.ground z.rate z.setting z.sites.marks as_value 1 p q k s l m (done (a ∷ []) s)) same
-      (lra_gives z.ground z.rate z.setting z.sites.marks d p q k need place s l m reached enough
+      (lra_gives z.ground z.rate z.setting z.sites.marks d p q k need place s l m seen enough
       (last_leads z.ground z.sites p (instr.Memory 15 true false false (mode_of k place)) q stands) ready);
 }
 
 -- and of a byte: twice as much
-byte_address : (z : Surroundings) (d k need : ℕ) (place : Place) → is_reached z.setting k place ≡ true → 1 ≤ need
+byte_address : (z : Surroundings) (d k need : ℕ) (place : Place) → is_seen z.setting k place ≡ true → 1 ≤ need
     → Simulates z d as_value 1 k need (pieces (own_address kind.Byte false (mode_of k place))) (λ s. done (2 * address_of place s.now % 65536 ∷ []) s)
-byte_address z d k need place reached enough = record {
+byte_address z d k need place seen enough = record {
   does = λ h ws p q s l m stands front ready.
       let rise = stands.1.rise in
       row_behind z.ground z.rate z.setting z.sites.marks p stands.0 q (doing z.ground.segments (instr.Shifted 2 1) q) 1 k s l m (address_of place s.now ∷ [])
       (2 * address_of place s.now % 65536) (λ n. shifting 2 1 (at_left n)) (omega (arith, rise))
       (last_leads z.ground z.sites (on stands.0) (instr.Shifted 2 1) q stands.2) (λ n. refl)
       (λ n x. doubles z.setting stands.0 k s.now m (address_of place s.now) s n x) (omega arith)
-      (lra_gives z.ground z.rate z.setting z.sites.marks d p stands.0 k need place s l m reached enough stands.1 ready);
+      (lra_gives z.ground z.rate z.setting z.sites.marks d p stands.0 k need place s l m seen enough stands.1 ready);
 }
 
 -- by the kind
 pub variables_give : AddressesOfVariablesSimulate
-variables_give z d k need kind.Integer place reached enough = word_address z d k need place reached enough
-variables_give z d k need kind.Logical place reached enough = word_address z d k need place reached enough
-variables_give z d k need kind.Byte place reached enough = byte_address z d k need place reached enough
-variables_give z d k need kind.Double place reached enough = word_address z d k need place reached enough
+variables_give z d k need kind.Integer place seen enough = word_address z d k need place seen enough
+variables_give z d k need kind.Logical place seen enough = word_address z d k need place seen enough
+variables_give z d k need kind.Byte place seen enough = byte_address z d k need place seen enough
+variables_give z d k need kind.Double place seen enough = word_address z d k need place seen enough
 
 -- ---- cells
 
@@ -151,13 +151,13 @@ cell_is far t (ends e s) = refl
 cell_is far t (strays s) = refl
 
 pub cells_give : AddressesOfCellsSimulate
-cells_give z d k need far t place reached enough =
+cells_give z d k need far t place seen enough =
     same_simulates z d as_value 1 k need (pieces (cell_address false (mode_of k place))) (pieces (cell_address false (mode_of k place)))
     (λ s. then_go (led_located far t (Some place) 0 s) (λ p u. address_done p u))
     (λ s. then_go (then_go (word_at false (address_of place s.now) s) (λ w u. done (w ∷ []) u)) (λ vs u. done (map (λ v. v % 65536) vs) u))
     refl (λ s. cell_is far t (word_at false (address_of place s.now) s))
     (words_cut z d k need 1 (pieces (cell_address false (mode_of k place))) (λ s. then_go (word_at false (address_of place s.now) s) (λ w u. done (w ∷ []) u))
-    (words_give z d k need kind.Integer place refl reached enough))
+    (words_give z d k need kind.Integer place refl seen enough))
 
 -- ---- pointers
 

@@ -1,44 +1,45 @@
 -- Addresses of elements: the index goes to X, and LRA adds it to the cell.
-use Rattle.std.proofs.Common.{◌≡◌, ℕ, ◌+◌, ◌*◌, ◌-◌, ◌%◌, ◌<◌, ◌≤◌, Bool, true, false, List, [], ◌∷◌, ◌++◌, length, refl, sym, ap, subst, ◌∙◌, arith}
-use Rattle.std.specs.Prelude.{Option, Some, None, Ok}
-use Rattle.hp_word.specs.declared.endings.Trap.TheVariants.{Bounds}
-use Rattle.hp_instr.specs.declared.instruction.Instr.TheVariants as instr
-use Rattle.hp_instr.specs.Instructions.{op}
-use Rattle.hp_session.specs.State.{Machine}
-use Rattle.hp_session.specs.Places.{address}
-use Rattle.hp_word_rows.specs.WordRows.{shifting}
-use Rattle.hp_memory_rows.specs.MemoryRows.{memory_row}
-use Rattle.hp_flat.specs.Step.{at_left}
-use Rattle.hp_yields.proofs.MemoryYields as rows
-use Rattle.spl_tree.specs.declared.expressions.Kind.{Kind}
-use Rattle.spl_tree.specs.declared.expressions.Kind.TheVariants as kind
-use Rattle.spl_branch.specs.declared.pieces.Piece.{Piece}
-use Rattle.spl_meaning.specs.Places.{Place}
-use Rattle.spl_meaning.specs.References.{Setting, Located, address_of, element_address, element_located, led_located, index_or_zero}
-use Rattle.spl_meaning.specs.States.{Data, State, Outcome, done, ends, trapped, then_go}
-use Rattle.spl_meaning.specs.Values.{as_index, address_done}
-use Rattle.spl_code.specs.Code.{as_value}
-use Rattle.spl_code.specs.Instructions.{LSL, STAX}
-use Rattle.spl_code.specs.Operands.{mode_of, cell_address, index_to_x}
-use Rattle.spl_code.specs.Parts.{Part, pieces, ◌⨟◌}
-use Rattle.spl_follow.specs.Spots.{Spot, pos, Point, on, Ground}
-use Rattle.spl_follow.specs.Leading.{Leads}
-use Rattle.spl_follow.specs.Matching.{Outer, IsValue}
-use Rattle.spl_follow.specs.Following.{Rate, tally, tally_with, Follows, NoExit}
-use Rattle.spl_follow.specs.Doing.{doing}
-use Rattle.spl_follow.specs.Standing.{Sites, Stands, IsClosed}
-use Rattle.spl_follow.specs.Simulating.{Surroundings, Simulates}
-use Rattle.spl_follow.proofs.FollowLemmas.{then_follows, bind_follows}
-use Rattle.spl_follow.proofs.KeepLemmas.{kept_top, kept_stack}
-use Rattle.spl_follow.proofs.PartLemmas.{stand_in_order}
-use Rattle.spl_follow.proofs.StandLemmas.{closed_last}
-use Rattle.spl_values.specs.Reached.{is_reached, IsWhole}
-use Rattle.spl_values.proofs.GiveLemmas.{last_leads, value_row}
-use Rattle.spl_operands.specs.Operands.{Loading, IsIndex}
-use Rattle.spl_operands.proofs.SeeLemmas.{see}
-use Rattle.spl_operands.proofs.OperandLemmas.{place_based, through, through_past}
-use Rattle.spl_operands.proofs.LoadLemmas.{load_room, load_gives, load_traps, load_strays}
-use Rattle.spl_operands.proofs.ReadLemmas.{index_to_register}
+use Rattle.std.proofs.Common.{◌≡◌, ℕ, ◌+◌, ◌*◌, ◌-◌, ◌%◌, ◌≤◌, Bool, true, false, List, [], ◌∷◌, ◌++◌, refl, ap, subst, ◌∙◌, arith}
+use Rattle.std.specs.Prelude.{Option, Some, None}
+use Rattle.spl_variables.specs.hp_word.declared.endings.Trap.TheVariants.{Bounds}
+use Rattle.spl_variables.specs.hp_instr.declared.instruction.Instr.TheVariants as instr
+use Rattle.spl_variables.specs.hp_instr.Instructions.{op}
+use Rattle.spl_variables.specs.hp_session.State.{Machine}
+use Rattle.spl_variables.specs.hp_session.Places.{address}
+use Rattle.spl_variables.specs.hp_word_rows.WordRows.{shifting}
+use Rattle.spl_variables.specs.hp_memory_rows.MemoryRows.{memory_row}
+use Rattle.spl_variables.specs.hp_flat.Step.{at_left}
+use Rattle.spl_variables.proofs.hp_yields_proofs.MemoryYields as rows
+use Rattle.spl_variables.specs.spl_tree.declared.expressions.Kind.{Kind}
+use Rattle.spl_variables.specs.spl_tree.declared.expressions.Kind.TheVariants as kind
+use Rattle.spl_variables.specs.spl_branch.declared.pieces.Piece.{Piece}
+use Rattle.spl_variables.specs.spl_meaning.Places.{Place}
+use Rattle.spl_variables.specs.spl_meaning.References.{Setting, Located, address_of, element_address, element_located, led_located, index_or_zero}
+use Rattle.spl_variables.specs.spl_meaning.States.{Data, State, Outcome, done, then_go}
+use Rattle.spl_variables.specs.spl_meaning.Values.{as_index, address_done}
+use Rattle.spl_variables.specs.spl_code.Code.{as_value}
+use Rattle.spl_variables.specs.spl_code.Instructions.{LSL, STAX}
+use Rattle.spl_variables.specs.spl_code.Operands.{mode_of, cell_address}
+use Rattle.spl_variables.specs.spl_code.Parts.{Part, pieces, ◌⨟◌}
+use Rattle.spl_variables.specs.spl_follow.Spots.{Spot, pos, on, Ground}
+use Rattle.spl_variables.specs.spl_follow.Leading.{Leads}
+use Rattle.spl_variables.specs.spl_follow.Matching.{IsValue}
+use Rattle.spl_variables.specs.spl_follow.Following.{Rate, tally, tally_with, Follows, NoExit}
+use Rattle.spl_variables.specs.spl_follow.Doing.{doing}
+use Rattle.spl_variables.specs.spl_follow.Standing.{Stands, IsClosed}
+use Rattle.spl_variables.specs.spl_follow.Simulating.{Surroundings, Simulates}
+use Rattle.spl_variables.proofs.spl_follow_proofs.FollowLemmas.{then_follows, bind_follows}
+use Rattle.spl_variables.proofs.spl_follow_proofs.KeepLemmas.{kept_top, kept_stack}
+use Rattle.spl_variables.proofs.spl_follow_proofs.PartLemmas.{stand_in_order}
+use Rattle.spl_variables.proofs.spl_follow_proofs.StandLemmas.{closed_last}
+use Rattle.spl_variables.specs.spl_values.Reached.{is_seen, IsWhole}
+use Rattle.spl_variables.proofs.spl_values_proofs.GiveLemmas.{last_leads, value_row}
+use Rattle.spl_variables.specs.spl_operands.Operands.{Loading, IsIndex}
+use Rattle.spl_variables.proofs.spl_operands_proofs.SeeLemmas.{see}
+use Rattle.spl_variables.proofs.spl_operands_proofs.OperandLemmas.{through, through_past}
+use Rattle.spl_variables.proofs.spl_operands_proofs.SeenLemmas.{seen_based}
+use Rattle.spl_variables.proofs.spl_operands_proofs.LoadLemmas.{load_room, load_gives, load_traps, load_strays}
+use Rattle.spl_variables.proofs.spl_operands_proofs.ReadLemmas.{index_to_register}
 use Rattle.spl_addresses.specs.Laws.{AddressesOfElementsSimulate}
 use Rattle.spl_addresses.proofs.AddressLemmas.{doubles}
 
@@ -108,22 +109,22 @@ double_turns z k p r (v ∷ u ∷ vs) s m d0 m0 stands x = let wide = x.wide in 
 
 -- LRA through the cell, with the index in X
 address_given : (g : Ground) (w : Rate) (p q : Spot) (st : Setting) (t : Kind) (far : Bool) (place : Place) (k : ℕ) (d0 : Data) (m0 : Machine) (o : Option ℕ)
-    (s : State) (m : Machine) → is_reached st k place ≡ true → d0.top + k + 1 ≤ d0.stack
+    (s : State) (m : Machine) → is_seen st k place ≡ true → d0.top + k + 1 ≤ d0.stack
     → Leads g (on p) q (doing g.segments (instr.Memory 15 true true true (mode_of k place)) q) → HasTurned st p k d0 m0 t o s m
     → Follows g w (pos q - pos p) 0 w.reach (tally s) m (IsValue st q 1 k d0 m0) NoExit
     (then_go (led_located far t (Some place) (index_or_zero o) s) (λ y u. address_done y u))
-address_given g w p q st t far place k d0 m0 None s m reached room leads x = absurd x
-address_given g w p q st t far place k d0 m0 (Some v) s m reached room leads x =
+address_given g w p q st t far place k d0 m0 None s m seen room leads x = absurd x
+address_given g w p q st t far place k d0 m0 (Some v) s m seen room leads x =
     let top = kept_top (d0.top + k) d0 m0.stack s.now m.stack x.0.kept in
     let stack = kept_stack (d0.top + k) d0 m0.stack s.now m.stack x.0.kept in
     let fits : s.now.top + k + 1 ≤ s.now.stack = omega (arith, top, stack, room) in
     let y : Loading st (on p) k 1 d0 m0 s.begun s m = record { at = x.0.at; owes = refl; matches = x.0.matches; kept = x.0.kept; silent = x.0.silent; room = fits } in
     let free = load_room st (on p) k 1 d0 m0 s.begun s m y in
-    let based = place_based st s.now k k place (at_left m) reached x.0.matches in
+    let based = seen_based st s.now k place (at_left m) seen x.0.matches (omega (arith, fits)) in
     see (λ (r : Outcome Located). Follows g w (pos q - pos p) 0 w.reach (tally s) m (IsValue st q 1 k d0 m0) NoExit (then_go r (λ y u. address_done y u))) false
     (address_of place s.now) k st s (at_left m) (λ cell u. done (element_located far t cell v) u) x.0.matches (omega (arith, fits))
-    (λ cell seen.
-    let f = through kind.Integer (mode_of k place) true (address_of place s.now) cell ((cell + 1 * m.regs.x) % 65536) (at_left m) based seen.there seen.word refl in
+    (λ cell known.
+    let f = through kind.Integer (mode_of k place) true (address_of place s.now) cell ((cell + 1 * m.regs.x) % 65536) (at_left m) based known.there known.word refl in
     let at = f.at in
     let same = x.1 cell in
     let is : address f.place ≡ element_address t cell v % 65536 = omega (arith, at, same) in
@@ -139,10 +140,10 @@ address_given g w p q st t far place k d0 m0 (Some v) s m reached room leads x =
 
 -- the index, what takes it to X, and LRA
 element_gives : (z : Surroundings) (d k need : ℕ) (far : Bool) (t : Kind) (place : Place) (a : Part) (ps : List Piece) (value : State → Outcome (List ℕ))
-    → is_reached z.setting k place ≡ true → 1 ≤ need → IsWhole a → IsClosed ps → Turns z k t ps → Simulates z d as_value 1 k need a value
+    → is_seen z.setting k place ≡ true → 1 ≤ need → IsWhole a → IsClosed ps → Turns z k t ps → Simulates z d as_value 1 k need a value
     → Simulates z d as_value 1 k need (a ⨟ pieces ps ⨟ pieces (cell_address true (mode_of k place)))
     (λ s. then_go (then_go (value s) as_index) (λ i u. then_go (led_located far t (Some place) (index_or_zero i) u) (λ p v. address_done p v)))
-element_gives z d k need far t place a ps value reached enough whole closed turns sim = record {
+element_gives z d k need far t place a ps value seen enough whole closed turns sim = record {
   does = λ h ws p q s l m stands front ready.
       let x = a h ws in
       let last = stand_in_order z.ground z.sites (x.pieces ++ ps) (cell_address true (mode_of k place)) p q (closed_last x.pieces ps closed) stands in
@@ -161,17 +162,17 @@ element_gives z d k need far t place a ps value reached enough whole closed turn
       (sim.does h ws p cut.0 s l m cut.1 front ready)
       (λ vs u m1 is fewer. turns cut.0 last.0 vs u m1 s.now m cut.2 is)
       (omega (arith, before, turn)) (omega arith) (omega (arith, many)) (omega (arith, many)))
-      (λ o u m1 has fewer. address_given z.ground z.rate last.0 q z.setting t far place k s.now m o u m1 reached (omega (arith, room, enough)) loads has)
+      (λ o u m1 has fewer. address_given z.ground z.rate last.0 q z.setting t far place k s.now m o u m1 seen (omega (arith, room, enough)) loads has)
       (omega (arith, before, turn, rise)) (omega arith) (omega (arith, many)) (omega (arith, many));
 }
 
 -- by the kind
 pub elements_give : AddressesOfElementsSimulate
-elements_give z d k need is_pointer far kind.Integer place a value reached enough whole sim =
-    element_gives z d k need far kind.Integer place a (STAX ∷ []) value reached enough whole refl (plain_turns z k kind.Integer (λ cell v. refl)) sim
-elements_give z d k need is_pointer far kind.Logical place a value reached enough whole sim =
-    element_gives z d k need far kind.Logical place a (STAX ∷ []) value reached enough whole refl (plain_turns z k kind.Logical (λ cell v. refl)) sim
-elements_give z d k need is_pointer far kind.Byte place a value reached enough whole sim =
-    element_gives z d k need far kind.Byte place a (STAX ∷ []) value reached enough whole refl (plain_turns z k kind.Byte (λ cell v. refl)) sim
-elements_give z d k need is_pointer far kind.Double place a value reached enough whole sim =
-    element_gives z d k need far kind.Double place a (LSL 1 ∷ STAX ∷ []) value reached enough whole refl (double_turns z k) sim
+elements_give z d k need is_pointer far kind.Integer place a value seen enough whole sim =
+    element_gives z d k need far kind.Integer place a (STAX ∷ []) value seen enough whole refl (plain_turns z k kind.Integer (λ cell v. refl)) sim
+elements_give z d k need is_pointer far kind.Logical place a value seen enough whole sim =
+    element_gives z d k need far kind.Logical place a (STAX ∷ []) value seen enough whole refl (plain_turns z k kind.Logical (λ cell v. refl)) sim
+elements_give z d k need is_pointer far kind.Byte place a value seen enough whole sim =
+    element_gives z d k need far kind.Byte place a (STAX ∷ []) value seen enough whole refl (plain_turns z k kind.Byte (λ cell v. refl)) sim
+elements_give z d k need is_pointer far kind.Double place a value seen enough whole sim =
+    element_gives z d k need far kind.Double place a (LSL 1 ∷ STAX ∷ []) value seen enough whole refl (double_turns z k) sim

@@ -1,13 +1,13 @@
 -- An answer is a value once its condition code is no longer known.
 use Rattle.std.proofs.Common.{ℕ, ◌-◌, List, refl}
-use Rattle.hp_session.specs.State.{Machine}
-use Rattle.hp_word.specs.Intrinsics.{answer_words}
-use Rattle.spl_meaning.specs.References.{Setting}
-use Rattle.spl_meaning.specs.Serving.{served}
-use Rattle.spl_meaning.specs.States.{Data, Outcome, done, leaves, spent, ends, strays, then_go, code_dropped}
-use Rattle.spl_follow.specs.Spots.{Spot, pos, Ground}
-use Rattle.spl_follow.specs.Matching.{IsValue, IsAnswer}
-use Rattle.spl_follow.specs.Following.{Rate, Tally, tally_with, Follows, NoExit}
+use Rattle.spl_intrinsics.specs.hp_session.State.{Machine}
+use Rattle.spl_intrinsics.specs.hp_word.Intrinsics.{answer_words}
+use Rattle.spl_intrinsics.specs.spl_meaning.References.{Setting}
+use Rattle.spl_intrinsics.specs.spl_meaning.Serving.{served}
+use Rattle.spl_intrinsics.specs.spl_meaning.States.{Data, Outcome, done, leaves, spent, ends, strays, then_go, code_dropped}
+use Rattle.spl_intrinsics.specs.spl_follow.Spots.{Spot, pos, Ground}
+use Rattle.spl_intrinsics.specs.spl_follow.Matching.{IsValue, IsAnswer}
+use Rattle.spl_intrinsics.specs.spl_follow.Following.{Rate, Tally, tally_with, Follows, NoExit}
 use Rattle.spl_intrinsics.proofs.AskLemmas.{asked_follows}
 use Rattle.spl_answers.specs.Laws.{AnswersSimulate}
 

@@ -1,12 +1,12 @@
 -- The law of this crate.
 use Rattle.std.specs.Prelude.{ℕ, List}
-use Rattle.hp_word.specs.declared.intrinsics.Intrinsic.{Intrinsic}
-use Rattle.hp_word.specs.Intrinsics.{answer_words}
-use Rattle.spl_meaning.specs.Serving.{served}
-use Rattle.spl_meaning.specs.States.{State, Outcome, then_go, code_dropped}
-use Rattle.spl_code.specs.Code.{as_value}
-use Rattle.spl_code.specs.Parts.{Part, nothing, ◌⨟◌}
-use Rattle.spl_follow.specs.Simulating.{Surroundings, Simulates}
+use Rattle.spl_intrinsics.specs.hp_word.declared.intrinsics.Intrinsic.{Intrinsic}
+use Rattle.spl_intrinsics.specs.hp_word.Intrinsics.{answer_words}
+use Rattle.spl_intrinsics.specs.spl_meaning.Serving.{served}
+use Rattle.spl_intrinsics.specs.spl_meaning.States.{State, Outcome, then_go, code_dropped}
+use Rattle.spl_intrinsics.specs.spl_code.Code.{as_value}
+use Rattle.spl_intrinsics.specs.spl_code.Parts.{Part, nothing, ◌⨟◌}
+use Rattle.spl_intrinsics.specs.spl_follow.Simulating.{Surroundings, Simulates}
 use Rattle.spl_intrinsics.specs.Calls.{asked, IsAsked}
 
 -- A call of an intrinsic within an expression gives what it answers, over the code of its arguments; no condition code is known behind it.

@@ -6,14 +6,14 @@ use Rattle.spl_tree.specs.declared.units.SplUnit.{SplUnit}
 use Rattle.spl_tree.specs.DeclarationTrees as decl
 use Rattle.spl_tree.specs.DeclarationTrees.{Heading, Declaration, Declarations, declarations}
 use Rattle.spl_tree.specs.Spells.{declaration}
-use Rattle.spl_meaning.specs.Names.{Names, Sort, Table, find, nothing_declared}
-use Rattle.spl_meaning.specs.Tables.{Source, Routine, with_declaration, routines_among, routine_in, routines_of}
-use Rattle.spl_meaning.specs.Bodies.{all_routines}
-use Rattle.spl_meaning.specs.Stops.{declaration_stops}
-use Rattle.spl_meaning.specs.Limits.{Full, joined, first_among, local_limits}
-use Rattle.spl_found.specs.OwnNames.{behind_declaration}
-use Rattle.spl_found.proofs.OwnNames.{find_declaration}
-use Rattle.spl_lists.proofs.NameWalks.{onward, onward_end}
+use Rattle.spl_sound.specs.spl_meaning.Names.{Names, Sort, Table, find, nothing_declared}
+use Rattle.spl_sound.specs.spl_meaning.Tables.{Source, Routine, with_declaration, routines_among, routine_in, routines_of}
+use Rattle.spl_sound.specs.spl_meaning.Bodies.{all_routines}
+use Rattle.spl_sound.specs.spl_meaning.Stops.{declaration_stops}
+use Rattle.spl_sound.specs.spl_meaning.Limits.{Full, joined, first_among, local_limits}
+use Rattle.spl_places.specs.spl_found.OwnNames.{behind_declaration}
+use Rattle.spl_places.proofs.spl_found_proofs.OwnNames.{find_declaration}
+use Rattle.spl_places.proofs.spl_lists_proofs.NameWalks.{onward, onward_end}
 use Rattle.spl_sound.specs.Spelled.{source_of}
 use Rattle.spl_places.specs.ListedData.{Datum, list_data}
 use Rattle.spl_places.specs.Programs.{unit_items, routine_items, all_globals, all_locals, Each, NewInRoutine}

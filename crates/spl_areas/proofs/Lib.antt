@@ -1,1 +1,5 @@
 pub mod GatherWalks
+-- Passed on from the crates below.
+pub use Rattle.spl_places.proofs.spl_found_proofs
+pub use Rattle.spl_places.proofs.spl_lists_proofs
+pub use Rattle.spl_places.proofs as spl_places_proofs

@@ -1,29 +1,29 @@
 -- How the code of an expression begins, along the tree.
 use Rattle.std.proofs.Common.{◌≡◌, ℕ, ◌+◌, ◌%◌, ◌==◌, ◌&&◌, nat_lt, nat_le, ℤ, Bool, true, false, if◌then◌else◌, List, [], ◌∷◌, map, length, Option, Some, None, refl}
-use Rattle.hp_word.specs.Words.{word_of}
-use Rattle.hp_word.specs.Bytes.{high_word, low_word}
-use Rattle.hp_instr.specs.declared.instruction.Instr.TheVariants as i
-use Rattle.hp_instr.specs.declared.instruction.Mode.{Mode}
-use Rattle.spl_tree.specs.declared.expressions.Kind.{Kind}
-use Rattle.spl_tree.specs.declared.expressions.Kind.TheVariants as kind
-use Rattle.spl_tree.specs.Trees as tree
-use Rattle.spl_tree.specs.Trees.{Tree, Trees}
-use Rattle.spl_meaning.specs.Names.{Formal, Profile, intrinsic_profile, text_value, truth_word}
-use Rattle.spl_meaning.specs.Kinds.{Operand, of, const, unknown, Class, integers, logicals, doubles, mixed, plus, minus, times, modulo, works_on_bits, positive, negative, lor_operator, xor_operator, kind_of, class_of, operand_width, is_connective, is_relation, compares_text, relation_number, or_operator}
-use Rattle.spl_meaning.specs.Pending.{by_value, formal_words, result_words}
-use Rattle.spl_meaning.specs.Places.{Place}
-use Rattle.spl_meaning.specs.References.{Access, its_own, by_address, by_cell, its_result, nowhere, access_of}
-use Rattle.spl_meaning.specs.Elements.{as_words}
-use Rattle.spl_meaning.specs.Values.{Who, procedure, subroutine, Sense, a_constant, an_intrinsic, a_call, a_variable, sense_of, text_bytes, small_constant}
-use Rattle.spl_branch.specs.declared.pieces.Piece.{Piece}
-use Rattle.spl_branch.specs.declared.pieces.Piece.TheVariants.{Literal, Place as PlaceOf, Call}
-use Rattle.spl_code.specs.Instructions.{DEL, DELB, ZERO, ANDI, LDNI, BR, LSL, CMPB, LOAD_BEFORE}
-use Rattle.spl_code.specs.Parts.{Part, pieces, ◌⨟◌}
-use Rattle.spl_code.specs.Constants.{constant, double_constant, text_constant, number_constant, text_offset}
-use Rattle.spl_code.specs.Operators.{operator, class_operator, integer_operator, logical_operator, double_operator, bit_operator, comparison, sign_operator, minus_operator, shift_operator, field_operator, transfer, single, extension, as_parameter}
-use Rattle.spl_code.specs.Operands.{loaded, address, cell_address, leads_to_doubles, index_to_x, at_place, mode_of}
-use Rattle.spl_code.specs.Calls.{Scope, result_room, result_taken, called, procedure_called, subroutine_called}
-use Rattle.spl_code.specs.Code.{Aim, as_value, as_test, code, reference, index, arguments, argument, closing, condition, related, text_compared, variable, addressed, calling, named, is_indexed, connected, both_tested, either_tested, either_of, text_related, bytes_related, compared, operated}
+use Rattle.spl_statement_code.specs.hp_word.Words.{word_of}
+use Rattle.spl_statement_code.specs.hp_word.Bytes.{high_word, low_word}
+use Rattle.spl_sites.specs.hp_instr.declared.instruction.Instr.TheVariants as i
+use Rattle.spl_sites.specs.hp_instr.declared.instruction.Mode.{Mode}
+use Rattle.spl_statement_code.specs.spl_tree.declared.expressions.Kind.{Kind}
+use Rattle.spl_statement_code.specs.spl_tree.declared.expressions.Kind.TheVariants as kind
+use Rattle.spl_statement_code.specs.spl_tree.Trees as tree
+use Rattle.spl_statement_code.specs.spl_tree.Trees.{Tree, Trees}
+use Rattle.spl_statement_code.specs.spl_meaning.Names.{Formal, Profile, intrinsic_profile, text_value, truth_word}
+use Rattle.spl_statement_code.specs.spl_meaning.Kinds.{Operand, of, const, unknown, Class, integers, logicals, doubles, mixed, plus, minus, times, modulo, works_on_bits, positive, negative, lor_operator, xor_operator, kind_of, class_of, operand_width, is_connective, is_relation, compares_text, relation_number, or_operator}
+use Rattle.spl_statement_code.specs.spl_meaning.Pending.{by_value, formal_words, result_words}
+use Rattle.spl_statement_code.specs.spl_meaning.Places.{Place}
+use Rattle.spl_statement_code.specs.spl_meaning.References.{Access, its_own, by_address, by_cell, its_result, nowhere, access_of}
+use Rattle.spl_statement_code.specs.spl_meaning.Elements.{as_words}
+use Rattle.spl_statement_code.specs.spl_meaning.Values.{Who, procedure, subroutine, Sense, a_constant, an_intrinsic, a_call, a_variable, sense_of, text_bytes, small_constant}
+use Rattle.spl_statement_code.specs.spl_branch.declared.pieces.Piece.{Piece}
+use Rattle.spl_statement_code.specs.spl_branch.declared.pieces.Piece.TheVariants.{Literal, Place as PlaceOf, Call}
+use Rattle.spl_statement_code.specs.spl_code.Instructions.{DEL, DELB, ZERO, ANDI, LDNI, BR, LSL, CMPB, LOAD_BEFORE}
+use Rattle.spl_statement_code.specs.spl_code.Parts.{Part, pieces, ◌⨟◌}
+use Rattle.spl_statement_code.specs.spl_code.Constants.{constant, double_constant, text_constant, number_constant, text_offset}
+use Rattle.spl_statement_code.specs.spl_code.Operators.{operator, class_operator, integer_operator, logical_operator, double_operator, bit_operator, comparison, sign_operator, minus_operator, shift_operator, field_operator, transfer, single, extension, as_parameter}
+use Rattle.spl_statement_code.specs.spl_code.Operands.{loaded, address, cell_address, leads_to_doubles, index_to_x, at_place, mode_of}
+use Rattle.spl_statement_code.specs.spl_code.Calls.{Scope, result_room, result_taken, called, procedure_called, subroutine_called}
+use Rattle.spl_statement_code.specs.spl_code.Code.{Aim, as_value, as_test, code, reference, index, arguments, argument, closing, condition, related, text_compared, variable, addressed, calling, named, is_indexed, connected, both_tested, either_tested, either_of, text_related, bytes_related, compared, operated}
 use Rattle.spl_sites.specs.Beginnings.{begins_well}
 use Rattle.spl_beginnings.specs.Opens.{Opens, MayOpen}
 use Rattle.spl_beginnings.proofs.PartLaws.{Front, front_both, front_if, well_pieces, opens_pieces, may_pieces, may_well, open_may, open_well, opens_then, may_opens, may_then, opens_fresh, opens_want, well_mark}

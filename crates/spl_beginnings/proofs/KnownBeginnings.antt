@@ -1,14 +1,14 @@
 -- Beginnings worked by hand: statements that have words of their own whatever their names, and the three that have none where these are not found.
 use Rattle.std.proofs.Common.{◌≡◌, true, false, List, [], ◌∷◌, Some, None, refl}
-use Rattle.spl_tree.specs.declared.names_and_places.At.{At}
-use Rattle.spl_tree.specs.Trees as tree
-use Rattle.spl_tree.specs.Trees.{Tree}
-use Rattle.spl_tree.specs.StatementTrees as stat
-use Rattle.spl_tree.specs.StatementTrees.{Statement}
-use Rattle.spl_meaning.specs.Names as n
-use Rattle.spl_meaning.specs.Names.{Names}
-use Rattle.spl_branch.specs.declared.pieces.Piece.{Piece}
-use Rattle.spl_branch.specs.declared.pieces.Piece.TheVariants.{Begin}
+use Rattle.spl_statement_code.specs.spl_tree.declared.names_and_places.At.{At}
+use Rattle.spl_statement_code.specs.spl_tree.Trees as tree
+use Rattle.spl_statement_code.specs.spl_tree.Trees.{Tree}
+use Rattle.spl_statement_code.specs.spl_tree.StatementTrees as stat
+use Rattle.spl_statement_code.specs.spl_tree.StatementTrees.{Statement}
+use Rattle.spl_statement_code.specs.spl_meaning.Names as n
+use Rattle.spl_statement_code.specs.spl_meaning.Names.{Names}
+use Rattle.spl_statement_code.specs.spl_branch.declared.pieces.Piece.{Piece}
+use Rattle.spl_statement_code.specs.spl_branch.declared.pieces.Piece.TheVariants.{Begin}
 use Rattle.spl_statement_code.specs.Landings.{Context}
 use Rattle.spl_statement_code.specs.Statements.{statement}
 use Rattle.spl_sites.specs.Beginnings.{begins_well}

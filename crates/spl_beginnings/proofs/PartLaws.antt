@@ -1,10 +1,10 @@
 -- Pieces and parts that begin well, put together.
 use Rattle.std.proofs.Common.{◌≡◌, ℕ, zero, suc, ◌+◌, ◌&&◌, ◌||◌, not, Bool, true, false, if◌then◌else◌, List, [], ◌∷◌, ◌++◌, replicate, refl}
 use Rattle.std.proofs.lemmas.Bool.{false≢true, and_from}
-use Rattle.spl_tree.specs.declared.names_and_places.At.{At}
-use Rattle.spl_branch.specs.declared.pieces.Piece.{Piece}
-use Rattle.spl_branch.specs.declared.pieces.Piece.TheVariants.{Mark, Begin}
-use Rattle.spl_code.specs.Parts.{Part, pieces, piece, ◌⨟◌, with_fresh, call_wanted}
+use Rattle.spl_statement_code.specs.spl_tree.declared.names_and_places.At.{At}
+use Rattle.spl_statement_code.specs.spl_branch.declared.pieces.Piece.{Piece}
+use Rattle.spl_statement_code.specs.spl_branch.declared.pieces.Piece.TheVariants.{Mark, Begin}
+use Rattle.spl_statement_code.specs.spl_code.Parts.{Part, pieces, piece, ◌⨟◌, with_fresh, call_wanted}
 use Rattle.spl_sites.specs.Beginnings.{is_run, is_beginning, begins_well}
 use Rattle.spl_beginnings.specs.Opens.{opens_if_any, BeginsWell, Opens, MayOpen}
 

@@ -1,27 +1,27 @@
 -- How the code of a statement begins, along the tree.
 use Rattle.std.proofs.Common.{◌≡◌, ℕ, ◌+◌, ◌-◌, ◌%◌, ◌/◌, ◌&&◌, nat_le, Bool, true, false, if◌then◌else◌, List, [], ◌∷◌, ◌++◌, replicate, Option, Some, None, is_some, refl}
 use Rattle.std.proofs.lemmas.Bool.{false≢true}
-use Rattle.hp_instr.specs.declared.instruction.Mode.{Mode}
-use Rattle.spl_tree.specs.declared.names_and_places.At.{At}
-use Rattle.spl_tree.specs.declared.expressions.Kind.{Kind}
-use Rattle.spl_tree.specs.declared.expressions.Kind.TheVariants as kind
-use Rattle.spl_tree.specs.Trees as tree
-use Rattle.spl_tree.specs.Trees.{Tree, Trees}
-use Rattle.spl_tree.specs.StatementTrees as stat
-use Rattle.spl_tree.specs.StatementTrees.{Statement, Statements, Target, Source, Effect, Test}
-use Rattle.spl_meaning.specs.Kinds.{callable}
-use Rattle.spl_meaning.specs.Pending.{waiting, behind_first, behind_second}
-use Rattle.spl_meaning.specs.Places as p
-use Rattle.spl_meaning.specs.References.{Access, its_own, by_address, by_cell, its_result, nowhere, access_of}
-use Rattle.spl_meaning.specs.Values.{small_constant, sense_of}
-use Rattle.spl_branch.specs.declared.pieces.Piece.{Piece}
-use Rattle.spl_code.specs.Instructions.{LDI, LRA, DEL, BR}
-use Rattle.spl_code.specs.Parts.{Part, pieces, piece}
-use Rattle.spl_code.specs.Constants.{constant}
-use Rattle.spl_code.specs.Operands.{mode_of}
-use Rattle.spl_code.specs.Calls.{Scope}
-use Rattle.spl_code.specs.Code.{as_value, as_test, is_indexed}
-use Rattle.spl_code.specs.Stores.{stored, field_stored, pointer_stored, own_stored, cell_stored, element_stored, led_stored, own_field, led_field, from_top}
+use Rattle.spl_sites.specs.hp_instr.declared.instruction.Mode.{Mode}
+use Rattle.spl_statement_code.specs.spl_tree.declared.names_and_places.At.{At}
+use Rattle.spl_statement_code.specs.spl_tree.declared.expressions.Kind.{Kind}
+use Rattle.spl_statement_code.specs.spl_tree.declared.expressions.Kind.TheVariants as kind
+use Rattle.spl_statement_code.specs.spl_tree.Trees as tree
+use Rattle.spl_statement_code.specs.spl_tree.Trees.{Tree, Trees}
+use Rattle.spl_statement_code.specs.spl_tree.StatementTrees as stat
+use Rattle.spl_statement_code.specs.spl_tree.StatementTrees.{Statement, Statements, Target, Source, Effect, Test}
+use Rattle.spl_statement_code.specs.spl_meaning.Kinds.{callable}
+use Rattle.spl_statement_code.specs.spl_meaning.Pending.{waiting, behind_first, behind_second}
+use Rattle.spl_statement_code.specs.spl_meaning.Places as p
+use Rattle.spl_statement_code.specs.spl_meaning.References.{Access, its_own, by_address, by_cell, its_result, nowhere, access_of}
+use Rattle.spl_statement_code.specs.spl_meaning.Values.{small_constant, sense_of}
+use Rattle.spl_statement_code.specs.spl_branch.declared.pieces.Piece.{Piece}
+use Rattle.spl_statement_code.specs.spl_code.Instructions.{LDI, LRA, DEL, BR}
+use Rattle.spl_statement_code.specs.spl_code.Parts.{Part, pieces, piece}
+use Rattle.spl_statement_code.specs.spl_code.Constants.{constant}
+use Rattle.spl_statement_code.specs.spl_code.Operands.{mode_of}
+use Rattle.spl_statement_code.specs.spl_code.Calls.{Scope}
+use Rattle.spl_statement_code.specs.spl_code.Code.{as_value, as_test, is_indexed}
+use Rattle.spl_statement_code.specs.spl_code.Stores.{stored, field_stored, pointer_stored, own_stored, cell_stored, element_stored, led_stored, own_field, led_field, from_top}
 use Rattle.spl_statement_code.specs.Instructions.{TEST, LSUB, SUBS, TBA, MTBA}
 use Rattle.spl_statement_code.specs.Landings.{Landing, Context, dropped, jump, gone_to, landed}
 use Rattle.spl_statement_code.specs.Assignments.{assigned_access, index_kept, reference_index, target_index, reference_stored, field_of_name_stored, field_of_reference_stored, target_stored, assigned}

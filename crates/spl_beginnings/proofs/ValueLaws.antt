@@ -3,28 +3,28 @@
 -- 2. along the tree, by what the code begins with        (opens_value)
 use Rattle.std.proofs.Common.{◌≡◌, ℕ, ◌+◌, ◌%◌, ◌||◌, nat_lt, Bool, true, false, if◌then◌else◌, List, [], ◌∷◌, Option, Some, None, is_some, refl}
 use Rattle.std.proofs.lemmas.Bool.{false≢true}
-use Rattle.hp_word.specs.Words.{word_of}
-use Rattle.hp_word.specs.Bytes.{high_word, low_word}
-use Rattle.hp_instr.specs.declared.instruction.Instr.TheVariants as i
-use Rattle.hp_instr.specs.declared.instruction.Mode.{Mode}
-use Rattle.spl_tree.specs.declared.expressions.Kind.{Kind}
-use Rattle.spl_tree.specs.declared.expressions.Kind.TheVariants as kind
-use Rattle.spl_tree.specs.Trees as tree
-use Rattle.spl_tree.specs.Trees.{Tree, Trees}
-use Rattle.spl_meaning.specs.Names.{Profile, intrinsic_profile, text_value, truth_word}
-use Rattle.spl_meaning.specs.Kinds.{Class, kind_of, class_of, operand_width, is_connective, is_relation, compares_text, relation_number}
-use Rattle.spl_meaning.specs.Pending.{result_words}
-use Rattle.spl_meaning.specs.Places.{Place}
-use Rattle.spl_meaning.specs.References.{Access, its_own, by_address, by_cell, its_result, nowhere, access_of}
-use Rattle.spl_meaning.specs.Values.{Who, procedure, subroutine, Sense, a_constant, an_intrinsic, a_call, a_variable, sense_of, text_bytes, small_constant}
-use Rattle.spl_branch.specs.declared.pieces.Piece.{Piece}
-use Rattle.spl_branch.specs.declared.pieces.Piece.TheVariants.{Call}
-use Rattle.spl_code.specs.Parts.{Part, pieces, ◌⨟◌}
-use Rattle.spl_code.specs.Constants.{constant, double_constant, text_constant}
-use Rattle.spl_code.specs.Operators.{operator, sign_operator, shift_operator, field_operator, transfer}
-use Rattle.spl_code.specs.Operands.{loaded, address, cell_address, leads_to_doubles, at_place, mode_of}
-use Rattle.spl_code.specs.Calls.{Scope, result_room, result_taken, called, procedure_called, subroutine_called}
-use Rattle.spl_code.specs.Code.{as_value, as_test, code, reference, index, arguments, closing, variable, addressed, calling, named, is_indexed, compared, operated}
+use Rattle.spl_statement_code.specs.hp_word.Words.{word_of}
+use Rattle.spl_statement_code.specs.hp_word.Bytes.{high_word, low_word}
+use Rattle.spl_sites.specs.hp_instr.declared.instruction.Instr.TheVariants as i
+use Rattle.spl_sites.specs.hp_instr.declared.instruction.Mode.{Mode}
+use Rattle.spl_statement_code.specs.spl_tree.declared.expressions.Kind.{Kind}
+use Rattle.spl_statement_code.specs.spl_tree.declared.expressions.Kind.TheVariants as kind
+use Rattle.spl_statement_code.specs.spl_tree.Trees as tree
+use Rattle.spl_statement_code.specs.spl_tree.Trees.{Tree, Trees}
+use Rattle.spl_statement_code.specs.spl_meaning.Names.{Profile, intrinsic_profile, text_value, truth_word}
+use Rattle.spl_statement_code.specs.spl_meaning.Kinds.{Class, kind_of, class_of, operand_width, is_connective, is_relation, compares_text, relation_number}
+use Rattle.spl_statement_code.specs.spl_meaning.Pending.{result_words}
+use Rattle.spl_statement_code.specs.spl_meaning.Places.{Place}
+use Rattle.spl_statement_code.specs.spl_meaning.References.{Access, its_own, by_address, by_cell, its_result, nowhere, access_of}
+use Rattle.spl_statement_code.specs.spl_meaning.Values.{Who, procedure, subroutine, Sense, a_constant, an_intrinsic, a_call, a_variable, sense_of, text_bytes, small_constant}
+use Rattle.spl_statement_code.specs.spl_branch.declared.pieces.Piece.{Piece}
+use Rattle.spl_statement_code.specs.spl_branch.declared.pieces.Piece.TheVariants.{Call}
+use Rattle.spl_statement_code.specs.spl_code.Parts.{Part, pieces, ◌⨟◌}
+use Rattle.spl_statement_code.specs.spl_code.Constants.{constant, double_constant, text_constant}
+use Rattle.spl_statement_code.specs.spl_code.Operators.{operator, sign_operator, shift_operator, field_operator, transfer}
+use Rattle.spl_statement_code.specs.spl_code.Operands.{loaded, address, cell_address, leads_to_doubles, at_place, mode_of}
+use Rattle.spl_statement_code.specs.spl_code.Calls.{Scope, result_room, result_taken, called, procedure_called, subroutine_called}
+use Rattle.spl_statement_code.specs.spl_code.Code.{as_value, as_test, code, reference, index, arguments, closing, variable, addressed, calling, named, is_indexed, compared, operated}
 use Rattle.spl_sites.specs.Beginnings.{begins_well}
 use Rattle.spl_beginnings.specs.Opens.{Opens, MayOpen}
 use Rattle.spl_beginnings.specs.Found.{leads, has_place, has_call, has_sense, has_value}

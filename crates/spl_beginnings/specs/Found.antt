@@ -1,13 +1,13 @@
 -- Statements whose names are found, so that each has code behind its beginning.
 use Rattle.std.specs.Prelude.{◌≡◌, ℕ, ◌&&◌, ◌||◌, Bool, true, false, List, is_some}
-use Rattle.spl_tree.specs.Trees as tree
-use Rattle.spl_tree.specs.Trees.{Tree}
-use Rattle.spl_tree.specs.StatementTrees as stat
-use Rattle.spl_tree.specs.StatementTrees.{Statement, Statements}
-use Rattle.spl_meaning.specs.Names.{Profile, text_value}
-use Rattle.spl_meaning.specs.References.{Access, its_own, by_address, by_cell, its_result, nowhere, access_of}
-use Rattle.spl_meaning.specs.Values.{Who, procedure, subroutine, Sense, a_constant, an_intrinsic, a_call, a_variable, sense_of}
-use Rattle.spl_code.specs.Calls.{Scope}
+use Rattle.spl_statement_code.specs.spl_tree.Trees as tree
+use Rattle.spl_statement_code.specs.spl_tree.Trees.{Tree}
+use Rattle.spl_statement_code.specs.spl_tree.StatementTrees as stat
+use Rattle.spl_statement_code.specs.spl_tree.StatementTrees.{Statement, Statements}
+use Rattle.spl_statement_code.specs.spl_meaning.Names.{Profile, text_value}
+use Rattle.spl_statement_code.specs.spl_meaning.References.{Access, its_own, by_address, by_cell, its_result, nowhere, access_of}
+use Rattle.spl_statement_code.specs.spl_meaning.Values.{Who, procedure, subroutine, Sense, a_constant, an_intrinsic, a_call, a_variable, sense_of}
+use Rattle.spl_statement_code.specs.spl_code.Calls.{Scope}
 use Rattle.spl_statement_code.specs.Landings.{Context}
 
 -- ---- values

@@ -1,10 +1,10 @@
 -- How the code of expressions and statements begins, and that each statement in it whose names are found has a word that is run
 -- right behind its beginning.
 use Rattle.std.specs.Prelude.{◌≡◌, ℕ, Bool, true, List}
-use Rattle.spl_tree.specs.Trees.{Tree}
-use Rattle.spl_tree.specs.StatementTrees.{Statement, Statements}
-use Rattle.spl_code.specs.Calls.{Scope}
-use Rattle.spl_code.specs.Code.{as_value, as_test, code, reference}
+use Rattle.spl_statement_code.specs.spl_tree.Trees.{Tree}
+use Rattle.spl_statement_code.specs.spl_tree.StatementTrees.{Statement, Statements}
+use Rattle.spl_statement_code.specs.spl_code.Calls.{Scope}
+use Rattle.spl_statement_code.specs.spl_code.Code.{as_value, as_test, code, reference}
 use Rattle.spl_statement_code.specs.Landings.{Context}
 use Rattle.spl_statement_code.specs.Statements.{statement, listed}
 use Rattle.spl_beginnings.specs.Opens.{BeginsWell, Opens, MayOpen}

@@ -1,7 +1,7 @@
 -- Parts of code by what stands at their front, for the statement that may be due there.
 use Rattle.std.specs.Prelude.{◌≡◌, ℕ, Bool, true, false, List, [], ◌∷◌}
-use Rattle.spl_branch.specs.declared.pieces.Piece.{Piece}
-use Rattle.spl_code.specs.Parts.{Part, Wanted}
+use Rattle.spl_statement_code.specs.spl_branch.declared.pieces.Piece.{Piece}
+use Rattle.spl_statement_code.specs.spl_code.Parts.{Part, Wanted}
 use Rattle.spl_sites.specs.Beginnings.{begins_well}
 
 -- pieces that begin well where a statement is due, or none

@@ -3,17 +3,17 @@
 -- 2. zeros are one word where no array is local, 126 words at most else  (zeros_paid)
 -- 3. heading, body and items pay for all of them                          (procedure_few)
 use Rattle.std.proofs.Common.{◌≡◌, ◌≤◌, ℕ, ◌+◌, Bool, true, false, if◌then◌else◌, List, ◌++◌, refl, ◌∙◌, arith}
-use Rattle.spl_tree.specs.DeclarationTrees.{Heading}
-use Rattle.spl_tree.specs.StatementTrees.{statements}
-use Rattle.spl_meaning.specs.Names.{Table, parameters, formals_of}
-use Rattle.spl_meaning.specs.Tables.{Source, Routine, Subroutine, outer_names, routine_table, routine_subroutines, unit_subroutines}
-use Rattle.spl_meaning.specs.Places.{Place, list_words, list_array_words, places_from, arrays_from, above_base}
-use Rattle.spl_meaning.specs.Pending.{formals_words}
-use Rattle.spl_meaning.specs.Bodies.{Body, routine_starts, procedure_body, subroutine_body, main_body}
-use Rattle.spl_meaning.specs.Bound.{heading_weight, declarations_weight, statement_weight, statements_weight, subroutine_weight, subroutines_weight, routine_weight, main_weight}
-use Rattle.spl_branch.specs.declared.pieces.Piece.{Piece}
-use Rattle.spl_branch.specs.declared.pieces.Piece.TheVariants.{Mark}
-use Rattle.spl_branch.specs.Pieces.{count_of}
+use Rattle.spl_code.specs.spl_tree.DeclarationTrees.{Heading}
+use Rattle.spl_code.specs.spl_tree.StatementTrees.{statements}
+use Rattle.spl_code.specs.spl_meaning.Names.{Table, parameters, formals_of}
+use Rattle.spl_code.specs.spl_meaning.Tables.{Source, Routine, Subroutine, outer_names, routine_table, routine_subroutines, unit_subroutines}
+use Rattle.spl_code.specs.spl_meaning.Places.{Place, list_words, list_array_words, places_from, arrays_from, above_base}
+use Rattle.spl_code.specs.spl_meaning.Pending.{formals_words}
+use Rattle.spl_code.specs.spl_meaning.Bodies.{Body, routine_starts, procedure_body, subroutine_body, main_body}
+use Rattle.spl_code.specs.spl_meaning.Bound.{heading_weight, declarations_weight, statement_weight, statements_weight, subroutine_weight, subroutines_weight, routine_weight, main_weight}
+use Rattle.spl_code.specs.spl_branch.declared.pieces.Piece.{Piece}
+use Rattle.spl_code.specs.spl_branch.declared.pieces.Piece.TheVariants.{Mark}
+use Rattle.spl_code.specs.spl_branch.Pieces.{count_of}
 use Rattle.spl_code.specs.Parts.{Part, Wanted, pieces, piece, ◌⨟◌}
 use Rattle.spl_code.proofs.CountLemmas.{Few, few_then, few_more, few_pieces, few_fresh, few_one, count_append}
 use Rattle.spl_body_code.specs.Frames.{granted, zeroed}

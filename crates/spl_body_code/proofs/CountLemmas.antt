@@ -1,14 +1,14 @@
 -- The words of what a body has beside its statements.
 use Rattle.std.proofs.Common.{◌≡◌, ◌≤◌, ℕ, zero, suc, ◌+◌, ◌/◌, ◌%◌, ◌==◌, ◌&&◌, nat_lt, min, ℤ, Bool, true, false, if◌then◌else◌, List, [], ◌∷◌, ◌++◌, replicate, Option, Some, None, refl, ap, arith}
-use Rattle.hp_word.specs.Words.{word_of, double_of}
-use Rattle.spl_tree.specs.declared.expressions.Kind.{Kind}
-use Rattle.spl_tree.specs.declared.expressions.Kind.TheVariants as kind
-use Rattle.spl_meaning.specs.Names as n
-use Rattle.spl_meaning.specs.Names.{Sort, Table, find, same_flag}
-use Rattle.spl_meaning.specs.Places as p
-use Rattle.spl_meaning.specs.Places.{Place, Array, Cell, Initial, cell_word, cell_with, cell_of, cells_among, is_own, is_byte_kind, sum}
-use Rattle.spl_branch.specs.declared.pieces.Piece.{Piece}
-use Rattle.spl_branch.specs.Pieces.{count_of, most_words}
+use Rattle.spl_code.specs.hp_word.Words.{word_of, double_of}
+use Rattle.spl_code.specs.spl_tree.declared.expressions.Kind.{Kind}
+use Rattle.spl_code.specs.spl_tree.declared.expressions.Kind.TheVariants as kind
+use Rattle.spl_code.specs.spl_meaning.Names as n
+use Rattle.spl_code.specs.spl_meaning.Names.{Sort, Table, find, same_flag}
+use Rattle.spl_code.specs.spl_meaning.Places as p
+use Rattle.spl_code.specs.spl_meaning.Places.{Place, Array, Cell, Initial, cell_word, cell_with, cell_of, cells_among, is_own, is_byte_kind, sum}
+use Rattle.spl_code.specs.spl_branch.declared.pieces.Piece.{Piece}
+use Rattle.spl_code.specs.spl_branch.Pieces.{count_of, most_words}
 use Rattle.spl_code.specs.Constants.{constant}
 use Rattle.spl_code.specs.Operands.{mode_of}
 use Rattle.spl_code.specs.Stores.{store}

@@ -4,11 +4,11 @@
 -- 3. a main body has no mark of its own, and its last call is wanted behind its statements (main_joined)
 use Rattle.std.proofs.Common.{◌≡◌, ℕ, suc, ◌+◌, ◌++◌, ◌∷◌, [], List, true, false, length, sym, ap, ◌∙◌, arith}
 use Rattle.std.proofs.lemmas.List.{append_assoc, length-append, length-set}
-use Rattle.spl_meaning.specs.Pending.{formals_words}
-use Rattle.spl_meaning.specs.Bodies.{Body}
-use Rattle.spl_branch.specs.declared.buffer.Code.{Code}
-use Rattle.spl_branch.specs.declared.pieces.Piece.{Piece}
-use Rattle.spl_branch.specs.declared.pieces.Piece.TheVariants.{Mark}
+use Rattle.spl_code.specs.spl_meaning.Pending.{formals_words}
+use Rattle.spl_code.specs.spl_meaning.Bodies.{Body}
+use Rattle.spl_code.specs.spl_branch.declared.buffer.Code.{Code}
+use Rattle.spl_code.specs.spl_branch.declared.pieces.Piece.{Piece}
+use Rattle.spl_code.specs.spl_branch.declared.pieces.Piece.TheVariants.{Mark}
 use Rattle.spl_code.specs.Parts.{Part, Written, wants_of, pieces, piece, ◌⨟◌, with_fresh}
 use Rattle.spl_code.specs.Appends.{Appends, behind}
 use Rattle.spl_code.proofs.AppendLaws.{same_then, marks_behind}

@@ -1,23 +1,23 @@
 -- The code of whole bodies, worked by hand from their declarations. Of the statements it has one branch, that of a RETURN to the mark `leave`.
 use Rattle.std.specs.Prelude.{◌≡◌, ℕ, [], ◌∷◌, List, codes, false, true, Some, None}
 use Rattle.std.proofs.Common.{refl}
-use Rattle.hp_word.specs.Words.{word_of, double_of}
-use Rattle.hp_word.specs.Bytes.{high_word, low_word}
-use Rattle.hp_instr.specs.declared.instruction.Instr.TheVariants as i
-use Rattle.hp_instr.specs.declared.instruction.Mode.TheVariants.{QPlus}
-use Rattle.spl_tree.specs.declared.names_and_places.At.{At}
-use Rattle.spl_tree.specs.declared.expressions.Kind.{Kind}
-use Rattle.spl_tree.specs.declared.expressions.Kind.TheVariants as kind
-use Rattle.spl_tree.specs.Trees as tree
-use Rattle.spl_tree.specs.Trees.{Tree, Constant}
-use Rattle.spl_tree.specs.StatementTrees as stat
-use Rattle.spl_tree.specs.StatementTrees.{Statement}
-use Rattle.spl_tree.specs.DeclarationTrees as decl
-use Rattle.spl_tree.specs.DeclarationTrees.{Placed, Heading, Item, Declaration, declarations}
-use Rattle.spl_meaning.specs.Kinds.{plus, minus}
-use Rattle.spl_meaning.specs.Tables.{Routine, Subroutine, Source}
-use Rattle.spl_meaning.specs.Bodies.{Body, procedure_body, subroutine_body, main_body}
-use Rattle.spl_branch.specs.declared.pieces.Piece.TheVariants.{Do, Mark, Call}
+use Rattle.spl_code.specs.hp_word.Words.{word_of, double_of}
+use Rattle.spl_code.specs.hp_word.Bytes.{high_word, low_word}
+use Rattle.spl_code.specs.hp_instr.declared.instruction.Instr.TheVariants as i
+use Rattle.spl_code.specs.hp_instr.declared.instruction.Mode.TheVariants.{QPlus}
+use Rattle.spl_code.specs.spl_tree.declared.names_and_places.At.{At}
+use Rattle.spl_code.specs.spl_tree.declared.expressions.Kind.{Kind}
+use Rattle.spl_code.specs.spl_tree.declared.expressions.Kind.TheVariants as kind
+use Rattle.spl_code.specs.spl_tree.Trees as tree
+use Rattle.spl_code.specs.spl_tree.Trees.{Tree, Constant}
+use Rattle.spl_code.specs.spl_tree.StatementTrees as stat
+use Rattle.spl_code.specs.spl_tree.StatementTrees.{Statement}
+use Rattle.spl_code.specs.spl_tree.DeclarationTrees as decl
+use Rattle.spl_code.specs.spl_tree.DeclarationTrees.{Placed, Heading, Item, Declaration, declarations}
+use Rattle.spl_code.specs.spl_meaning.Kinds.{plus, minus}
+use Rattle.spl_code.specs.spl_meaning.Tables.{Routine, Subroutine, Source}
+use Rattle.spl_code.specs.spl_meaning.Bodies.{Body, procedure_body, subroutine_body, main_body}
+use Rattle.spl_code.specs.spl_branch.declared.pieces.Piece.TheVariants.{Do, Mark, Call}
 use Rattle.spl_code.specs.Parts.{Written, piece}
 use Rattle.spl_code.specs.Instructions.{LDI, LSL, ORI, LRA, STOR, BR, ZERO}
 use Rattle.spl_body_code.specs.Frames.{ROOM, ADDS, EXIT, SXIT, SPLT, JOIN}

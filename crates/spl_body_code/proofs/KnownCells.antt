@@ -1,13 +1,13 @@
 -- Cells and initial values, worked by hand.
 use Rattle.std.specs.Prelude.{◌≡◌, pos, negsuc, [], ◌∷◌, false, true}
 use Rattle.std.proofs.Common.{refl}
-use Rattle.hp_word.specs.Words.{word_of, double_of}
-use Rattle.hp_word.specs.Bytes.{high_word, low_word}
-use Rattle.hp_instr.specs.declared.instruction.Instr.TheVariants as i
-use Rattle.hp_instr.specs.declared.instruction.Mode.TheVariants.{QPlus}
-use Rattle.spl_tree.specs.declared.expressions.Kind.TheVariants as kind
-use Rattle.spl_meaning.specs.Places.{data_word, above_base}
-use Rattle.spl_branch.specs.declared.pieces.Piece.TheVariants.{Do}
+use Rattle.spl_code.specs.hp_word.Words.{word_of, double_of}
+use Rattle.spl_code.specs.hp_word.Bytes.{high_word, low_word}
+use Rattle.spl_code.specs.hp_instr.declared.instruction.Instr.TheVariants as i
+use Rattle.spl_code.specs.hp_instr.declared.instruction.Mode.TheVariants.{QPlus}
+use Rattle.spl_code.specs.spl_tree.declared.expressions.Kind.TheVariants as kind
+use Rattle.spl_code.specs.spl_meaning.Places.{data_word, above_base}
+use Rattle.spl_code.specs.spl_branch.declared.pieces.Piece.TheVariants.{Do}
 use Rattle.spl_code.specs.Instructions.{LDI, LDNI, LSL, ORI, LRA, STOR}
 use Rattle.spl_body_code.specs.Cells.{LADD, cell_set, initial_set}
 

@@ -8,3 +8,6 @@ pub mod BodyLaws
 pub mod CellLaws
 pub mod ZeroLaws
 pub mod JoinLaws
+-- Passed on from the crates below.
+pub use Rattle.spl_code.proofs.hp_word_proofs
+pub use Rattle.spl_code.proofs as spl_code_proofs

@@ -4,19 +4,19 @@
 -- 3. an item pays for its cell and its value, and a declaration in which an array stands 88 words besides (declaration_pays)
 use Rattle.std.proofs.Common.{◌≡◌, ◌≤◌, ℕ, ◌+◌, Bool, true, false, if◌then◌else◌, List, [], ◌∷◌, ◌++◌, map, is_some, Option, Some, None, refl, sym, ◌∙◌, arith}
 use Rattle.std.proofs.lemmas.Bool.{false≢true}
-use Rattle.hp_word.specs.declared.intrinsics.Intrinsic.{Intrinsic}
-use Rattle.spl_tree.specs.declared.expressions.Kind.{Kind}
-use Rattle.spl_tree.specs.Trees as tree
-use Rattle.spl_tree.specs.Trees.{Constant}
-use Rattle.spl_tree.specs.DeclarationTrees as decl
-use Rattle.spl_tree.specs.DeclarationTrees.{Placed, Equal, Item, Declaration, Declarations}
-use Rattle.spl_meaning.specs.Names as n
-use Rattle.spl_meaning.specs.Names.{Names, Sort, Table, Formal, find, within, same_flag, parameters, sort_by, profile_of, constant_or_zero, sum_value, kept_value, intrinsic_named}
-use Rattle.spl_meaning.specs.Tables.{Subroutine, declared, shaped, with_items, with_equates, with_intrinsics, with_labels, with_declaration, with_declarations, intrinsic_sort, subroutine_in, subroutines_among}
-use Rattle.spl_meaning.specs.Stops.{declaration_stops}
-use Rattle.spl_meaning.specs.Places.{Place, Array, Initial, array_words, where_own, sum, list_array_words, start_of, initial_at, item_initials, declaration_initials, initials_among}
-use Rattle.spl_meaning.specs.Bound.{constant_weight, shape_weight, item_weight, declaration_weight, declarations_weight, subroutine_weight, subroutines_weight}
-use Rattle.spl_branch.specs.Pieces.{count_of}
+use Rattle.spl_code.specs.hp_word.declared.intrinsics.Intrinsic.{Intrinsic}
+use Rattle.spl_code.specs.spl_tree.declared.expressions.Kind.{Kind}
+use Rattle.spl_code.specs.spl_tree.Trees as tree
+use Rattle.spl_code.specs.spl_tree.Trees.{Constant}
+use Rattle.spl_code.specs.spl_tree.DeclarationTrees as decl
+use Rattle.spl_code.specs.spl_tree.DeclarationTrees.{Placed, Equal, Item, Declaration, Declarations}
+use Rattle.spl_code.specs.spl_meaning.Names as n
+use Rattle.spl_code.specs.spl_meaning.Names.{Names, Sort, Table, Formal, find, within, same_flag, parameters, sort_by, profile_of, constant_or_zero, sum_value, kept_value, intrinsic_named}
+use Rattle.spl_code.specs.spl_meaning.Tables.{Subroutine, declared, shaped, with_items, with_equates, with_intrinsics, with_labels, with_declaration, with_declarations, intrinsic_sort, subroutine_in, subroutines_among}
+use Rattle.spl_code.specs.spl_meaning.Stops.{declaration_stops}
+use Rattle.spl_code.specs.spl_meaning.Places.{Place, Array, Initial, array_words, where_own, sum, list_array_words, start_of, initial_at, item_initials, declaration_initials, initials_among}
+use Rattle.spl_code.specs.spl_meaning.Bound.{constant_weight, shape_weight, item_weight, declaration_weight, declarations_weight, subroutine_weight, subroutines_weight}
+use Rattle.spl_code.specs.spl_branch.Pieces.{count_of}
 use Rattle.spl_code.proofs.CountLemmas.{count_append}
 use Rattle.spl_body_code.specs.Cells.{initial_set, initials_set}
 use Rattle.spl_body_code.proofs.CountLemmas.{cell_most, cells_most, few_first}

@@ -1,8 +1,8 @@
 -- So many zeros are pushed as there are local words: 255 for each row, and the rest.
 use Rattle.std.proofs.Common.{◌≡◌, ℕ, zero, suc, ◌+◌, ◌*◌, ◌/◌, ◌%◌, ◌==◌, Bool, true, false, if◌then◌else◌, List, [], ◌∷◌, ◌++◌, replicate, refl, sym, arith}
 use Rattle.std.proofs.lemmas.Bool.{eqb-true}
-use Rattle.spl_meaning.specs.Places.{sum}
-use Rattle.spl_branch.specs.declared.pieces.Piece.{Piece}
+use Rattle.spl_code.specs.spl_meaning.Places.{sum}
+use Rattle.spl_code.specs.spl_branch.declared.pieces.Piece.{Piece}
 use Rattle.spl_body_code.specs.Frames.{ADDS, zeroed, last_zeros}
 use Rattle.spl_body_code.specs.Zeros.{zeros_in}
 

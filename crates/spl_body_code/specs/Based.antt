@@ -1,8 +1,8 @@
 -- Cells of arrays in a frame, wherever the frame stands.
 use Rattle.std.specs.Prelude.{◌≡◌, ℕ, ◌+◌, ◌*◌, ◌%◌, ℤ}
-use Rattle.spl_tree.specs.declared.expressions.Kind.{Kind}
-use Rattle.spl_tree.specs.declared.expressions.Kind.TheVariants as kind
-use Rattle.spl_meaning.specs.Places.{cell_word}
+use Rattle.spl_code.specs.spl_tree.declared.expressions.Kind.{Kind}
+use Rattle.spl_code.specs.spl_tree.declared.expressions.Kind.TheVariants as kind
+use Rattle.spl_code.specs.spl_meaning.Places.{cell_word}
 
 -- the address of the base, for BYTEs that of its word's left byte
 abbrev pub base_word : Kind → ℕ → ℕ

@@ -1,11 +1,11 @@
 -- The code of bodies around that of their statements. The mark of the entry, `entry`, was made before and is set; the mark of the way out,
 -- `leave`, which RETURN leads to, is made and set here.
 use Rattle.std.specs.Prelude.{ℕ, ◌+◌, ◌%◌, Bool, true, false, List, [], ◌∷◌, ◌++◌, codes}
-use Rattle.spl_meaning.specs.Places.{Cell, Initial}
-use Rattle.spl_meaning.specs.Pending.{formals_words}
-use Rattle.spl_meaning.specs.Bodies.{Body}
-use Rattle.spl_branch.specs.declared.pieces.Piece.{Piece}
-use Rattle.spl_branch.specs.declared.pieces.Piece.TheVariants.{Mark}
+use Rattle.spl_code.specs.spl_meaning.Places.{Cell, Initial}
+use Rattle.spl_code.specs.spl_meaning.Pending.{formals_words}
+use Rattle.spl_code.specs.spl_meaning.Bodies.{Body}
+use Rattle.spl_code.specs.spl_branch.declared.pieces.Piece.{Piece}
+use Rattle.spl_code.specs.spl_branch.declared.pieces.Piece.TheVariants.{Mark}
 use Rattle.spl_code.specs.Parts.{Part, pieces, piece, ◌⨟◌, with_fresh, call_wanted}
 use Rattle.spl_body_code.specs.Frames.{granted, zeroed, SPLT, JOIN, EXIT, SXIT}
 use Rattle.spl_body_code.specs.Cells.{cells_set, initials_set}

@@ -1,12 +1,12 @@
 -- Cells of local arrays and of views, and initial values of local items: what sets them at the entry of a body.
 use Rattle.std.specs.Prelude.{◌%◌, ℤ, Bool, true, false, List, [], ◌∷◌, ◌++◌, flat_map}
-use Rattle.hp_instr.specs.declared.instruction.Mode.TheVariants.{QPlus}
-use Rattle.hp_word.specs.Words.{word_of, double_of}
-use Rattle.spl_tree.specs.declared.expressions.Kind.{Kind}
-use Rattle.spl_tree.specs.declared.expressions.Kind.TheVariants as kind
-use Rattle.spl_meaning.specs.Places as p
-use Rattle.spl_meaning.specs.Places.{Array, Cell, Initial, cell_word}
-use Rattle.spl_branch.specs.declared.pieces.Piece.{Piece}
+use Rattle.spl_code.specs.hp_instr.declared.instruction.Mode.TheVariants.{QPlus}
+use Rattle.spl_code.specs.hp_word.Words.{word_of, double_of}
+use Rattle.spl_code.specs.spl_tree.declared.expressions.Kind.{Kind}
+use Rattle.spl_code.specs.spl_tree.declared.expressions.Kind.TheVariants as kind
+use Rattle.spl_code.specs.spl_meaning.Places as p
+use Rattle.spl_code.specs.spl_meaning.Places.{Array, Cell, Initial, cell_word}
+use Rattle.spl_code.specs.spl_branch.declared.pieces.Piece.{Piece}
 use Rattle.spl_code.specs.Instructions.{operate, LSL, STOR}
 use Rattle.spl_code.specs.Constants.{constant, double_constant}
 use Rattle.spl_code.specs.Operands.{mode_of, own_address}

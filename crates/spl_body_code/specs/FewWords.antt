@@ -1,14 +1,14 @@
 -- How many words the code of a body takes at most: its weight, where its statements take at most theirs. The weights of the subroutines in a
 -- list are left for their own code.
 use Rattle.std.specs.Prelude.{ℕ, ◌+◌, ◌≤◌, false, List}
-use Rattle.spl_tree.specs.StatementTrees.{statements}
-use Rattle.spl_meaning.specs.Names.{Table}
-use Rattle.spl_meaning.specs.Tables.{Source, Routine, Subroutine, routine_table, routine_subroutines, unit_subroutines}
-use Rattle.spl_meaning.specs.Places.{Place, list_words, list_array_words}
-use Rattle.spl_meaning.specs.Limits.{most_locals, most_data}
-use Rattle.spl_meaning.specs.Bodies.{Body, procedure_body, subroutine_body, main_body}
-use Rattle.spl_meaning.specs.Bound.{statement_weight, statements_weight, subroutine_weight, subroutines_weight, routine_weight, main_weight}
-use Rattle.spl_branch.specs.Pieces.{count_of}
+use Rattle.spl_code.specs.spl_tree.StatementTrees.{statements}
+use Rattle.spl_code.specs.spl_meaning.Names.{Table}
+use Rattle.spl_code.specs.spl_meaning.Tables.{Source, Routine, Subroutine, routine_table, routine_subroutines, unit_subroutines}
+use Rattle.spl_code.specs.spl_meaning.Places.{Place, list_words, list_array_words}
+use Rattle.spl_code.specs.spl_meaning.Limits.{most_locals, most_data}
+use Rattle.spl_code.specs.spl_meaning.Bodies.{Body, procedure_body, subroutine_body, main_body}
+use Rattle.spl_code.specs.spl_meaning.Bound.{statement_weight, statements_weight, subroutine_weight, subroutines_weight, routine_weight, main_weight}
+use Rattle.spl_code.specs.spl_branch.Pieces.{count_of}
 use Rattle.spl_code.specs.Parts.{Part, Wanted}
 use Rattle.spl_body_code.specs.Bodies.{procedure_code, subroutine_code, main_code}
 

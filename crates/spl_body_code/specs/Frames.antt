@@ -1,8 +1,8 @@
 -- Room for a body, and its local words, zero at first.
 use Rattle.std.specs.Prelude.{ℕ, ◌/◌, ◌%◌, ◌==◌, ◌&&◌, nat_lt, min, if◌then◌else◌, List, [], ◌∷◌, ◌++◌, replicate}
-use Rattle.hp_instr.specs.declared.instruction.Instr.TheVariants as i
-use Rattle.spl_branch.specs.declared.pieces.Piece.{Piece}
-use Rattle.spl_branch.specs.declared.pieces.Piece.TheVariants.{Do}
+use Rattle.spl_code.specs.hp_instr.declared.instruction.Instr.TheVariants as i
+use Rattle.spl_code.specs.spl_branch.declared.pieces.Piece.{Piece}
+use Rattle.spl_code.specs.spl_branch.declared.pieces.Piece.TheVariants.{Do}
 use Rattle.spl_code.specs.Instructions.{immediate}
 use Rattle.spl_code.specs.Constants.{constant}
 

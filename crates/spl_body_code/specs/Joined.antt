@@ -1,9 +1,9 @@
 -- The code of a body as it is appended: its entry, its statements and its way out, one behind the other.
 use Rattle.std.specs.Prelude.{◌≡◌, ℕ, ◌+◌, ◌++◌, ◌∷◌, [], false, length}
-use Rattle.spl_meaning.specs.Pending.{formals_words}
-use Rattle.spl_meaning.specs.Bodies.{Body}
-use Rattle.spl_branch.specs.declared.buffer.Code.{Code}
-use Rattle.spl_branch.specs.Codes.{SameFrame}
+use Rattle.spl_code.specs.spl_meaning.Pending.{formals_words}
+use Rattle.spl_code.specs.spl_meaning.Bodies.{Body}
+use Rattle.spl_code.specs.spl_branch.declared.buffer.Code.{Code}
+use Rattle.spl_code.specs.spl_branch.Codes.{SameFrame}
 use Rattle.spl_code.specs.Parts.{Part, wants_of}
 use Rattle.spl_code.specs.Appends.{Appends, behind}
 use Rattle.spl_body_code.specs.Frames.{granted}

@@ -1,9 +1,9 @@
 -- What it means that the entry or the way out of a body was appended to a code.
 use Rattle.std.specs.Prelude.{◌≡◌, ℕ, ◌++◌, ◌∷◌, true, List, slice_set}
-use Rattle.spl_branch.specs.declared.buffer.Code.{Code}
-use Rattle.spl_branch.specs.declared.pieces.Piece.{Piece}
-use Rattle.spl_branch.specs.declared.pieces.Piece.TheVariants.{Mark}
-use Rattle.spl_branch.specs.Codes.{SameFrame}
+use Rattle.spl_code.specs.spl_branch.declared.buffer.Code.{Code}
+use Rattle.spl_code.specs.spl_branch.declared.pieces.Piece.{Piece}
+use Rattle.spl_code.specs.spl_branch.declared.pieces.Piece.TheVariants.{Mark}
+use Rattle.spl_code.specs.spl_branch.Codes.{SameFrame}
 use Rattle.spl_code.specs.Parts.{wants_of}
 
 -- Code `d` is code `c` with a mark, which was made before and is set at its end, and pieces behind it that make no mark and want no name:

@@ -1,10 +1,10 @@
 -- How many zeros pieces push.
 use Rattle.std.specs.Prelude.{◌≡◌, ℕ, ◌==◌, if◌then◌else◌}
-use Rattle.hp_instr.specs.declared.instruction.Instr.{Instr}
-use Rattle.hp_instr.specs.declared.instruction.Instr.TheVariants as i
-use Rattle.spl_meaning.specs.Places.{sum}
-use Rattle.spl_branch.specs.declared.pieces.Piece.{Piece}
-use Rattle.spl_branch.specs.declared.pieces.Piece.TheVariants.{Do}
+use Rattle.spl_code.specs.hp_instr.declared.instruction.Instr.{Instr}
+use Rattle.spl_code.specs.hp_instr.declared.instruction.Instr.TheVariants as i
+use Rattle.spl_code.specs.spl_meaning.Places.{sum}
+use Rattle.spl_code.specs.spl_branch.declared.pieces.Piece.{Piece}
+use Rattle.spl_code.specs.spl_branch.declared.pieces.Piece.TheVariants.{Do}
 use Rattle.spl_body_code.specs.Frames.{zeroed}
 
 -- ADDS, whose code is 7, pushes as many as its number says; other instructions push none

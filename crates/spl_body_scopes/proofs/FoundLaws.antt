@@ -1,6 +1,6 @@
 -- The scopes of bodies, through levels that are known.
 use Rattle.std.proofs.Common.{◌≡◌, Some, ap, sym, ◌∙◌}
-use Rattle.spl_code.specs.Calls.{Scope}
+use Rattle.spl_scopes.specs.spl_code.Calls.{Scope}
 use Rattle.spl_body_scopes.specs.Levels.{Level, scope_through}
 use Rattle.spl_body_scopes.specs.Found.{Calls, ShowsRoutine, ShowsInner, ShowsMain, ShowsMainInner}
 use Rattle.spl_body_scopes.proofs.ScopeLaws.{routine_scope, inner_scope, main_scope, main_inner_scope}

@@ -2,13 +2,13 @@
 use Rattle.std.proofs.Common.{ℕ, ◌≡◌, Bool, true, false, List, [], ◌∷◌, ◌++◌, map, Some, refl, ap, ◌∙◌}
 use Rattle.std.specs.Prelude.{if◌then◌else◌}
 use Rattle.spl_tree.specs.DeclarationTrees.{Heading, Declarations}
-use Rattle.spl_meaning.specs.Names.{Names, Table, Formal, find, or_else, same_name, parameters, formals_of}
+use Rattle.spl_sorts.specs.spl_meaning.Names.{Names, Table, Formal, find, or_else, same_name, parameters, formals_of}
 use Rattle.spl_sorts.specs.declared.profiles.Formal as code
 use Rattle.spl_sorts.specs.Profiles.{formal_of}
 use Rattle.spl_places.specs.declared.data.Datum as item
 use Rattle.spl_places.specs.ListedData.{datum_of, list_data}
 use Rattle.spl_areas.specs.Gathered.{items_under}
-use Rattle.spl_meaning.specs.Places.{Place}
+use Rattle.spl_sorts.specs.spl_meaning.Places.{Place}
 use Rattle.spl_places.specs.NameMaps.{behind_table}
 use Rattle.spl_body_scopes.specs.Levels.{Level, Spots}
 

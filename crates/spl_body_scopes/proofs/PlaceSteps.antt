@@ -1,11 +1,11 @@
 -- Loops over parameters and over items: what names have behind those from one on.
 use Rattle.std.proofs.Common.{ℕ, ◌≡◌, ◌<◌, ◌≤◌, ◌+◌, ◌-◌, arith, List, map, drop, length, get_or, Option, sym, ap, ◌∙◌}
 use Rattle.spl_tree.specs.Views.{letters}
-use Rattle.spl_meaning.specs.Places.{Place}
-use Rattle.spl_meaning.specs.Pending.{formal_words, formals_words}
-use Rattle.spl_meaning.specs.Bodies.{parameter_places}
-use Rattle.spl_found.specs.OwnNames.{with_name}
-use Rattle.spl_lists.proofs.NameWalks.{onward, onward_end}
+use Rattle.spl_sorts.specs.spl_meaning.Places.{Place}
+use Rattle.spl_sorts.specs.spl_meaning.Pending.{formal_words, formals_words}
+use Rattle.spl_sorts.specs.spl_meaning.Bodies.{parameter_places}
+use Rattle.spl_gen_expr.specs.spl_found.OwnNames.{with_name}
+use Rattle.spl_places.proofs.spl_lists_proofs.NameWalks.{onward, onward_end}
 use Rattle.spl_sorts.specs.declared.profiles.Formal.{Formal}
 use Rattle.spl_sorts.specs.Profiles.{formal_of}
 use Rattle.spl_places.specs.declared.places.Place as code

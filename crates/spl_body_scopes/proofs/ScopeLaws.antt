@@ -10,13 +10,13 @@ use Rattle.std.specs.List.{slice_get}
 use Rattle.spl_tree.specs.DeclarationTrees as decl
 use Rattle.spl_tree.specs.DeclarationTrees.{Heading, Declaration, Declarations, declarations}
 use Rattle.spl_tree.specs.StatementTrees as stat
-use Rattle.spl_meaning.specs.Stops.{declaration_stops}
-use Rattle.spl_meaning.specs.Names.{Names, Sort, Table, find, or_else, within, nothing_declared, parameters, formals_of, profile_of}
-use Rattle.spl_meaning.specs.Tables.{Source, Routine, Subroutine, routines_of, routines_among, routine_table, outer_names, routine_subroutines, subroutine_in, subroutines_among, unit_subroutines, unit_table, with_declaration}
-use Rattle.spl_meaning.specs.Places.{Place, data_word, above_base, below_base, below_return, item_words, list_words, list_array_words, places_from}
-use Rattle.spl_meaning.specs.Bodies.{Body, Named, Reached, reached_behind, marker_gap, parameter_places, named_bodies, procedure_body, subroutine_body, main_body, all_routines}
-use Rattle.spl_found.specs.OwnNames.{behind_declaration, behind_declarations}
-use Rattle.spl_found.proofs.OwnNames.{find_declaration, find_declarations}
+use Rattle.spl_sorts.specs.spl_meaning.Stops.{declaration_stops}
+use Rattle.spl_sorts.specs.spl_meaning.Names.{Names, Sort, Table, find, or_else, within, nothing_declared, parameters, formals_of, profile_of}
+use Rattle.spl_sorts.specs.spl_meaning.Tables.{Source, Routine, Subroutine, routines_of, routines_among, routine_table, outer_names, routine_subroutines, subroutine_in, subroutines_among, unit_subroutines, unit_table, with_declaration}
+use Rattle.spl_sorts.specs.spl_meaning.Places.{Place, data_word, above_base, below_base, below_return, item_words, list_words, list_array_words, places_from}
+use Rattle.spl_sorts.specs.spl_meaning.Bodies.{Body, Named, Reached, reached_behind, marker_gap, parameter_places, named_bodies, procedure_body, subroutine_body, main_body, all_routines}
+use Rattle.spl_gen_expr.specs.spl_found.OwnNames.{behind_declaration, behind_declarations}
+use Rattle.spl_gen_expr.proofs.spl_found_proofs.OwnNames.{find_declaration, find_declarations}
 use Rattle.spl_places.specs.ListedData.{Datum, list_data}
 use Rattle.spl_places.specs.Counters.{total_words}
 use Rattle.spl_places.specs.Held.{named}
@@ -24,13 +24,13 @@ use Rattle.spl_places.specs.Programs.{routine_items, Each, NewInUnit, NewInRouti
 use Rattle.spl_places.proofs.HeldLaws.{held_declarations}
 use Rattle.spl_places.proofs.ProgramLaws.{routine_held, item_words_held, places_held}
 use Rattle.spl_areas.specs.Gathered.{items_under, items_in}
-use Rattle.spl_code.specs.Calls.{Scope}
+use Rattle.spl_scopes.specs.spl_code.Calls.{Scope}
 use Rattle.spl_scopes.specs.Entries.{Owner, main, routine, Entry, routines_behind, module_entries, procedure_index, subroutine_index}
 use Rattle.spl_scopes.specs.Scopes.{Placed, first_reached, placed_units, global_places, routine_bodies, outer_body, inner_body, segment_of, scope_with}
 use Rattle.spl_body_scopes.specs.Levels.{Spots, globals_from, routine_level, inner_level, through}
 use Rattle.spl_body_scopes.specs.declared.places.Base.TheVariants as base
 use Rattle.spl_scopes.specs.Scopes.{Results}
-use Rattle.spl_meaning.specs.Bodies.{own_result, result_place}
+use Rattle.spl_sorts.specs.spl_meaning.Bodies.{own_result, result_place}
 use Rattle.spl_body_scopes.specs.Results.{heading_result, routine_result, results_through}
 use Rattle.spl_body_scopes.specs.Found.{RoutineResults, InnerResults, MainResults, MainInnerResults}
 use Rattle.spl_body_scopes.specs.Walks.{State, behind, routines_own, Left, globals_in, inner_heading, inner_headings, WalksBegin, WalksGoOn, RoutineScopes, InnerScopes, MainScopes, MainInnerScopes}

@@ -1,8 +1,8 @@
 -- A unit's data begin where those of the units before it end.
 use Rattle.std.proofs.Common.{ℕ, ◌+◌, add-zero, false, refl, sym, ap, ◌∙◌}
-use Rattle.spl_meaning.specs.Tables.{routines_of}
-use Rattle.spl_meaning.specs.Places.{list_words}
-use Rattle.spl_meaning.specs.Bodies.{reached_behind, own_table, all_routines}
+use Rattle.spl_sorts.specs.spl_meaning.Tables.{routines_of}
+use Rattle.spl_sorts.specs.spl_meaning.Places.{list_words}
+use Rattle.spl_sorts.specs.spl_meaning.Bodies.{reached_behind, own_table, all_routines}
 use Rattle.spl_places.specs.Programs.{unit_items, NewInRoutine}
 use Rattle.spl_places.proofs.ProgramLaws.{unit_held, item_words_held}
 use Rattle.spl_scopes.specs.Scopes.{first_reached, placed_units}

@@ -1,7 +1,7 @@
 -- Below what parameters stand.
 use Rattle.std.specs.Prelude.{ℕ}
-use Rattle.spl_meaning.specs.Places.{Place, below_base, below_return}
-use Rattle.spl_meaning.specs.Bodies.{marker_gap}
+use Rattle.spl_sorts.specs.spl_meaning.Places.{Place, below_base, below_return}
+use Rattle.spl_sorts.specs.spl_meaning.Bodies.{marker_gap}
 use Rattle.spl_body_scopes.specs.declared.places.Base.{Base}
 use Rattle.spl_body_scopes.specs.declared.places.Base.TheVariants as base
 

@@ -4,12 +4,12 @@ use Rattle.std.specs.List.{slice_get}
 use Rattle.spl_tree.specs.DeclarationTrees as decl
 use Rattle.spl_tree.specs.DeclarationTrees.{Heading, Declarations, declarations}
 use Rattle.spl_tree.specs.StatementTrees as stat
-use Rattle.spl_meaning.specs.Names.{Names, find}
+use Rattle.spl_sorts.specs.spl_meaning.Names.{Names, find}
 use Rattle.spl_places.specs.NameMaps.{entries_of}
 use Rattle.spl_gen_expr.specs.declared.scopes.Entries.{Entries}
 use Rattle.spl_scopes.specs.Entries.{Owner, main, routine, module_entries, procedure_index, subroutine_index}
 use Rattle.spl_scopes.specs.Scopes.{Placed, outer, inner, scope_in, results_in}
-use Rattle.spl_code.specs.Calls.{Scope}
+use Rattle.spl_scopes.specs.spl_code.Calls.{Scope}
 use Rattle.spl_body_scopes.specs.Levels.{Level, routine_level, inner_level}
 use Rattle.spl_body_scopes.specs.declared.places.Base.TheVariants as base
 use Rattle.spl_body_scopes.specs.Results.{result_of, heading_result, routine_result, results_through}

@@ -2,17 +2,17 @@
 -- have words.
 use Rattle.std.specs.Prelude.{ℕ, Bool, if◌then◌else◌, [], ◌++◌, List, map, Option}
 use Rattle.spl_tree.specs.DeclarationTrees.{Heading, Declarations}
-use Rattle.spl_meaning.specs.Names.{Names, find, or_else, nothing_declared, parameters, formals_of}
-use Rattle.spl_meaning.specs.Places.{Place, data_word, above_base, below_base, below_return, places_from}
-use Rattle.spl_meaning.specs.Bodies.{marker_gap, parameter_places}
-use Rattle.spl_found.specs.OwnNames.{behind_declarations}
+use Rattle.spl_sorts.specs.spl_meaning.Names.{Names, find, or_else, nothing_declared, parameters, formals_of}
+use Rattle.spl_sorts.specs.spl_meaning.Places.{Place, data_word, above_base, below_base, below_return, places_from}
+use Rattle.spl_sorts.specs.spl_meaning.Bodies.{marker_gap, parameter_places}
+use Rattle.spl_gen_expr.specs.spl_found.OwnNames.{behind_declarations}
 use Rattle.spl_sorts.specs.Tables.{table_of}
 use Rattle.spl_places.specs.NameMaps.{entries_of, shown}
 use Rattle.spl_places.specs.Spots.{spot_of}
 use Rattle.spl_places.specs.ListedData.{Datum, list_data}
 use Rattle.spl_places.specs.Held.{named}
 use Rattle.spl_areas.specs.Gathered.{items_under}
-use Rattle.spl_code.specs.Calls.{Scope}
+use Rattle.spl_scopes.specs.spl_code.Calls.{Scope}
 use Rattle.spl_body_scopes.specs.declared.levels.Level as code
 
 -- the places of names

@@ -5,3 +5,7 @@ pub mod Results
 pub mod Walks
 pub mod Found
 pub mod Units
+-- Passed on from the crates below.
+pub use Rattle.spl_areas.specs as spl_areas
+pub use Rattle.spl_gen_expr.specs.spl_found
+pub use Rattle.spl_gen_expr.specs as spl_gen_expr

@@ -3,9 +3,9 @@ use Rattle.std.specs.Prelude.{if◌then◌else◌, Option, Some, None, is_some}
 use Rattle.spl_tree.specs.declared.expressions.Kind.{Kind}
 use Rattle.spl_tree.specs.DeclarationTrees.{Heading}
 use Rattle.spl_tree.specs.Views.{letters}
-use Rattle.spl_meaning.specs.Names.{Names, same_name, or_else, profile_of}
-use Rattle.spl_meaning.specs.Places.{Place}
-use Rattle.spl_meaning.specs.Bodies.{result_by, result_place}
+use Rattle.spl_sorts.specs.spl_meaning.Names.{Names, same_name, or_else, profile_of}
+use Rattle.spl_sorts.specs.spl_meaning.Places.{Place}
+use Rattle.spl_sorts.specs.spl_meaning.Bodies.{result_by, result_place}
 use Rattle.spl_places.specs.declared.places.Place as code
 use Rattle.spl_places.specs.Spots.{spot_of}
 use Rattle.spl_scopes.specs.Scopes.{Results}

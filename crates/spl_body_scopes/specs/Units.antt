@@ -1,9 +1,9 @@
 -- A walk along the units of a program.
 use Rattle.std.specs.Prelude.{◌≡◌, ℕ, suc, ◌+◌, false, List, ◌∷◌, drop, Some}
 use Rattle.spl_tree.specs.DeclarationTrees as decl
-use Rattle.spl_meaning.specs.Tables.{Source}
-use Rattle.spl_meaning.specs.Places.{item_words}
-use Rattle.spl_meaning.specs.Bodies.{Reached, all_routines, global_words}
+use Rattle.spl_sorts.specs.spl_meaning.Tables.{Source}
+use Rattle.spl_sorts.specs.spl_meaning.Places.{item_words}
+use Rattle.spl_sorts.specs.spl_meaning.Bodies.{Reached, all_routines, global_words}
 use Rattle.spl_places.specs.Counters.{total_words}
 use Rattle.spl_places.specs.Programs.{unit_items, Each, NewInUnit, NewInRoutine, NewInAll}
 use Rattle.spl_scopes.specs.Scopes.{first_reached, placed_units, unit_at}

@@ -4,17 +4,17 @@ use Rattle.std.specs.List.{slice_get}
 use Rattle.spl_tree.specs.DeclarationTrees as decl
 use Rattle.spl_tree.specs.DeclarationTrees.{Heading, Declaration, Declarations, declarations}
 use Rattle.spl_tree.specs.StatementTrees as stat
-use Rattle.spl_meaning.specs.Names.{Names, Sort, Table, find, nothing_declared}
-use Rattle.spl_meaning.specs.Tables.{Source, Routine, routine_table, routines_of, routines_among, unit_table, with_declarations}
-use Rattle.spl_meaning.specs.Places.{item_words, list_words, sum}
-use Rattle.spl_meaning.specs.Bodies.{named_bodies}
-use Rattle.spl_found.specs.OwnNames.{behind_declaration}
+use Rattle.spl_sorts.specs.spl_meaning.Names.{Names, Sort, Table, find, nothing_declared}
+use Rattle.spl_sorts.specs.spl_meaning.Tables.{Source, Routine, routine_table, routines_of, routines_among, unit_table, with_declarations}
+use Rattle.spl_sorts.specs.spl_meaning.Places.{item_words, list_words, sum}
+use Rattle.spl_sorts.specs.spl_meaning.Bodies.{named_bodies}
+use Rattle.spl_gen_expr.specs.spl_found.OwnNames.{behind_declaration}
 use Rattle.spl_places.specs.Counters.{total_words}
 use Rattle.spl_places.specs.Programs.{Each, NewInUnit, NewInRoutine, NewInAll}
 use Rattle.spl_areas.specs.Gathered.{items_in}
 use Rattle.spl_scopes.specs.Entries.{Owner, main, routine, routines_behind, module_entries, procedure_index, subroutine_index}
 use Rattle.spl_scopes.specs.Scopes.{Placed, unit_at, global_places, routine_bodies, outer, inner, scope_in}
-use Rattle.spl_code.specs.Calls.{Scope}
+use Rattle.spl_scopes.specs.spl_code.Calls.{Scope}
 use Rattle.spl_body_scopes.specs.Levels.{Level, globals_from, routine_level, inner_level, scope_through}
 
 -- what is known before a declaration: how many procedures stand before it, the names so far, and where the next OWN item stands

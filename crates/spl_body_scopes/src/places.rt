@@ -1,9 +1,9 @@
 //! The places of parameters and of items, by name.
 ghost use Rattle.std.specs.Prelude.{◌≡◌, ◌+◌, OnOk, IfOk, map};
 ghost use Rattle.spl_tree.specs.Views.{letters};
-ghost use Rattle.spl_meaning.specs.Names.{find};
-ghost use Rattle.spl_meaning.specs.Places as p;
-ghost use Rattle.spl_meaning.specs.Bodies.{parameter_places};
+ghost use Rattle.spl_sorts.specs.spl_meaning.Names.{find};
+ghost use Rattle.spl_sorts.specs.spl_meaning.Places as p;
+ghost use Rattle.spl_sorts.specs.spl_meaning.Bodies.{parameter_places};
 ghost use Rattle.spl_sorts.specs.Profiles.{formal_of};
 ghost use Rattle.spl_sorts.specs.Sorts.{sort_of};
 ghost use Rattle.spl_places.specs.ListedData.{datum_of};
@@ -12,8 +12,8 @@ ghost use Rattle.spl_places.specs.Held.{named};
 ghost use Rattle.spl_places.specs.Spots.{spot_of, place_in, and_place};
 ghost use Rattle.spl_body_scopes.specs.Bases.{below_in, gap_of};
 
-use spl_depths::plus;
 use spl_formals::{formal_words, formals_words};
+use spl_places::spl_depths::plus;
 use spl_places::{Area, Datum, NameMap, Place, is_own, item_words};
 use spl_sorts::{Formal, Sort};
 use spl_tree::Name;

@@ -2,18 +2,18 @@
 ghost use Rattle.std.specs.Prelude.{◌≡◌, IfOk, option_map};
 ghost use Rattle.spl_tree.specs.Views.{letters};
 ghost use Rattle.spl_tree.specs.Spells.{heading_tree};
-ghost use Rattle.spl_meaning.specs.Names.{find};
+ghost use Rattle.spl_sorts.specs.spl_meaning.Names.{find};
 ghost use Rattle.spl_body_scopes.specs.declared.places.Base.TheVariants as base;
-ghost use Rattle.spl_meaning.specs.Kinds as kinds;
+ghost use Rattle.spl_sorts.specs.spl_meaning.Kinds as kinds;
 ghost use Rattle.spl_sorts.specs.Tables.{table_of};
 ghost use Rattle.spl_body_scopes.specs.Results as r;
 ghost use Rattle.spl_body_scopes.specs.Results.{result_of, placed_result};
 
 use crate::places::Base;
-use spl_depths::plus;
 use spl_formals::formals_words;
-use spl_lists::formals;
 use spl_places::Place;
+use spl_places::spl_depths::plus;
+use spl_places::spl_lists::formals;
 use spl_sorts::Table;
 use spl_tree::{Heading, Kind, Name};
 use std::alloc::{AllocError, Global};

@@ -1,12 +1,12 @@
 //! Bodies with their pieces, as the machine's manual has the instructions.
 use hp_instr::{Instr, Mode, Op, control, immediate, major};
 use spl_branch::{Code, Piece};
+use spl_gen_body::spl_places::{Area, Datum, ListPlaces, declarations, frame_starts, list_places};
+use spl_gen_body::spl_rooms::Room;
 use spl_gen_body::{
     Procedure, enter_main, enter_procedure, enter_subroutine, leave_main, leave_procedure,
     leave_subroutine,
 };
-use spl_places::{Area, Datum, ListPlaces, declarations, frame_starts, list_places};
-use spl_rooms::Room;
 use spl_sorts::Table;
 use spl_tree::{At, Const, Decl, Heading, Item, Kind, Name, Shape, Spec};
 use std::alloc::Global;

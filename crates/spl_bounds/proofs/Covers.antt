@@ -2,12 +2,12 @@
 use Rattle.std.proofs.Common.{◌≡◌, ℕ, ◌&&◌, ◌||◌, not, Bool, true, false, if◌then◌else◌, List, [], ◌∷◌, ◌++◌, codes, Option, Some, None, refl, ap}
 use Rattle.std.specs.List.{list_all}
 use Rattle.std.proofs.lemmas.Bool.{and_from}
-use Rattle.spl_tree.specs.StatementTrees.{statements}
-use Rattle.spl_meaning.specs.Names as n
-use Rattle.spl_meaning.specs.Names.{Names, Sort, find, same_flag, same_name}
-use Rattle.spl_meaning.specs.Tables.{Source, Routine, Subroutine, unit_table, routine_names, routine_subroutines, unit_subroutines, subroutine_names}
-use Rattle.spl_meaning.specs.Bound.{statement_names, statements_names, Want, is_wanted, with_want, stands_in, with_call, with_calls, with_subroutines, with_routines, with_main, with_unit, wants_from, routines_in, has_main}
-use Rattle.spl_code.specs.Parts.{Wanted}
+use Rattle.spl_carries.specs.spl_tree.StatementTrees.{statements}
+use Rattle.spl_carries.specs.spl_meaning.Names as n
+use Rattle.spl_carries.specs.spl_meaning.Names.{Names, Sort, find, same_flag, same_name}
+use Rattle.spl_carries.specs.spl_meaning.Tables.{Source, Routine, Subroutine, unit_table, routine_names, routine_subroutines, unit_subroutines, subroutine_names}
+use Rattle.spl_carries.specs.spl_meaning.Bound.{statement_names, statements_names, Want, is_wanted, with_want, stands_in, with_call, with_calls, with_subroutines, with_routines, with_main, with_unit, wants_from, routines_in, has_main}
+use Rattle.spl_module_words.specs.spl_code.Parts.{Wanted}
 use Rattle.spl_called_names.specs.Called.{Testing, call_passes, calls_pass, inner_passes, inners_pass, routine_passes, main_passes}
 use Rattle.spl_bounds.proofs.Tables.{bound_self}
 

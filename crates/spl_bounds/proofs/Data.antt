@@ -3,13 +3,13 @@ use Rattle.std.proofs.Common.{◌≡◌, ◌<◌, ◌≤◌, ◌⊎◌, inl, inr
 use Rattle.std.specs.Prelude.{nat_lt, if◌then◌else◌}
 use Rattle.std.specs.List.{slice_get}
 use Rattle.std.proofs.lemmas.Bool.{lt-ltb, le-ltb, cases_lt}
-use Rattle.spl_tree.specs.declared.expressions.Kind.{Kind}
-use Rattle.spl_tree.specs.declared.expressions.Kind.TheVariants as kind
-use Rattle.spl_meaning.specs.Tables.{Source}
-use Rattle.spl_meaning.specs.Places.{Place, Cell, Initial, stored, changed, put_value, put_values, word_or_zero, put_cells, put_initials}
-use Rattle.spl_meaning.specs.Bodies.{Reached, reached_behind, data_words, program_from, program_of}
-use Rattle.spl_meaning.specs.Runs.{Seat, global_address, zeros, opening}
-use Rattle.spl_initials.specs.Memory.{memory_of}
+use Rattle.spl_carries.specs.spl_tree.declared.expressions.Kind.{Kind}
+use Rattle.spl_carries.specs.spl_tree.declared.expressions.Kind.TheVariants as kind
+use Rattle.spl_carries.specs.spl_meaning.Tables.{Source}
+use Rattle.spl_carries.specs.spl_meaning.Places.{Place, Cell, Initial, stored, changed, put_value, put_values, word_or_zero, put_cells, put_initials}
+use Rattle.spl_carries.specs.spl_meaning.Bodies.{Reached, reached_behind, data_words, program_from, program_of}
+use Rattle.spl_carries.specs.spl_meaning.Runs.{Seat, global_address, zeros, opening}
+use Rattle.spl_module_words.specs.spl_initials.Memory.{memory_of}
 use Rattle.spl_carries.specs.Segments.{words_from}
 use Rattle.spl_bounds.specs.Programs.{DataWordsAreInitial}
 

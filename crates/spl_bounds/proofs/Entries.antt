@@ -5,31 +5,31 @@ use Rattle.std.specs.List.{list_all, slice_get}
 use Rattle.std.proofs.lemmas.Bool.{and_parts, and_from, eqb-true}
 use Rattle.std.proofs.lemmas.List.{length-append, length-map}
 use Rattle.std.proofs.lemmas.List.Folds.{list_all-append}
-use Rattle.spl_meaning.specs.Names.{find, same_flag, same_name}
-use Rattle.spl_meaning.specs.Tables.{Source, Routine, routines_of}
-use Rattle.spl_meaning.specs.Places.{sum}
-use Rattle.spl_meaning.specs.Limits.{joined}
-use Rattle.spl_meaning.specs.Bound.{segment_name, stands_in, among_segment, routines_in, has_main, names_in_segment, own_entries, entries, Want}
-use Rattle.spl_meaning.specs.Bound as bound
-use Rattle.spl_branch.specs.declared.modules.Want as finished
-use Rattle.spl_branch.specs.declared.modules.Module.{Module}
-use Rattle.spl_code.specs.Parts.{wants_of}
-use Rattle.spl_code.specs.Parts as parts_of_code
-use Rattle.spl_scopes.specs.Scopes.{Placed, first_reached}
-use Rattle.spl_module_code.specs.Modules.{uses_of, program_uses, numbered, IsModuleOf, AreModules}
-use Rattle.spl_places.specs.Programs.{Each}
+use Rattle.spl_carries.specs.spl_meaning.Names.{find, same_flag, same_name}
+use Rattle.spl_carries.specs.spl_meaning.Tables.{Source, Routine, routines_of}
+use Rattle.spl_carries.specs.spl_meaning.Places.{sum}
+use Rattle.spl_carries.specs.spl_meaning.Limits.{joined}
+use Rattle.spl_carries.specs.spl_meaning.Bound.{segment_name, stands_in, among_segment, routines_in, has_main, names_in_segment, own_entries, entries, Want}
+use Rattle.spl_carries.specs.spl_meaning.Bound as bound
+use Rattle.spl_module_words.specs.spl_branch.declared.modules.Want as finished
+use Rattle.spl_module_words.specs.spl_branch.declared.modules.Module.{Module}
+use Rattle.spl_module_words.specs.spl_code.Parts.{wants_of}
+use Rattle.spl_module_words.specs.spl_code.Parts as parts_of_code
+use Rattle.spl_called_names.specs.spl_scopes.Scopes.{Placed, first_reached}
+use Rattle.spl_module_words.specs.spl_module_code.Modules.{uses_of, program_uses, numbered, IsModuleOf, AreModules}
+use Rattle.spl_module_words.specs.spl_places.Programs.{Each}
 use Rattle.spl_sound_labels.specs.Labels.{NoSubroutines}
 use Rattle.spl_sound_labels.proofs.InnerLaws.{sound_none}
 use Rattle.spl_called_names.specs.Called.{Testing, routine_passes, routines_pass, main_passes, main_there, unit_passes}
 use Rattle.spl_called_names.proofs.Modules.{passing_module}
-use Rattle.mpe_segmenter.specs.Names.{is_among, modules_of, Part, part_from, segment_names}
-use Rattle.mpe_segmenter.specs.Entries.{owns, called_at, Wanted, wanted_of, is_met, wants_from, all_wants, owned}
-use Rattle.mpe_segmenter.specs.Faults.{callables}
-use Rattle.mpe_segmenter.specs.Counts.{entries_in}
-use Rattle.mpe_segmenter.proofs.EntryLemmas.{length-owns}
-use Rattle.mpe_segmenter.proofs.HomeLemmas.{called_among}
-use Rattle.mpe_segmenter.proofs.PartLemmas.{equal_is}
-use Rattle.mpe_segmenter.proofs.NameLemmas.{same_self}
+use Rattle.spl_module_words.specs.mpe_segmenter.Names.{is_among, modules_of, Part, part_from, segment_names}
+use Rattle.spl_module_words.specs.mpe_segmenter.Entries.{owns, called_at, Wanted, wanted_of, is_met, wants_from, all_wants, owned}
+use Rattle.spl_module_words.specs.mpe_segmenter.Faults.{callables}
+use Rattle.spl_module_words.specs.mpe_segmenter.Counts.{entries_in}
+use Rattle.spl_module_words.proofs.mpe_segmenter_proofs.EntryLemmas.{length-owns}
+use Rattle.spl_module_words.proofs.mpe_segmenter_proofs.HomeLemmas.{called_among}
+use Rattle.spl_module_words.proofs.mpe_segmenter_proofs.PartLemmas.{equal_is}
+use Rattle.spl_module_words.proofs.mpe_segmenter_proofs.NameLemmas.{same_self}
 use Rattle.spl_bounds.specs.Bounds.{PartsHaveFewEntries}
 use Rattle.spl_bounds.proofs.Tables.{as_bound, few_wants}
 use Rattle.spl_bounds.proofs.Covers.{covered, named_passes, all_covered}

@@ -4,20 +4,20 @@ use Rattle.std.specs.Prelude.{max}
 use Rattle.std.specs.List.{slice_get}
 use Rattle.std.specs.Cmp.Lexicographic.{pointwise}
 use Rattle.std.proofs.Math.Nat.{le-max_left, le-max_right}
-use Rattle.hp_program.specs.Programs.{words_of}
-use Rattle.spl_meaning.specs.Tables.{Source}
-use Rattle.spl_meaning.specs.Bodies.{Reached, reached_behind}
-use Rattle.spl_meaning.specs.Bound.{bound}
-use Rattle.spl_branch.specs.declared.modules.Module.{Module}
-use Rattle.spl_scopes.specs.Scopes.{Placed, first_reached, placed_units}
-use Rattle.spl_module_code.specs.Modules.{AreOfUnit, AreOf, program_uses}
-use Rattle.spl_module_code.specs.Modules.{AreOfUnit as u}
-use Rattle.spl_module_code.specs.Modules.{AreOf as a}
-use Rattle.mpe_segmenter.specs.Names.{is_among, with_name, segment_of, names_from, segment_names, Part, part_from, parts}
-use Rattle.mpe_segmenter.specs.Counts.{table_size, sizes}
-use Rattle.mpe_segmenter.specs.Programs.{tables_of, part_words}
-use Rattle.mpe_segmenter.proofs.PartLemmas.{equal_is}
-use Rattle.mpe_segmenter.proofs.NameLemmas.{same_self}
+use Rattle.spl_carries.specs.hp_program.Programs.{words_of}
+use Rattle.spl_carries.specs.spl_meaning.Tables.{Source}
+use Rattle.spl_carries.specs.spl_meaning.Bodies.{Reached, reached_behind}
+use Rattle.spl_carries.specs.spl_meaning.Bound.{bound}
+use Rattle.spl_module_words.specs.spl_branch.declared.modules.Module.{Module}
+use Rattle.spl_called_names.specs.spl_scopes.Scopes.{Placed, first_reached, placed_units}
+use Rattle.spl_module_words.specs.spl_module_code.Modules.{AreOfUnit, AreOf, program_uses}
+use Rattle.spl_module_words.specs.spl_module_code.Modules.{AreOfUnit as u}
+use Rattle.spl_module_words.specs.spl_module_code.Modules.{AreOf as a}
+use Rattle.spl_module_words.specs.mpe_segmenter.Names.{is_among, with_name, segment_of, names_from, segment_names, Part, part_from, parts}
+use Rattle.spl_module_words.specs.mpe_segmenter.Counts.{table_size, sizes}
+use Rattle.spl_module_words.specs.mpe_segmenter.Programs.{tables_of, part_words}
+use Rattle.spl_module_words.proofs.mpe_segmenter_proofs.PartLemmas.{equal_is}
+use Rattle.spl_module_words.proofs.mpe_segmenter_proofs.NameLemmas.{same_self}
 use Rattle.spl_bounds.specs.Bounds.{PartsKeepBounds}
 use Rattle.spl_bounds.specs.Programs.{greatest_bound, most_words, SegmentsHaveFewWords}
 use Rattle.spl_bounds.proofs.Modules.{module_segment}

@@ -9,29 +9,29 @@ use Rattle.std.specs.Cmp.Lexicographic.{pointwise}
 use Rattle.std.proofs.lemmas.Bool.{and_parts, and_from, eq-eqb, eqb-true, lt-ltb}
 use Rattle.std.proofs.lemmas.List.{length-append}
 use Rattle.std.proofs.lemmas.List.Folds.{list_all-append}
-use Rattle.spl_tree.specs.Views.{letters}
-use Rattle.spl_tree.specs.DeclarationTrees as decl
-use Rattle.spl_tree.specs.DeclarationTrees.{Declarations, declarations}
-use Rattle.spl_meaning.specs.Stops.{declaration_stops}
-use Rattle.spl_meaning.specs.Names.{Sort, Table, find, same_name, nothing_declared}
-use Rattle.spl_meaning.specs.Tables.{Source, Routine, with_declaration, routines_among, routines_of}
-use Rattle.spl_meaning.specs.Places.{sum}
-use Rattle.spl_meaning.specs.Bodies.{Reached, reached_behind}
-use Rattle.spl_meaning.specs.Bound.{segment_name, stands_in, among_segment, routines_in, names_of_routines, names_in_segment, own_entries}
-use Rattle.spl_branch.specs.declared.modules.Module.{Module}
-use Rattle.spl_scopes.specs.Entries.{Entry, module_entries}
-use Rattle.spl_scopes.specs.Scopes.{Placed, placed_units}
-use Rattle.spl_module_code.specs.Modules.{holds_main, in_list, named_segment, uses_among, uses_of, numbered, is_taken, uses, next_number, marks_before, IsModuleOf, AreOfUnit, AreOf}
-use Rattle.spl_module_code.specs.Modules.{AreOfUnit as u}
-use Rattle.spl_module_code.specs.Modules.{AreOf as a}
+use Rattle.spl_carries.specs.spl_tree.Views.{letters}
+use Rattle.spl_carries.specs.spl_tree.DeclarationTrees as decl
+use Rattle.spl_carries.specs.spl_tree.DeclarationTrees.{Declarations, declarations}
+use Rattle.spl_carries.specs.spl_meaning.Stops.{declaration_stops}
+use Rattle.spl_carries.specs.spl_meaning.Names.{Sort, Table, find, same_name, nothing_declared}
+use Rattle.spl_carries.specs.spl_meaning.Tables.{Source, Routine, with_declaration, routines_among, routines_of}
+use Rattle.spl_carries.specs.spl_meaning.Places.{sum}
+use Rattle.spl_carries.specs.spl_meaning.Bodies.{Reached, reached_behind}
+use Rattle.spl_carries.specs.spl_meaning.Bound.{segment_name, stands_in, among_segment, routines_in, names_of_routines, names_in_segment, own_entries}
+use Rattle.spl_module_words.specs.spl_branch.declared.modules.Module.{Module}
+use Rattle.spl_called_names.specs.spl_scopes.Entries.{Entry, module_entries}
+use Rattle.spl_called_names.specs.spl_scopes.Scopes.{Placed, placed_units}
+use Rattle.spl_module_words.specs.spl_module_code.Modules.{holds_main, in_list, named_segment, uses_among, uses_of, numbered, is_taken, uses, next_number, marks_before, IsModuleOf, AreOfUnit, AreOf}
+use Rattle.spl_module_words.specs.spl_module_code.Modules.{AreOfUnit as u}
+use Rattle.spl_module_words.specs.spl_module_code.Modules.{AreOf as a}
 use Rattle.spl_module_words.proofs.Segments.{some_inside, segment_named, segment_there, next_found, room_for, room_less, room_none, room_all, room_most}
-use Rattle.spl_places.specs.Programs.{Each}
+use Rattle.spl_module_words.specs.spl_places.Programs.{Each}
 use Rattle.spl_sound_labels.specs.Labels.{NoSubroutines}
-use Rattle.mpe_segmenter.specs.Names.{is_among, segment_of, modules_of}
-use Rattle.mpe_segmenter.specs.Entries.{own_count, owned}
-use Rattle.mpe_segmenter.specs.Faults.{define_names, callables}
-use Rattle.mpe_segmenter.proofs.PartLemmas.{equal_is}
-use Rattle.mpe_segmenter.proofs.NameLemmas.{same_self}
+use Rattle.spl_module_words.specs.mpe_segmenter.Names.{is_among, segment_of, modules_of}
+use Rattle.spl_module_words.specs.mpe_segmenter.Entries.{own_count, owned}
+use Rattle.spl_module_words.specs.mpe_segmenter.Faults.{define_names, callables}
+use Rattle.spl_module_words.proofs.mpe_segmenter_proofs.PartLemmas.{equal_is}
+use Rattle.spl_module_words.proofs.mpe_segmenter_proofs.NameLemmas.{same_self}
 use Rattle.spl_bounds.proofs.Own.{numbered_names, own_at, callable_names, astray_among, entry_names, module_names, module_own, own_more, own_none}
 
 -- ---- 1. numbers of names

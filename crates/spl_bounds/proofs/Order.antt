@@ -8,28 +8,28 @@ use Rattle.std.proofs.Common.{◌≡◌, ◌<◌, ◌⊎◌, inl, inr, ℕ, zero
 use Rattle.std.specs.List.{slice_get}
 use Rattle.std.specs.Cmp.Lexicographic.{pointwise}
 use Rattle.std.proofs.lemmas.Bool.{and_from, eq-eqb, eqb-true, lt-ltb, ltb-true}
-use Rattle.spl_tree.specs.DeclarationTrees as decl
-use Rattle.spl_tree.specs.DeclarationTrees.{Declaration, Declarations, declarations}
-use Rattle.spl_meaning.specs.Stops.{declaration_stops}
-use Rattle.spl_meaning.specs.Names.{Sort, Table, find, same_name, nothing_declared}
-use Rattle.spl_meaning.specs.Tables.{Source, Routine, with_declaration, routines_among, routines_of, subroutines_among, unit_subroutines}
-use Rattle.spl_meaning.specs.Bodies.{Reached, reached_behind}
-use Rattle.spl_meaning.specs.Limits.{joined}
-use Rattle.spl_meaning.specs.Bound.{segment_name, stands_in}
-use Rattle.spl_branch.specs.declared.modules.Module.{Module}
-use Rattle.spl_scopes.specs.Entries.{module_entries}
-use Rattle.spl_scopes.specs.Scopes.{Placed, first_reached, placed_units}
-use Rattle.spl_module_code.specs.Modules.{holds_main, in_list, named_segment, uses_among, uses_of, program_uses, numbered, is_taken, uses, next_number, marks_before, AreOfUnit, AreOf}
-use Rattle.spl_module_code.specs.Modules.{AreOfUnit as u}
-use Rattle.spl_module_code.specs.Modules.{AreOf as a}
-use Rattle.spl_places.specs.Programs.{Each}
+use Rattle.spl_carries.specs.spl_tree.DeclarationTrees as decl
+use Rattle.spl_carries.specs.spl_tree.DeclarationTrees.{Declaration, Declarations, declarations}
+use Rattle.spl_carries.specs.spl_meaning.Stops.{declaration_stops}
+use Rattle.spl_carries.specs.spl_meaning.Names.{Sort, Table, find, same_name, nothing_declared}
+use Rattle.spl_carries.specs.spl_meaning.Tables.{Source, Routine, with_declaration, routines_among, routines_of, subroutines_among, unit_subroutines}
+use Rattle.spl_carries.specs.spl_meaning.Bodies.{Reached, reached_behind}
+use Rattle.spl_carries.specs.spl_meaning.Limits.{joined}
+use Rattle.spl_carries.specs.spl_meaning.Bound.{segment_name, stands_in}
+use Rattle.spl_module_words.specs.spl_branch.declared.modules.Module.{Module}
+use Rattle.spl_called_names.specs.spl_scopes.Entries.{module_entries}
+use Rattle.spl_called_names.specs.spl_scopes.Scopes.{Placed, first_reached, placed_units}
+use Rattle.spl_module_words.specs.spl_module_code.Modules.{holds_main, in_list, named_segment, uses_among, uses_of, program_uses, numbered, is_taken, uses, next_number, marks_before, AreOfUnit, AreOf}
+use Rattle.spl_module_words.specs.spl_module_code.Modules.{AreOfUnit as u}
+use Rattle.spl_module_words.specs.spl_module_code.Modules.{AreOf as a}
+use Rattle.spl_module_words.specs.spl_places.Programs.{Each}
 use Rattle.spl_sound_labels.specs.Labels.{NoSubroutines}
 use Rattle.spl_sound_labels.proofs.InnerLaws.{sound_none}
 use Rattle.spl_called_names.specs.Called.{main_there}
 use Rattle.spl_carries.specs.Segments as carries
-use Rattle.mpe_segmenter.specs.Names.{is_among, with_name, segment_of, names_from}
-use Rattle.mpe_segmenter.proofs.PartLemmas.{equal_is}
-use Rattle.mpe_segmenter.proofs.NameLemmas.{same_self}
+use Rattle.spl_module_words.specs.mpe_segmenter.Names.{is_among, with_name, segment_of, names_from}
+use Rattle.spl_module_words.proofs.mpe_segmenter_proofs.PartLemmas.{equal_is}
+use Rattle.spl_module_words.proofs.mpe_segmenter_proofs.NameLemmas.{same_self}
 use Rattle.spl_bounds.specs.Segments.{StandsIn, NumbersSegments, ModulesMakeSegments}
 use Rattle.spl_bounds.proofs.Own.{own_numbered, entry_count}
 use Rattle.spl_module_words.proofs.Segments.{segment_named, segment_there, next_found}

@@ -3,26 +3,26 @@ use Rattle.std.proofs.Common.{◌≡◌, ◌<◌, ◌≤◌, ◌⊎◌, inl, inr
 use Rattle.std.specs.Prelude.{option_map}
 use Rattle.std.proofs.lemmas.Bool.{and_parts, and_from, eqb-true, cases_lt}
 use Rattle.std.proofs.lemmas.List.{length-map}
-use Rattle.spl_tree.specs.Views.{letters}
-use Rattle.spl_tree.specs.DeclarationTrees as decl
-use Rattle.spl_tree.specs.DeclarationTrees.{Declaration, Declarations, declarations}
-use Rattle.spl_meaning.specs.Stops.{declaration_stops}
-use Rattle.spl_meaning.specs.Names.{Sort, Table, same_name, nothing_declared}
-use Rattle.spl_meaning.specs.Tables.{Source, Routine, with_declaration, routines_among, routines_of, routine_subroutines, subroutines_among, unit_subroutines}
-use Rattle.spl_meaning.specs.Places.{sum}
-use Rattle.spl_meaning.specs.Bound.{segment_name, among_segment, routines_in, has_main, own_entries}
-use Rattle.spl_branch.specs.declared.buffer.Entry as code
-use Rattle.spl_branch.specs.declared.modules.Module.{Module}
-use Rattle.spl_branch.specs.Modules.{define_of}
-use Rattle.spl_scopes.specs.Entries.{Owner, main, routine, Entry, procedure, subroutine, is_callable, inner_entries, entries_among, in_segment, module_entries}
-use Rattle.spl_scopes.specs.Scopes.{Placed}
-use Rattle.spl_modules.specs.Made.{Made, made_of, made_from}
-use Rattle.spl_module_code.specs.Modules.{IsModuleOf}
+use Rattle.spl_carries.specs.spl_tree.Views.{letters}
+use Rattle.spl_carries.specs.spl_tree.DeclarationTrees as decl
+use Rattle.spl_carries.specs.spl_tree.DeclarationTrees.{Declaration, Declarations, declarations}
+use Rattle.spl_carries.specs.spl_meaning.Stops.{declaration_stops}
+use Rattle.spl_carries.specs.spl_meaning.Names.{Sort, Table, same_name, nothing_declared}
+use Rattle.spl_carries.specs.spl_meaning.Tables.{Source, Routine, with_declaration, routines_among, routines_of, routine_subroutines, subroutines_among, unit_subroutines}
+use Rattle.spl_carries.specs.spl_meaning.Places.{sum}
+use Rattle.spl_carries.specs.spl_meaning.Bound.{segment_name, among_segment, routines_in, has_main, own_entries}
+use Rattle.spl_module_words.specs.spl_branch.declared.buffer.Entry as code
+use Rattle.spl_module_words.specs.spl_branch.declared.modules.Module.{Module}
+use Rattle.spl_module_words.specs.spl_branch.Modules.{define_of}
+use Rattle.spl_called_names.specs.spl_scopes.Entries.{Owner, main, routine, Entry, procedure, subroutine, is_callable, inner_entries, entries_among, in_segment, module_entries}
+use Rattle.spl_called_names.specs.spl_scopes.Scopes.{Placed}
+use Rattle.spl_called_names.specs.spl_modules.Made.{Made, made_of, made_from}
+use Rattle.spl_module_words.specs.spl_module_code.Modules.{IsModuleOf}
 use Rattle.spl_sound_labels.specs.Labels.{NoSubroutines}
 use Rattle.spl_called_names.specs.Called.{main_there}
-use Rattle.mpe_segmenter.specs.Entries.{own_count}
-use Rattle.mpe_segmenter.specs.Faults.{define_names}
-use Rattle.mpe_segmenter.proofs.NameLemmas.{same_self}
+use Rattle.spl_module_words.specs.mpe_segmenter.Entries.{own_count}
+use Rattle.spl_module_words.specs.mpe_segmenter.Faults.{define_names}
+use Rattle.spl_module_words.proofs.mpe_segmenter_proofs.NameLemmas.{same_self}
 
 -- ---- by number
 

@@ -2,11 +2,11 @@
 use Rattle.std.proofs.Common.{◌≡◌, ◌≤◌, ℕ, zero, suc, List, [], ◌∷◌, length, Some, sym, ap, subst, ◌∙◌}
 use Rattle.std.specs.List.{slice_get}
 use Rattle.std.proofs.lemmas.List.{length-map}
-use Rattle.hp_program.specs.Programs.{segments_of, words_of}
-use Rattle.spl_meaning.specs.Bound.{bound}
-use Rattle.mpe_segmenter.specs.Names.{segment_names, part_from, parts}
-use Rattle.mpe_segmenter.specs.Programs.{tables_of, part_words}
-use Rattle.mpe_segmenter.proofs.ValidLemmas.{got_map}
+use Rattle.spl_carries.specs.hp_program.Programs.{segments_of, words_of}
+use Rattle.spl_carries.specs.spl_meaning.Bound.{bound}
+use Rattle.spl_module_words.specs.mpe_segmenter.Names.{segment_names, part_from, parts}
+use Rattle.spl_module_words.specs.mpe_segmenter.Programs.{tables_of, part_words}
+use Rattle.spl_module_words.proofs.mpe_segmenter_proofs.ValidLemmas.{got_map}
 use Rattle.spl_bounds.specs.Bounds.{PartsKeepBounds}
 use Rattle.spl_bounds.specs.Programs.{ProgramsKeepBounds}
 use Rattle.spl_bounds.proofs.Order.{segments_are}

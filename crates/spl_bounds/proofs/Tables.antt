@@ -6,12 +6,12 @@ use Rattle.std.specs.Str.{bytes_eq}
 use Rattle.std.specs.List.{list_all}
 use Rattle.std.proofs.lemmas.Bool.{and_parts, and_from}
 use Rattle.std.proofs.lemmas.List.{length-append}
-use Rattle.spl_meaning.specs.Names.{same_flag, same_name}
-use Rattle.spl_meaning.specs.Bound.{Want}
-use Rattle.spl_meaning.specs.Bound as bound
-use Rattle.mpe_segmenter.specs.Entries.{Own, Wanted, is_same, is_wanted, is_met, with_want, wants_from}
-use Rattle.mpe_segmenter.proofs.PartLemmas.{equal_is}
-use Rattle.mpe_segmenter.proofs.NameLemmas.{same_self}
+use Rattle.spl_carries.specs.spl_meaning.Names.{same_flag, same_name}
+use Rattle.spl_carries.specs.spl_meaning.Bound.{Want}
+use Rattle.spl_carries.specs.spl_meaning.Bound as bound
+use Rattle.spl_module_words.specs.mpe_segmenter.Entries.{Own, Wanted, is_same, is_wanted, is_met, with_want, wants_from}
+use Rattle.spl_module_words.proofs.mpe_segmenter_proofs.PartLemmas.{equal_is}
+use Rattle.spl_module_words.proofs.mpe_segmenter_proofs.NameLemmas.{same_self}
 
 -- ---- wants that are the same are equal
 

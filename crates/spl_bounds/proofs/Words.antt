@@ -1,15 +1,15 @@
 -- The words of a segment: those of its modules, which are within what stands there weighs, and its table, within its entries.
 use Rattle.std.proofs.Common.{◌≡◌, ◌≤◌, ℕ, ◌+◌, Bool, true, false, if◌then◌else◌, List, [], ◌∷◌, refl, subst, arith}
-use Rattle.spl_meaning.specs.Names.{same_name}
-use Rattle.spl_meaning.specs.Places.{sum}
-use Rattle.spl_meaning.specs.Bound.{unit_weight, entries}
-use Rattle.spl_branch.specs.declared.modules.Module.{Module}
+use Rattle.spl_carries.specs.spl_meaning.Names.{same_name}
+use Rattle.spl_carries.specs.spl_meaning.Places.{sum}
+use Rattle.spl_carries.specs.spl_meaning.Bound.{unit_weight, entries}
+use Rattle.spl_module_words.specs.spl_branch.declared.modules.Module.{Module}
 use Rattle.spl_module_words.specs.Words.{words_in}
 use Rattle.spl_module_words.proofs.Segments.{few_words}
-use Rattle.mpe_segmenter.specs.Names.{segment_of, segment_names, modules_of, Part}
-use Rattle.mpe_segmenter.specs.Counts.{entries_in, sizes}
-use Rattle.mpe_segmenter.proofs.PartLemmas.{equal_is}
-use Rattle.mpe_segmenter.proofs.NameLemmas.{same_self}
+use Rattle.spl_module_words.specs.mpe_segmenter.Names.{segment_of, segment_names, modules_of, Part}
+use Rattle.spl_module_words.specs.mpe_segmenter.Counts.{entries_in, sizes}
+use Rattle.spl_module_words.proofs.mpe_segmenter_proofs.PartLemmas.{equal_is}
+use Rattle.spl_module_words.proofs.mpe_segmenter_proofs.NameLemmas.{same_self}
 use Rattle.spl_bounds.specs.Bounds.{PartsKeepBounds}
 use Rattle.spl_bounds.proofs.Entries.{few_entries, part_named}
 

@@ -1,15 +1,15 @@
 -- The segments of units keep their bounds, whichever modules the units have: a segment has at most as many entries as are counted of its trees, and so
 -- with its table at most as many words as the segment of its name may have.
 use Rattle.std.specs.Prelude.{◌≡◌, ◌≤◌, ℕ, ◌+◌, List, slice_get, None, Some}
-use Rattle.spl_meaning.specs.Tables.{Source}
-use Rattle.spl_meaning.specs.Limits.{first_full}
-use Rattle.spl_meaning.specs.Sound.{IsSound}
-use Rattle.spl_meaning.specs.Bound.{entries, bound}
-use Rattle.spl_sound.specs.Spelled.{AreSpelled}
-use Rattle.spl_branch.specs.declared.modules.Module.{Module}
-use Rattle.spl_module_code.specs.Modules.{AreModules}
-use Rattle.mpe_segmenter.specs.Names.{Part, parts}
-use Rattle.mpe_segmenter.specs.Counts.{entries_in, table_size, sizes}
+use Rattle.spl_carries.specs.spl_meaning.Tables.{Source}
+use Rattle.spl_carries.specs.spl_meaning.Limits.{first_full}
+use Rattle.spl_carries.specs.spl_meaning.Sound.{IsSound}
+use Rattle.spl_carries.specs.spl_meaning.Bound.{entries, bound}
+use Rattle.spl_module_words.specs.spl_sound.Spelled.{AreSpelled}
+use Rattle.spl_module_words.specs.spl_branch.declared.modules.Module.{Module}
+use Rattle.spl_module_words.specs.spl_module_code.Modules.{AreModules}
+use Rattle.spl_module_words.specs.mpe_segmenter.Names.{Part, parts}
+use Rattle.spl_module_words.specs.mpe_segmenter.Counts.{entries_in, table_size, sizes}
 
 -- what procedures, subroutines and main bodies stand in a segment, and what names these call elsewhere, is no less than its entries
 abbrev pub PartsHaveFewEntries : Type 0

@@ -1,23 +1,23 @@
 -- The programs that are made of modules of units are bounded: they have the units' segments in the units' order, each within the bound of its name, and
 -- their data words.
 use Rattle.std.specs.Prelude.{◌≡◌, ◌≤◌, ℕ, max, List, [], ◌∷◌, length, None}
-use Rattle.hp_program.specs.declared.program.Program.{Program}
-use Rattle.hp_program.specs.Programs.{segments_of, words_of}
-use Rattle.spl_meaning.specs.Tables.{Source}
-use Rattle.spl_meaning.specs.Places.{put_cells, put_initials}
-use Rattle.spl_meaning.specs.Limits.{first_full}
-use Rattle.spl_meaning.specs.Sound.{IsSound}
-use Rattle.spl_meaning.specs.Bodies.{data_words, program_of}
-use Rattle.spl_meaning.specs.Bound.{bound}
-use Rattle.spl_meaning.specs.Runs.{global_address, zeros}
-use Rattle.spl_sound.specs.Spelled.{AreSpelled}
-use Rattle.spl_initials.specs.Memory.{memory_of}
-use Rattle.spl_branch.specs.declared.modules.Module.{Module}
-use Rattle.spl_module_code.specs.Modules.{program_uses, AreModules}
-use Rattle.spl_places.specs.Programs.{Each}
-use Rattle.mpe_segmenter.specs.Names.{parts}
-use Rattle.mpe_segmenter.specs.Programs.{Makes}
-use Rattle.mpe_segmenter.specs.Sites.{Links}
+use Rattle.spl_carries.specs.hp_program.declared.program.Program.{Program}
+use Rattle.spl_carries.specs.hp_program.Programs.{segments_of, words_of}
+use Rattle.spl_carries.specs.spl_meaning.Tables.{Source}
+use Rattle.spl_carries.specs.spl_meaning.Places.{put_cells, put_initials}
+use Rattle.spl_carries.specs.spl_meaning.Limits.{first_full}
+use Rattle.spl_carries.specs.spl_meaning.Sound.{IsSound}
+use Rattle.spl_carries.specs.spl_meaning.Bodies.{data_words, program_of}
+use Rattle.spl_carries.specs.spl_meaning.Bound.{bound}
+use Rattle.spl_carries.specs.spl_meaning.Runs.{global_address, zeros}
+use Rattle.spl_module_words.specs.spl_sound.Spelled.{AreSpelled}
+use Rattle.spl_module_words.specs.spl_initials.Memory.{memory_of}
+use Rattle.spl_module_words.specs.spl_branch.declared.modules.Module.{Module}
+use Rattle.spl_module_words.specs.spl_module_code.Modules.{program_uses, AreModules}
+use Rattle.spl_module_words.specs.spl_places.Programs.{Each}
+use Rattle.spl_module_words.specs.mpe_segmenter.Names.{parts}
+use Rattle.spl_module_words.specs.mpe_segmenter.Programs.{Makes}
+use Rattle.spl_module_words.specs.mpe_segmenter.Sites.{Links}
 use Rattle.spl_carries.specs.Segments.{initial_words}
 use Rattle.spl_carries.specs.Carries.{IsBounded}
 use Rattle.spl_bounds.specs.Segments.{NumbersSegments}

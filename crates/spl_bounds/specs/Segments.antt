@@ -1,11 +1,11 @@
 -- The segments of units in their order: they are those of any modules of the units.
 use Rattle.std.specs.Prelude.{◌≡◌, ◌<◌, ℕ, false, List, length, slice_get, Some}
-use Rattle.spl_meaning.specs.Tables.{Source, Routine, routines_of}
-use Rattle.spl_meaning.specs.Sound.{IsSound}
-use Rattle.spl_branch.specs.declared.modules.Module.{Module}
-use Rattle.spl_module_code.specs.Modules.{AreModules}
-use Rattle.spl_places.specs.Programs.{Each}
-use Rattle.mpe_segmenter.specs.Names.{segment_names}
+use Rattle.spl_carries.specs.spl_meaning.Tables.{Source, Routine, routines_of}
+use Rattle.spl_carries.specs.spl_meaning.Sound.{IsSound}
+use Rattle.spl_module_words.specs.spl_branch.declared.modules.Module.{Module}
+use Rattle.spl_module_words.specs.spl_module_code.Modules.{AreModules}
+use Rattle.spl_module_words.specs.spl_places.Programs.{Each}
+use Rattle.spl_module_words.specs.mpe_segmenter.Names.{segment_names}
 use Rattle.spl_carries.specs.Segments as carries
 
 -- a procedure stands in one of its unit's segments

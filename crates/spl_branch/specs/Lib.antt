@@ -9,3 +9,5 @@ pub mod Kept
 pub mod Modules
 pub mod Words
 pub mod Rounds
+-- Passed on from the crates below.
+pub use Rattle.hp_instr.specs as hp_instr

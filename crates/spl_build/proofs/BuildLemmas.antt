@@ -4,11 +4,11 @@ use Rattle.std.specs.Prelude.{IfOk}
 use Rattle.std.proofs.lemmas.List.{length-map}
 use Rattle.hp_program.specs.declared.program.Program.{Program}
 use Rattle.spl_tree.specs.declared.units.SplUnit.{SplUnit}
-use Rattle.spl_meaning.specs.Tables.{Source}
+use Rattle.spl_sound.specs.spl_meaning.Tables.{Source}
 use Rattle.spl_sound.specs.Spelled.{AreSpelled, most_units, source_of}
-use Rattle.spl_layout.specs.declared.layouts.Layout.{Layout}
+use Rattle.spl_gen_proc.specs.spl_layout.declared.layouts.Layout.{Layout}
 use Rattle.spl_branch.specs.declared.modules.Module.{Module}
-use Rattle.spl_module_code.specs.Modules.{AreModules}
+use Rattle.spl_formed_modules.specs.spl_module_code.Modules.{AreModules}
 use Rattle.mpe_segmenter.specs.Entered.{total}
 use Rattle.spl_formed_modules.proofs.Few.{all_few}
 use Rattle.spl_build.specs.Built.{IsLinked, IsBuilt}

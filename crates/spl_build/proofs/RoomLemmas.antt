@@ -7,17 +7,17 @@ use Rattle.std.proofs.lemmas.Bool.Decides.{nat_tests}
 use Rattle.std.proofs.lemmas.Option.{slice_get_cases}
 use Rattle.spl_tree.specs.declared.expressions.Kind.{Kind}
 use Rattle.spl_tree.specs.declared.expressions.Kind.TheVariants as kind
-use Rattle.spl_meaning.specs.Tables.{Source}
-use Rattle.spl_meaning.specs.Limits.{first_full}
-use Rattle.spl_meaning.specs.Sound.{IsSound}
-use Rattle.spl_meaning.specs.Places.{Place, Cell, Initial, stored, changed, put_value, put_values, put_cells, put_initials}
-use Rattle.spl_meaning.specs.Bodies.{data_words, program_of}
-use Rattle.spl_meaning.specs.Runs.{global_address, zeros}
-use Rattle.spl_places.proofs.SoundLaws.{sound_new}
-use Rattle.spl_initials.specs.Memory.{memory_of}
+use Rattle.spl_sound.specs.spl_meaning.Tables.{Source}
+use Rattle.spl_sound.specs.spl_meaning.Limits.{first_full}
+use Rattle.spl_sound.specs.spl_meaning.Sound.{IsSound}
+use Rattle.spl_sound.specs.spl_meaning.Places.{Place, Cell, Initial, stored, changed, put_value, put_values, put_cells, put_initials}
+use Rattle.spl_sound.specs.spl_meaning.Bodies.{data_words, program_of}
+use Rattle.spl_sound.specs.spl_meaning.Runs.{global_address, zeros}
+use Rattle.spl_gen_proc.proofs.spl_places_proofs.SoundLaws.{sound_new}
+use Rattle.spl_fits.specs.spl_initials.Memory.{memory_of}
 use Rattle.spl_fits.specs.Fits.{ProgramsFit}
-use Rattle.spl_layout.specs.declared.layouts.Layout.{Layout}
-use Rattle.spl_layout.specs.Layouts.{IsLayout}
+use Rattle.spl_gen_proc.specs.spl_layout.declared.layouts.Layout.{Layout}
+use Rattle.spl_gen_proc.specs.spl_layout.Layouts.{IsLayout}
 use Rattle.spl_build.specs.Steps.{IsLaid}
 
 -- there is no word from an address on

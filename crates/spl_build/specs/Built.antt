@@ -2,12 +2,12 @@
 use Rattle.std.specs.Prelude.{ℕ, ◌≡◌, List, None, Some}
 use Rattle.hp_program.specs.declared.program.Program.{Program}
 use Rattle.hp_program.specs.Programs.{segments_of}
-use Rattle.spl_meaning.specs.Tables.{Source}
-use Rattle.spl_meaning.specs.Limits.{first_full}
-use Rattle.spl_layout.specs.declared.layouts.Layout.{Layout}
-use Rattle.spl_layout.specs.Layouts.{IsLayout}
+use Rattle.spl_sound.specs.spl_meaning.Tables.{Source}
+use Rattle.spl_sound.specs.spl_meaning.Limits.{first_full}
+use Rattle.spl_gen_proc.specs.spl_layout.declared.layouts.Layout.{Layout}
+use Rattle.spl_gen_proc.specs.spl_layout.Layouts.{IsLayout}
 use Rattle.spl_branch.specs.declared.modules.Module.{Module}
-use Rattle.spl_module_code.specs.Modules.{AreModules}
+use Rattle.spl_formed_modules.specs.spl_module_code.Modules.{AreModules}
 use Rattle.mpe_segmenter.specs.declared.faults.PrepFault.{PrepFault}
 use Rattle.mpe_segmenter.specs.Faults.{Fault, fault_of, first_fault}
 use Rattle.mpe_segmenter.specs.Names.{parts}

@@ -1,9 +1,9 @@
 -- What each part of the way answers.
 use Rattle.std.specs.Prelude.{◌≡◌, ◌≤◌, List, None, Some, length}
-use Rattle.spl_meaning.specs.Tables.{Source}
-use Rattle.spl_meaning.specs.Limits.{first_full}
-use Rattle.spl_layout.specs.declared.layouts.Layout.{Layout}
-use Rattle.spl_layout.specs.Layouts.{IsLayout}
+use Rattle.spl_sound.specs.spl_meaning.Tables.{Source}
+use Rattle.spl_sound.specs.spl_meaning.Limits.{first_full}
+use Rattle.spl_gen_proc.specs.spl_layout.declared.layouts.Layout.{Layout}
+use Rattle.spl_gen_proc.specs.spl_layout.Layouts.{IsLayout}
 use Rattle.spl_branch.specs.declared.modules.Module.{Module}
 use Rattle.spl_build.specs.declared.building.BuildFault.{BuildFault}
 use Rattle.spl_build.specs.declared.building.BuildFault.TheVariants as why

@@ -3,7 +3,7 @@ ghost use Rattle.std.specs.Prelude.{◌≡◌, ◌≤◌, ◌<◌, ◌^◌, true
 ghost use Rattle.std.specs.List.{list_all};
 ghost use Rattle.mpe_segmenter.specs.Counts.{is_well_formed};
 ghost use Rattle.mpe_segmenter.specs.Entered.{total};
-ghost use Rattle.spl_meaning.specs.Limits.{first_full};
+ghost use Rattle.spl_sound.specs.spl_meaning.Limits.{first_full};
 ghost use Rattle.spl_sound.specs.Spelled.{source_of};
 ghost use Rattle.spl_build.specs.Built.{IsLinked, IsBuilt, IsUnbuilt};
 ghost use Rattle.spl_build.specs.Steps.{IsLaid, IsPassed, Fails};
@@ -13,7 +13,7 @@ use mpe_segmenter::{PrepFault, prepare};
 use spl_branch::Module;
 use spl_fits::programs_fit;
 use spl_gen_proc::compile;
-use spl_layout::{Layout, LimitFault, places};
+use spl_gen_proc::spl_layout::{Layout, LimitFault, places};
 use spl_sound::Sound;
 use spl_tree::At;
 use std::alloc::{AllocError, Global};

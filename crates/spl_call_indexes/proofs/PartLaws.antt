@@ -5,11 +5,11 @@ use Rattle.std.proofs.lemmas.Bool.{lt-ltb, ltb-true, false≢true, and_from}
 use Rattle.std.proofs.lemmas.List.{append-nil, append_assoc}
 use Rattle.std.proofs.lemmas.List.Folds.{list_all-append}
 use Rattle.std.proofs.lemmas.List.Quantifiers.{position-Some}
-use Rattle.spl_meaning.specs.Laws.{IsFront}
-use Rattle.spl_branch.specs.declared.pieces.Piece.{Piece}
-use Rattle.spl_branch.specs.declared.pieces.Piece.TheVariants.{Do, Literal, Place, Branch, Mark, Call, Begin}
-use Rattle.spl_branch.specs.Pieces.{is_indexed}
-use Rattle.spl_code.specs.Parts.{Part, Wanted, is_wanted, pieces, ◌⨟◌, with_fresh, call_wanted}
+use Rattle.spl_module_code.specs.spl_meaning.Laws.{IsFront}
+use Rattle.spl_module_code.specs.spl_branch.declared.pieces.Piece.{Piece}
+use Rattle.spl_module_code.specs.spl_branch.declared.pieces.Piece.TheVariants.{Do, Literal, Place, Branch, Mark, Call, Begin}
+use Rattle.spl_module_code.specs.spl_branch.Pieces.{is_indexed}
+use Rattle.spl_module_code.specs.spl_code.Parts.{Part, Wanted, is_wanted, pieces, ◌⨟◌, with_fresh, call_wanted}
 use Rattle.spl_call_indexes.specs.Indexes.{IsIndexedPart}
 
 -- ---- pieces none of which is a call

@@ -1,10 +1,10 @@
 -- Calls in parts of code: what a call wants is among the names wanted behind its part, and the entry that it calls is one of so many.
 use Rattle.std.specs.Prelude.{◌≡◌, ℕ, ◌<◌, ◌≤◌, true, List, length, Some}
 use Rattle.std.specs.List.{list_all}
-use Rattle.spl_meaning.specs.Laws.{IsFront}
-use Rattle.spl_branch.specs.Pieces.{is_indexed}
-use Rattle.spl_code.specs.Parts.{Part, Wanted}
-use Rattle.spl_code.specs.Calls.{Scope}
+use Rattle.spl_module_code.specs.spl_meaning.Laws.{IsFront}
+use Rattle.spl_module_code.specs.spl_branch.Pieces.{is_indexed}
+use Rattle.spl_module_code.specs.spl_code.Parts.{Part, Wanted}
+use Rattle.spl_module_code.specs.spl_code.Calls.{Scope}
 
 -- whatever stands before a part: the names that were wanted are the first of those wanted behind it, and each call has its index
 pub record IsIndexedPart (entries : ℕ) (part : Part) : Type 0 where

@@ -1,17 +1,17 @@
 -- Each call in the code of expressions, statements, bodies and modules has its index.
 use Rattle.std.specs.Prelude.{◌≡◌, ℕ, true, List, length}
 use Rattle.std.specs.List.{list_all}
-use Rattle.spl_tree.specs.Trees.{Tree}
-use Rattle.spl_tree.specs.StatementTrees.{Statement, Statements}
-use Rattle.spl_meaning.specs.Bodies.{Body}
-use Rattle.spl_branch.specs.declared.buffer.Code.{Code}
-use Rattle.spl_branch.specs.Pieces.{is_indexed}
-use Rattle.spl_code.specs.Calls.{Scope}
-use Rattle.spl_code.specs.Code.{Aim, code, reference}
-use Rattle.spl_statement_code.specs.Landings.{Context}
-use Rattle.spl_statement_code.specs.Statements.{statement, listed}
-use Rattle.spl_scopes.specs.Entries.{Owner, Entry, module_entries}
-use Rattle.spl_scopes.specs.Scopes.{Placed}
+use Rattle.spl_module_code.specs.spl_tree.Trees.{Tree}
+use Rattle.spl_module_code.specs.spl_tree.StatementTrees.{Statement, Statements}
+use Rattle.spl_module_code.specs.spl_meaning.Bodies.{Body}
+use Rattle.spl_module_code.specs.spl_branch.declared.buffer.Code.{Code}
+use Rattle.spl_module_code.specs.spl_branch.Pieces.{is_indexed}
+use Rattle.spl_module_code.specs.spl_code.Calls.{Scope}
+use Rattle.spl_module_code.specs.spl_code.Code.{Aim, code, reference}
+use Rattle.spl_module_code.specs.spl_statement_code.Landings.{Context}
+use Rattle.spl_module_code.specs.spl_statement_code.Statements.{statement, listed}
+use Rattle.spl_module_code.specs.spl_scopes.Entries.{Owner, Entry, module_entries}
+use Rattle.spl_module_code.specs.spl_scopes.Scopes.{Placed}
 use Rattle.spl_module_code.specs.Bodies.{body_statements}
 use Rattle.spl_module_code.specs.Modules.{module_part, IsCodeOf}
 use Rattle.spl_call_indexes.specs.Indexes.{IsIndexedPart, EntriesBelow}

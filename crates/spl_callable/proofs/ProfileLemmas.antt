@@ -1,25 +1,26 @@
 -- Headings that are alike, names among some, and procedures at their numbers.
 use Rattle.std.proofs.Common.{◌≡◌, ℕ, zero, suc, ◌+◌, ◌≤◌, ◌<◌, ◌&&◌, Bool, true, false, List, [], ◌∷◌, Option, Some, None, refl, sym, ap, subst, ◌∙◌, arith}
 use Rattle.std.specs.Prelude.{◌||◌, ◌==◌, not, max, slice_get, if◌then◌else◌}
+use Rattle.std.specs.List.{list_all}
 use Rattle.std.proofs.lemmas.Bool.{and_parts, false≢true, eqb-true}
-use Rattle.spl_tree.specs.declared.expressions.Kind.{Kind}
-use Rattle.spl_tree.specs.declared.expressions.Kind.TheVariants as kind
-use Rattle.spl_meaning.specs.Bodies.{Body, Named, body_named, named_bodies, procedure_body}
-use Rattle.spl_meaning.specs.DeclarationRules.{kind_number, same_formals, same_profile}
-use Rattle.spl_meaning.specs.Names as n
-use Rattle.spl_meaning.specs.Names.{Names, Sort, Table, Formal, Profile, same_name, same_flag}
-use Rattle.spl_meaning.specs.Pending.{value_words, by_value, formal_words, formals_words, depth}
-use Rattle.spl_meaning.specs.Places.{Place, list_words, list_array_words}
-use Rattle.spl_meaning.specs.Tables.{Routine, routine_table}
-use Rattle.mpe_segmenter.proofs.PartLemmas.{equal_is}
-use Rattle.spl_scopes.specs.Entries.{routine, module_entries}
-use Rattle.spl_scopes.specs.Scopes.{Placed, body_segment}
-use Rattle.spl_callees.specs.Callees.{CallsAlike, profile_of_body}
-use Rattle.spl_places.specs.Programs.{Each}
-use Rattle.spl_procedures.specs.Laws.{RoutinesAreProcedures}
-use Rattle.spl_procedures.specs.Procedures.{IsProcedure}
-use Rattle.spl_sound_jumps.specs.Laws.{Lands, LandsInRoutine}
-use Rattle.spl_callable.specs.Callable.{is_among, is_alike, are_alike, is_covered_procedure, are_covered_procedures, most_words}
+use Rattle.spl_readings.specs.spl_tree.declared.expressions.Kind.{Kind}
+use Rattle.spl_readings.specs.spl_tree.declared.expressions.Kind.TheVariants as kind
+use Rattle.spl_mains.specs.spl_meaning.Bodies.{Body, Named, body_named, named_bodies, procedure_body}
+use Rattle.spl_mains.specs.spl_meaning.DeclarationRules.{kind_number, same_formals, same_profile}
+use Rattle.spl_mains.specs.spl_meaning.Names as n
+use Rattle.spl_mains.specs.spl_meaning.Names.{Sort, Table, Formal, Profile, profile_of, same_name, same_flag}
+use Rattle.spl_mains.specs.spl_meaning.Pending.{value_words, by_value, formal_words, formals_words, depth}
+use Rattle.spl_mains.specs.spl_meaning.Places.{Place, list_words, list_array_words}
+use Rattle.spl_mains.specs.spl_meaning.Tables.{Routine, routine_table, Subroutine, subroutine_named}
+use Rattle.spl_inners.proofs.mpe_segmenter_proofs.PartLemmas.{equal_is}
+use Rattle.spl_readings.specs.spl_scopes.Entries.{routine, module_entries}
+use Rattle.spl_readings.specs.spl_scopes.Scopes.{Placed, body_segment}
+use Rattle.spl_callees.specs.Callees.{CallsAlike}
+use Rattle.spl_readings.specs.spl_places.Programs.{Each}
+use Rattle.spl_callees.specs.spl_procedures.Laws.{RoutinesAreProcedures}
+use Rattle.spl_callees.specs.spl_procedures.Procedures.{IsProcedure}
+use Rattle.spl_inners.specs.spl_sound_jumps.Laws.{Lands, LandsInRoutine}
+use Rattle.spl_callable.specs.Callable.{is_among, is_alike, is_inner_alike, is_covered_procedure, are_covered_procedures, most_words}
 
 -- ---- headings
 
@@ -71,54 +72,71 @@ profiles_same p q e =
     let one = and_parts (kind_number p.result == kind_number q.result) (same_flag p.split q.split) two.0 in
     record { result = kinds_same p.result q.result one.0; words = formals_same p.formals q.formals two.1 }
 
+-- a name that stands for a subroutine, where it is alike
+pub inner_alike : (o : Option Sort) (s : Subroutine) (p : Profile) → o ≡ Some (n.subroutine p) → is_inner_alike o (Some s) ≡ true → CallsAlike p (profile_of s.heading)
+inner_alike o s p is alike = profiles_same p (profile_of s.heading) (sym (ap (λ (t : Option Sort). is_inner_alike t (Some s)) is) ∙ alike)
+
 -- a name that stands for a procedure, where it is alike
-pub sort_alike : (o : Option Sort) (b : Option Body) (p : Profile) → o ≡ Some (n.procedure p) → is_alike o b ≡ true → CallsAlike p (profile_of_body b)
-sort_alike o b p is alike = by b (sym (ap (λ (s : Option Sort). is_alike s b) is) ∙ alike) where
-  by : (b : Option Body) → is_alike (Some (n.procedure p)) b ≡ true → CallsAlike p (profile_of_body b)
-  by (Some its) e = profiles_same p its.profile e
-  by None e = absurd (false≢true e)
+pub sort_alike : (o : Option Sort) (b : Body) (p : Profile) → o ≡ Some (n.procedure p) → is_alike o (Some b) ≡ true → CallsAlike p b.profile
+sort_alike o b p is alike = profiles_same p b.profile (sym (ap (λ (s : Option Sort). is_alike s (Some b)) is) ∙ alike)
 
 -- ---- names
 
--- what is alike of each of some names is of one of them
-pub name_alike : (xs : List (List ℕ)) (procedures : List Named) (names : Names) (x : List ℕ) → is_among xs x ≡ true → are_alike xs procedures names ≡ true
-    → is_alike (names x) (body_named procedures x) ≡ true
-name_alike [] procedures names x among alike = absurd (false≢true among)
-name_alike (y ∷ ys) procedures names x among alike =
-    by (same_name x y) refl among (λ rest. name_alike ys procedures names x rest two.1) where
-      two : (is_alike (names y) (body_named procedures y) ≡ true) × (are_alike ys procedures names ≡ true)
-      two = and_parts (is_alike (names y) (body_named procedures y)) (are_alike ys procedures names) alike
+-- what holds of each of some names holds of one of them
+pub among_all : (f : List ℕ → Bool) (xs : List (List ℕ)) (x : List ℕ) → is_among xs x ≡ true → list_all f xs ≡ true → f x ≡ true
+among_all f [] x among all = absurd (false≢true among)
+among_all f (y ∷ ys) x among all = by (same_name x y) refl among (λ rest. among_all f ys x rest two.1) where
+  two : (f y ≡ true) × (list_all f ys ≡ true)
+  two = and_parts (f y) (list_all f ys) all
 
-      by : (b : Bool) → same_name x y ≡ b → (b || is_among ys x) ≡ true → (is_among ys x ≡ true → is_alike (names x) (body_named procedures x) ≡ true)
-          → is_alike (names x) (body_named procedures x) ≡ true
-      by true same e rest = subst (λ (z : List ℕ). is_alike (names z) (body_named procedures z) ≡ true) (sym (equal_is x y same)) two.0
-      by false same e rest = rest e
+  by : (b : Bool) → same_name x y ≡ b → (b || is_among ys x) ≡ true → (is_among ys x ≡ true → f x ≡ true) → f x ≡ true
+  by true same e rest = subst (λ (z : List ℕ). f z ≡ true) (sym (equal_is x y same)) two.0
+  by false same e rest = rest e
+
+-- the subroutine of a name is covered, where the name is among these
+pub inner_covered : (ys : List (List ℕ)) (f : Subroutine → Bool) (ss : List Subroutine) (x : List ℕ) (s : Subroutine)
+    → list_all (λ y. not (is_among ys y.heading.name) || f y) ss ≡ true → subroutine_named ss x ≡ Some s → is_among ys x ≡ true → f s ≡ true
+inner_covered ys f [] x s all is among = cc
+inner_covered ys f (y ∷ ss) x s all is among = by (same_name x y.heading.name) refl is (λ e. inner_covered ys f ss x s two.1 e among) where
+  two : ((not (is_among ys y.heading.name) || f y) ≡ true) × (list_all (λ z. not (is_among ys z.heading.name) || f z) ss ≡ true)
+  two = and_parts (not (is_among ys y.heading.name) || f y) (list_all (λ z. not (is_among ys z.heading.name) || f z) ss) all
+
+  tested : (a c : Bool) → (not a || c) ≡ true → a ≡ true → c ≡ true
+  tested true c e t = e
+  tested false c e t = absurd (false≢true t)
+
+  by : (b : Bool) → same_name x y.heading.name ≡ b → (if b then Some y else subroutine_named ss x) ≡ Some s → (subroutine_named ss x ≡ Some s → f s ≡ true) → f s ≡ true
+  by true same e rest =
+      let its : y ≡ s = cc in
+      subst (λ (z : Subroutine). f z ≡ true) its
+      (tested (is_among ys y.heading.name) (f y) two.0 (ap (λ (z : List ℕ). is_among ys z) (sym (equal_is x y.heading.name same)) ∙ among))
+  by false same e rest = rest e
 
 -- ---- procedures of a unit
 
 -- the one at a number is covered, where its name is among these
-pub procedure_covered : (xs : List (List ℕ)) (procedures : List Named) (p : Placed) (k : ℕ) (bs : List Named) (i : ℕ) (b : Named)
-    → are_covered_procedures xs procedures p k bs ≡ true → slice_get bs i ≡ Some b → is_among xs b.name ≡ true
-    → is_covered_procedure xs procedures (module_entries p.unit (body_segment p.unit (routine (k + i)))) (k + i) b.body ≡ true
-procedure_covered xs procedures p k [] i b e there among = cc
-procedure_covered xs procedures p k (y ∷ bs) zero b e there among =
+pub procedure_covered : (xs ys : List (List ℕ)) (procedures : List Named) (p : Placed) (k : ℕ) (bs : List Named) (i : ℕ) (b : Named)
+    → are_covered_procedures xs ys procedures p k bs ≡ true → slice_get bs i ≡ Some b → is_among xs b.name ≡ true
+    → is_covered_procedure xs ys procedures (module_entries p.unit (body_segment p.unit (routine (k + i)))) (k + i) b.body ≡ true
+procedure_covered xs ys procedures p k [] i b e there among = cc
+procedure_covered xs ys procedures p k (y ∷ bs) zero b e there among =
     let same : y ≡ b = cc in
-    let two = and_parts (not (is_among xs y.name) || is_covered_procedure xs procedures (module_entries p.unit (body_segment p.unit (routine k))) k y.body)
-    (are_covered_procedures xs procedures p (suc k) bs) e in
+    let two = and_parts (not (is_among xs y.name) || is_covered_procedure xs ys procedures (module_entries p.unit (body_segment p.unit (routine k))) k y.body)
+    (are_covered_procedures xs ys procedures p (suc k) bs) e in
     let none : k ≡ k + 0 = omega arith in
-    subst (λ (j : ℕ). is_covered_procedure xs procedures (module_entries p.unit (body_segment p.unit (routine j))) j b.body ≡ true) none
-    (subst (λ (z : Named). is_covered_procedure xs procedures (module_entries p.unit (body_segment p.unit (routine k))) k z.body ≡ true) same
-    (by (is_among xs y.name) (is_covered_procedure xs procedures (module_entries p.unit (body_segment p.unit (routine k))) k y.body) two.0
+    subst (λ (j : ℕ). is_covered_procedure xs ys procedures (module_entries p.unit (body_segment p.unit (routine j))) j b.body ≡ true) none
+    (subst (λ (z : Named). is_covered_procedure xs ys procedures (module_entries p.unit (body_segment p.unit (routine k))) k z.body ≡ true) same
+    (by (is_among xs y.name) (is_covered_procedure xs ys procedures (module_entries p.unit (body_segment p.unit (routine k))) k y.body) two.0
     (ap (λ (z : Named). is_among xs z.name) same ∙ among))) where
       by : (a c : Bool) → (not a || c) ≡ true → a ≡ true → c ≡ true
       by true c e f = e
       by false c e f = absurd (false≢true f)
-procedure_covered xs procedures p k (y ∷ bs) (suc i) b e there among =
-    let two = and_parts (not (is_among xs y.name) || is_covered_procedure xs procedures (module_entries p.unit (body_segment p.unit (routine k))) k y.body)
-    (are_covered_procedures xs procedures p (suc k) bs) e in
+procedure_covered xs ys procedures p k (y ∷ bs) (suc i) b e there among =
+    let two = and_parts (not (is_among xs y.name) || is_covered_procedure xs ys procedures (module_entries p.unit (body_segment p.unit (routine k))) k y.body)
+    (are_covered_procedures xs ys procedures p (suc k) bs) e in
     let next : suc k + i ≡ k + suc i = omega arith in
-    subst (λ (j : ℕ). is_covered_procedure xs procedures (module_entries p.unit (body_segment p.unit (routine j))) j b.body ≡ true) next
-    (procedure_covered xs procedures p (suc k) bs i b two.1 there among)
+    subst (λ (j : ℕ). is_covered_procedure xs ys procedures (module_entries p.unit (body_segment p.unit (routine j))) j b.body ≡ true) next
+    (procedure_covered xs ys procedures p (suc k) bs i b two.1 there among)
 
 -- what is known of it, where its parameters have fewer than 256 words
 pub procedure_known : RoutinesAreProcedures → (globals : Table Place) (own own_arrays : ℕ) (rs : List Routine) (i : ℕ) (b : Named)

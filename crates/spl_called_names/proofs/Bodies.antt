@@ -1,17 +1,17 @@
 -- The names that the code of bodies wants: those that its statements call, and of a main body what ends the program.
 use Rattle.std.proofs.Common.{◌≡◌, ℕ, suc, true, List, [], ◌∷◌, ◌++◌, codes, refl, ap, ◌∙◌}
 use Rattle.std.proofs.lemmas.Bool.{and_parts}
-use Rattle.spl_meaning.specs.Names.{Table}
-use Rattle.spl_meaning.specs.Tables.{Subroutine, subroutine_names}
-use Rattle.spl_meaning.specs.Pending.{formals_words}
-use Rattle.spl_meaning.specs.Bodies.{Body, subroutine_body}
-use Rattle.spl_meaning.specs.Bound.{statement_names, statements_names}
-use Rattle.spl_branch.specs.declared.pieces.Piece.TheVariants.{Mark}
-use Rattle.spl_code.specs.Parts.{Part}
-use Rattle.spl_statement_code.specs.Landings.{Landing}
-use Rattle.spl_body_code.specs.Frames.{granted}
-use Rattle.spl_body_code.specs.Bodies.{frame_of, procedure_entered, procedure_left, procedure_code, subroutine_left, subroutine_code, main_code}
-use Rattle.spl_scopes.specs.Entries.{Owner, Entry}
+use Rattle.spl_module_code.specs.spl_meaning.Names.{Table}
+use Rattle.spl_module_code.specs.spl_meaning.Tables.{Subroutine, subroutine_names}
+use Rattle.spl_module_code.specs.spl_meaning.Pending.{formals_words}
+use Rattle.spl_module_code.specs.spl_meaning.Bodies.{Body, subroutine_body}
+use Rattle.spl_module_code.specs.spl_meaning.Bound.{statement_names, statements_names}
+use Rattle.spl_module_code.specs.spl_branch.declared.pieces.Piece.TheVariants.{Mark}
+use Rattle.spl_module_code.specs.spl_code.Parts.{Part}
+use Rattle.spl_module_code.specs.spl_statement_code.Landings.{Landing}
+use Rattle.spl_module_code.specs.spl_body_code.Frames.{granted}
+use Rattle.spl_module_code.specs.spl_body_code.Bodies.{frame_of, procedure_entered, procedure_left, procedure_code, subroutine_left, subroutine_code, main_code}
+use Rattle.spl_module_code.specs.spl_scopes.Entries.{Owner, Entry}
 use Rattle.spl_module_code.specs.LabelsOfBodies.{Label, labels_among, with_landings}
 use Rattle.spl_module_code.specs.Bodies.{context_of, body_statements, subroutine_part, subroutine_parts}
 use Rattle.spl_called_names.specs.Called.{Testing, calls_pass, inner_passes, inners_pass, IsPassing}

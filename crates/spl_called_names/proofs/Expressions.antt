@@ -1,24 +1,24 @@
 -- The names that the code of an expression wants, along the tree.
 use Rattle.std.proofs.Common.{◌≡◌, ℕ, ◌+◌, ◌%◌, ◌==◌, ℤ, Bool, true, false, List, [], ◌∷◌, ◌++◌, map, length, Option, Some, None}
-use Rattle.hp_word.specs.Words.{word_of}
-use Rattle.spl_tree.specs.Trees as tree
-use Rattle.spl_tree.specs.Trees.{Tree, Trees}
-use Rattle.spl_meaning.specs.Names as n
-use Rattle.spl_meaning.specs.Names.{Sort, Formal, Profile, intrinsic_profile, intrinsic_named, text_value, truth_word}
-use Rattle.spl_meaning.specs.Kinds.{Class, kind_of, class_of, operand_width, is_connective, is_relation, compares_text, relation_number, or_operator}
-use Rattle.spl_meaning.specs.Pending.{by_value, formal_words, result_words}
-use Rattle.spl_meaning.specs.References.{access_of}
-use Rattle.spl_meaning.specs.Elements.{as_words}
-use Rattle.spl_meaning.specs.Values.{sense_of, text_bytes, small_constant}
-use Rattle.spl_meaning.specs.Bound.{names_in, names_among}
-use Rattle.spl_branch.specs.declared.pieces.Piece.TheVariants.{Literal, Place as PlaceOf, Mark}
-use Rattle.spl_code.specs.Instructions.{ZERO, LDNI, BR, LSL, CMPB, LOAD_BEFORE}
-use Rattle.spl_code.specs.Parts.{Part, pieces, ◌⨟◌}
-use Rattle.spl_code.specs.Constants.{constant, double_constant, text_constant, number_constant, text_offset}
-use Rattle.spl_code.specs.Operators.{operator, comparison, sign_operator, shift_operator, field_operator, transfer, as_parameter}
-use Rattle.spl_code.specs.Operands.{leads_to_doubles, index_to_x}
-use Rattle.spl_code.specs.Calls.{Scope, result_room, result_taken, procedure_called, subroutine_called}
-use Rattle.spl_code.specs.Code.{Aim, as_value, as_test, code, reference, index, arguments, argument, closing, condition, related, text_compared, variable, calling, named, is_indexed, connected, both_tested, either_tested, either_of, text_related, bytes_related, compared, operated}
+use Rattle.spl_module_code.specs.hp_word.Words.{word_of}
+use Rattle.spl_module_code.specs.spl_tree.Trees as tree
+use Rattle.spl_module_code.specs.spl_tree.Trees.{Tree, Trees}
+use Rattle.spl_module_code.specs.spl_meaning.Names as n
+use Rattle.spl_module_code.specs.spl_meaning.Names.{Sort, Formal, Profile, intrinsic_profile, intrinsic_named, text_value, truth_word}
+use Rattle.spl_module_code.specs.spl_meaning.Kinds.{Class, kind_of, class_of, operand_width, is_connective, is_relation, compares_text, relation_number, or_operator}
+use Rattle.spl_module_code.specs.spl_meaning.Pending.{by_value, formal_words, result_words}
+use Rattle.spl_module_code.specs.spl_meaning.References.{access_of}
+use Rattle.spl_module_code.specs.spl_meaning.Elements.{as_words}
+use Rattle.spl_module_code.specs.spl_meaning.Values.{sense_of, text_bytes, small_constant}
+use Rattle.spl_module_code.specs.spl_meaning.Bound.{names_in, names_among}
+use Rattle.spl_module_code.specs.spl_branch.declared.pieces.Piece.TheVariants.{Literal, Place as PlaceOf, Mark}
+use Rattle.spl_module_code.specs.spl_code.Instructions.{ZERO, LDNI, BR, LSL, CMPB, LOAD_BEFORE}
+use Rattle.spl_module_code.specs.spl_code.Parts.{Part, pieces, ◌⨟◌}
+use Rattle.spl_module_code.specs.spl_code.Constants.{constant, double_constant, text_constant, number_constant, text_offset}
+use Rattle.spl_module_code.specs.spl_code.Operators.{operator, comparison, sign_operator, shift_operator, field_operator, transfer, as_parameter}
+use Rattle.spl_module_code.specs.spl_code.Operands.{leads_to_doubles, index_to_x}
+use Rattle.spl_module_code.specs.spl_code.Calls.{Scope, result_room, result_taken, procedure_called, subroutine_called}
+use Rattle.spl_module_code.specs.spl_code.Code.{Aim, as_value, as_test, code, reference, index, arguments, argument, closing, condition, related, text_compared, variable, calling, named, is_indexed, connected, both_tested, either_tested, either_of, text_related, bytes_related, compared, operated}
 use Rattle.spl_called_names.specs.Called.{Testing, call_passes, IsPassing}
 use Rattle.spl_called_names.proofs.PartLaws.{passing_pieces, passing_then, passing_behind, passing_before, passing_fresh, passing_if, passing_want, Pass, first_pass, last_pass, one_passes}
 

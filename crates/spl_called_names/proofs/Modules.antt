@@ -2,19 +2,19 @@
 use Rattle.std.proofs.Common.{◌≡◌, ℕ, zero, suc, ◌+◌, ◌&&◌, nat_eq, not, Bool, true, false, if◌then◌else◌, List, [], ◌∷◌, codes, drop, length, Option, Some, None, refl, sym, ap, subst, ◌∙◌}
 use Rattle.std.specs.List.{slice_get}
 use Rattle.std.proofs.lemmas.Bool.{and_parts}
-use Rattle.spl_tree.specs.DeclarationTrees as decl
-use Rattle.spl_tree.specs.DeclarationTrees.{Declaration, Declarations, declarations}
-use Rattle.spl_tree.specs.StatementTrees as stat
-use Rattle.spl_tree.specs.StatementTrees.{statements}
-use Rattle.spl_meaning.specs.Stops.{declaration_stops}
-use Rattle.spl_meaning.specs.Names.{Sort, Table, find, nothing_declared}
-use Rattle.spl_meaning.specs.Places.{Place, list_words, list_array_words}
-use Rattle.spl_meaning.specs.Tables.{Routine, Subroutine, with_declaration, routines_among, routines_of, routine_table, routine_names, routine_subroutines, subroutines_among, unit_subroutines, unit_table}
-use Rattle.spl_meaning.specs.Bodies.{Body, Named, procedure_body, named_bodies, main_body}
-use Rattle.spl_meaning.specs.Bound.{statements_names}
-use Rattle.spl_code.specs.Parts.{nothing}
-use Rattle.spl_scopes.specs.Entries.{main, routine, Entry, module_entries, routines_behind}
-use Rattle.spl_scopes.specs.Scopes.{Placed, global_places, routine_bodies}
+use Rattle.spl_module_code.specs.spl_tree.DeclarationTrees as decl
+use Rattle.spl_module_code.specs.spl_tree.DeclarationTrees.{Declaration, Declarations, declarations}
+use Rattle.spl_module_code.specs.spl_tree.StatementTrees as stat
+use Rattle.spl_module_code.specs.spl_tree.StatementTrees.{statements}
+use Rattle.spl_module_code.specs.spl_meaning.Stops.{declaration_stops}
+use Rattle.spl_module_code.specs.spl_meaning.Names.{Sort, Table, find, nothing_declared}
+use Rattle.spl_module_code.specs.spl_meaning.Places.{Place, list_words, list_array_words}
+use Rattle.spl_module_code.specs.spl_meaning.Tables.{Routine, Subroutine, with_declaration, routines_among, routines_of, routine_table, routine_names, routine_subroutines, subroutines_among, unit_subroutines, unit_table}
+use Rattle.spl_module_code.specs.spl_meaning.Bodies.{Body, Named, procedure_body, named_bodies, main_body}
+use Rattle.spl_module_code.specs.spl_meaning.Bound.{statements_names}
+use Rattle.spl_module_code.specs.spl_code.Parts.{nothing}
+use Rattle.spl_module_code.specs.spl_scopes.Entries.{main, routine, Entry, module_entries, routines_behind}
+use Rattle.spl_module_code.specs.spl_scopes.Scopes.{Placed, global_places, routine_bodies}
 use Rattle.spl_module_code.specs.Bodies.{body_statements, routine_part}
 use Rattle.spl_module_code.specs.Modules.{inner_behind, routine_at, inner_with, inner_at, entries_behind, declared_part, declared_parts, main_at, marks_before, module_part}
 use Rattle.spl_called_names.specs.Called.{Testing, calls_pass, inner_passes, inners_pass, routine_passes, routines_pass, main_passes, main_there, IsPassing}

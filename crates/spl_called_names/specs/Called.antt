@@ -2,12 +2,12 @@
 -- what it stands for. An intrinsic is wanted of the system, and a procedure of any module; nothing else is wanted.
 use Rattle.std.specs.Prelude.{◌≡◌, ℕ, nat_eq, ◌&&◌, not, Bool, true, false, if◌then◌else◌, List, codes, Option, Some}
 use Rattle.std.specs.List.{list_all}
-use Rattle.spl_tree.specs.StatementTrees.{statements}
-use Rattle.spl_meaning.specs.Names as n
-use Rattle.spl_meaning.specs.Names.{Names, Sort, find}
-use Rattle.spl_meaning.specs.Tables.{Source, Routine, Subroutine, unit_table, routines_of, routine_names, routine_subroutines, unit_subroutines, subroutine_names}
-use Rattle.spl_meaning.specs.Bound.{statement_names, statements_names}
-use Rattle.spl_code.specs.Parts.{Part, Wanted}
+use Rattle.spl_module_code.specs.spl_tree.StatementTrees.{statements}
+use Rattle.spl_module_code.specs.spl_meaning.Names as n
+use Rattle.spl_module_code.specs.spl_meaning.Names.{Names, Sort, find}
+use Rattle.spl_module_code.specs.spl_meaning.Tables.{Source, Routine, Subroutine, unit_table, routines_of, routine_names, routine_subroutines, unit_subroutines, subroutine_names}
+use Rattle.spl_module_code.specs.spl_meaning.Bound.{statement_names, statements_names}
+use Rattle.spl_module_code.specs.spl_code.Parts.{Part, Wanted}
 
 -- a test of names that are wanted
 abbrev pub Testing : Type 0

@@ -1,7 +1,7 @@
 -- Modules want no name that the bodies of their units do not call.
 use Rattle.std.specs.Prelude.{◌≡◌, ℕ, true}
 use Rattle.std.specs.List.{list_all}
-use Rattle.spl_scopes.specs.Scopes.{Placed}
+use Rattle.spl_module_code.specs.spl_scopes.Scopes.{Placed}
 use Rattle.spl_module_code.specs.Modules.{module_written}
 use Rattle.spl_called_names.specs.Called.{Testing, unit_passes}
 

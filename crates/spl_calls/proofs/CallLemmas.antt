@@ -1,101 +1,81 @@
 -- Calls of intrinsics along the tree: their code is whole, and performs them.
 use Rattle.std.proofs.Common.{◌≡◌, ℕ, ◌+◌, ◌-◌, ◌≤◌, Bool, true, false, List, [], ◌∷◌, ◌++◌, refl, sym, ap, subst, ◌∙◌, arith}
-use Rattle.std.specs.Prelude.{Option, Some, None, ◌&&◌, not, max, if◌then◌else◌}
-use Rattle.std.proofs.lemmas.Bool.{false≢true, eqb-true}
+use Rattle.std.specs.Prelude.{Option, Some, None, max, if◌then◌else◌}
+use Rattle.std.proofs.lemmas.Bool.{false≢true}
 use Rattle.std.proofs.lemmas.List.{append-nil}
-use Rattle.hp_word.specs.declared.intrinsics.Intrinsic.{Intrinsic}
-use Rattle.hp_word.specs.declared.intrinsics.Intrinsic.TheVariants as gate
-use Rattle.hp_word.specs.Intrinsics.{parameter_words, answer_words}
-use Rattle.hp_call_rows.specs.GateRows.{intrinsic}
-use Rattle.spl_tree.specs.declared.expressions.Kind.{Kind}
-use Rattle.spl_tree.specs.declared.expressions.Kind.TheVariants as kind
-use Rattle.spl_tree.specs.declared.names_and_places.At.{At}
-use Rattle.spl_tree.specs.Trees as tree
-use Rattle.spl_tree.specs.Trees.{Tree, Trees}
-use Rattle.spl_tree.specs.StatementTrees as stat
-use Rattle.spl_meaning.specs.Names as n
-use Rattle.spl_meaning.specs.Names.{Sort, Formal, intrinsic_named, intrinsic_profile}
-use Rattle.spl_meaning.specs.Kinds.{callable}
-use Rattle.spl_meaning.specs.Operations.{passed}
-use Rattle.spl_meaning.specs.Pending.{most, most_of, statement_most, formals_words, profile_formals, profile_result_words, link_words, result_words}
-use Rattle.spl_meaning.specs.Places.{Place}
-use Rattle.spl_meaning.specs.References.{Here, Setting}
-use Rattle.spl_meaning.specs.Serving.{served}
-use Rattle.spl_meaning.specs.States.{State, Outcome, done, leaves, spent, ends, strays, then_go, stopping}
-use Rattle.spl_meaning.specs.Statements.{is_intrinsic, intrinsic_value, value_dropped, call_statement, run}
-use Rattle.spl_meaning.specs.Values as run
-use Rattle.spl_meaning.specs.Values.{Callee, sense_of, value}
-use Rattle.spl_code.specs.Calls.{Scope}
-use Rattle.spl_code.specs.Code as made
-use Rattle.spl_code.specs.Code.{as_value, closing, named, index, variable, is_indexed, code}
-use Rattle.spl_code.specs.Parts.{Part, pieces, piece, nothing, ◌⨟◌, wanted_place, with_wanted}
-use Rattle.spl_branch.specs.declared.pieces.Piece.{Piece}
-use Rattle.spl_branch.specs.declared.pieces.Piece.TheVariants.{Call, Begin}
-use Rattle.hp_instr.specs.declared.instruction.Instr.TheVariants as i
-use Rattle.spl_statement_code.specs.Landings.{Context}
-use Rattle.spl_statement_code.specs.Statements.{statement, result_dropped, result_of}
-use Rattle.spl_follow.specs.Simulating.{Surroundings, Simulates, Performs}
-use Rattle.spl_follow.specs.Standing.{IsClosed}
-use Rattle.spl_follow.proofs.StandLemmas.{closed_last}
-use Rattle.spl_endings.specs.Laws.{called}
-use Rattle.spl_endings.proofs.WantLemmas.{wanted_keeps}
-use Rattle.spl_endings.proofs.CallLemmas.{terminate_performs, quit_performs}
-use Rattle.spl_values.specs.Reached.{IsWhole}
-use Rattle.spl_values.proofs.VariableLemmas.{both}
-use Rattle.spl_values.proofs.SumLemmas.{front_on}
-use Rattle.spl_values.proofs.WholeLemmas.{whole_behind, whole_last}
-use Rattle.spl_covered.specs.Covered.{is_covered, is_wide, is_covered_reference, is_passed, are_covered_arguments}
-use Rattle.spl_links.specs.Links.{MayCall}
-use Rattle.spl_names.specs.Names.{read_with}
-use Rattle.spl_covered.proofs.CoverLemmas.{covered_width, covered_whole, covered_gives, arguments_whole, arguments_give}
+use Rattle.spl_targets.specs.hp_word.declared.intrinsics.Intrinsic.{Intrinsic}
+use Rattle.spl_targets.specs.hp_word.declared.intrinsics.Intrinsic.TheVariants as gate
+use Rattle.spl_targets.specs.hp_word.Intrinsics.{parameter_words, answer_words}
+use Rattle.spl_targets.specs.spl_tree.declared.expressions.Kind.{Kind}
+use Rattle.spl_targets.specs.spl_tree.declared.expressions.Kind.TheVariants as kind
+use Rattle.spl_targets.specs.spl_tree.declared.names_and_places.At.{At}
+use Rattle.spl_targets.specs.spl_tree.Trees as tree
+use Rattle.spl_targets.specs.spl_tree.Trees.{Tree, Trees}
+use Rattle.spl_targets.specs.spl_tree.StatementTrees as stat
+use Rattle.spl_targets.specs.spl_meaning.Names as n
+use Rattle.spl_targets.specs.spl_meaning.Names.{Sort, Formal, intrinsic_named, intrinsic_profile}
+use Rattle.spl_targets.specs.spl_meaning.Kinds.{callable}
+use Rattle.spl_targets.specs.spl_meaning.Operations.{passed}
+use Rattle.spl_targets.specs.spl_meaning.Pending.{most, most_of, statement_most, formals_words, profile_formals, profile_result_words, link_words, result_words}
+use Rattle.spl_targets.specs.spl_meaning.Places.{Place}
+use Rattle.spl_targets.specs.spl_meaning.References.{Here, Setting}
+use Rattle.spl_targets.specs.spl_meaning.Serving.{served}
+use Rattle.spl_targets.specs.spl_meaning.States.{State, Outcome, done, leaves, spent, ends, strays, then_go, stopping}
+use Rattle.spl_targets.specs.spl_meaning.Statements.{is_intrinsic, intrinsic_value, value_dropped, call_statement, run}
+use Rattle.spl_targets.specs.spl_meaning.Values as run
+use Rattle.spl_targets.specs.spl_meaning.Values.{Who, Callee, sense_of, value}
+use Rattle.spl_targets.specs.spl_code.Calls.{Scope}
+use Rattle.spl_targets.specs.spl_code.Code as made
+use Rattle.spl_targets.specs.spl_code.Code.{as_value, closing, named, index, variable, is_indexed, code}
+use Rattle.spl_targets.specs.spl_code.Parts.{Part, pieces, piece, nothing, ◌⨟◌, wanted_place, with_wanted}
+use Rattle.spl_targets.specs.spl_branch.declared.pieces.Piece.{Piece}
+use Rattle.spl_targets.specs.spl_branch.declared.pieces.Piece.TheVariants.{Call, Begin}
+use Rattle.spl_targets.specs.hp_instr.declared.instruction.Instr.TheVariants as i
+use Rattle.spl_targets.specs.spl_statement_code.Landings.{Context}
+use Rattle.spl_targets.specs.spl_statement_code.Statements.{statement, result_dropped, result_of}
+use Rattle.spl_targets.specs.spl_follow.Simulating.{Surroundings, Simulates, Performs}
+use Rattle.spl_targets.specs.spl_follow.Standing.{IsClosed}
+use Rattle.spl_targets.proofs.spl_follow_proofs.StandLemmas.{closed_last}
+use Rattle.spl_targets.specs.spl_endings.Laws.{called}
+use Rattle.spl_targets.proofs.spl_endings_proofs.WantLemmas.{wanted_keeps}
+use Rattle.spl_targets.proofs.spl_endings_proofs.CallLemmas.{terminate_performs, quit_performs}
+use Rattle.spl_targets.specs.spl_values.Reached.{IsWhole}
+use Rattle.spl_targets.proofs.spl_values_proofs.VariableLemmas.{both}
+use Rattle.spl_targets.proofs.spl_values_proofs.SumLemmas.{front_on}
+use Rattle.spl_targets.proofs.spl_values_proofs.WholeLemmas.{whole_behind, whole_last}
+use Rattle.spl_targets.specs.spl_covered.Covered.{is_covered, is_wide, is_covered_reference, is_passed, are_covered_arguments}
+use Rattle.spl_targets.specs.spl_links.Links.{MayCall}
+use Rattle.spl_targets.specs.spl_names.Names.{read_with}
+use Rattle.spl_targets.proofs.spl_covered_proofs.CoverLemmas.{covered_width, covered_whole, covered_gives, arguments_whole, arguments_give}
 use Rattle.spl_targets.proofs.SameLemmas.{stopping_same, same_performs}
-use Rattle.spl_intrinsics.specs.Laws.{is_answered}
-use Rattle.spl_intrinsics.specs.Calls.{asked, IsAsked}
-use Rattle.spl_intrinsics.proofs.AskLemmas.{asked_whole}
-use Rattle.spl_intrinsics.proofs.PerformLemmas.{calls_perform}
-use Rattle.spl_calls.specs.Covered.{entry_of, is_that, is_covered_question, is_asked_call}
-
--- ---- which intrinsic
-
-entry_served : (n : Intrinsic) → intrinsic (entry_of n) ≡ Some n
-entry_served gate.Print = refl
-entry_served gate.Read = refl
-entry_served gate.Ascii = refl
-entry_served gate.Dascii = refl
-entry_served gate.Binary = refl
-entry_served gate.Dbinary = refl
-entry_served gate.Terminate = refl
-entry_served gate.Quit = refl
-
--- a name that is this intrinsic's names it
-that_is : (n : Intrinsic) (o : Option Intrinsic) → is_that n o ≡ true → o ≡ Some n
-that_is n (Some m) e = sym (entry_served m) ∙ ap intrinsic (sym (eqb-true (entry_of n) (entry_of m) e)) ∙ entry_served n
-that_is n None e = absurd (false≢true e)
-
-not_true : (b : Bool) → not b ≡ true → b ≡ false
-not_true false e = refl
-not_true true e = absurd (false≢true e)
+use Rattle.spl_targets.specs.spl_intrinsics.Laws.{is_answered}
+use Rattle.spl_targets.specs.spl_intrinsics.Calls.{asked, IsAsked}
+use Rattle.spl_targets.proofs.spl_intrinsics_proofs.AskLemmas.{asked_whole}
+use Rattle.spl_targets.proofs.spl_intrinsics_proofs.PerformLemmas.{calls_perform}
+use Rattle.spl_targets.specs.spl_whom.Whom.{is_gate}
+use Rattle.spl_targets.proofs.spl_whom_proofs.NameLemmas.{gate_case}
+use Rattle.spl_calls.specs.Covered.{is_covered_question, is_asked_call}
 
 -- what a covered call is
-pub record IsQuestion (may : List ℕ → Bool) (c : Scope) (st : Setting) (x : List ℕ) (n : Intrinsic) (es : Trees) (k : ℕ) : Type 0 where
+pub record IsQuestion (may : Who → Bool) (c : Scope) (st : Setting) (x : List ℕ) (n : Intrinsic) (es : Trees) (k : ℕ) : Type 0 where
   pub whole : st.split ≡ false
   pub named : intrinsic_named x ≡ Some n
   pub arguments : are_covered_arguments may c st (intrinsic_profile n).formals es (k + result_words (intrinsic_profile n)) ≡ true
 
-pub question_case : (may : List ℕ → Bool) (c : Scope) (st : Setting) (x : List ℕ) (n : Intrinsic) (es : Trees) (k : ℕ) → is_covered_question may c st x n es k ≡ true
+pub question_case : (may : Who → Bool) (c : Scope) (st : Setting) (x : List ℕ) (n : Intrinsic) (es : Trees) (k : ℕ) → is_covered_question may c st x n es k ≡ true
     → IsQuestion may c st x n es k
 question_case may c st x n es k e =
-    let two = both (not st.split) (is_that n (intrinsic_named x) && are_covered_arguments may c st (intrinsic_profile n).formals es (k + result_words (intrinsic_profile n))) e in
-    let more = both (is_that n (intrinsic_named x)) (are_covered_arguments may c st (intrinsic_profile n).formals es (k + result_words (intrinsic_profile n))) two.1 in
-    record { whole = not_true st.split two.0; named = that_is n (intrinsic_named x) more.0; arguments = more.1 }
+    let two = both (is_gate st x n) (are_covered_arguments may c st (intrinsic_profile n).formals es (k + result_words (intrinsic_profile n))) e in
+    let here = gate_case st x n two.0 in
+    record { whole = here.0; named = here.1; arguments = two.1 }
 
 -- by what its name stands for
-pub record IsCall (may : List ℕ → Bool) (c : Scope) (st : Setting) (x : List ℕ) (o : Option Sort) (es : Trees) (k : ℕ) : Type 0 where
+pub record IsCall (may : Who → Bool) (c : Scope) (st : Setting) (x : List ℕ) (o : Option Sort) (es : Trees) (k : ℕ) : Type 0 where
   pub intrinsic' : Intrinsic
   pub is : o ≡ Some (n.intrinsic intrinsic')
   pub question : IsQuestion may c st x intrinsic' es k
 
-pub call_case : (may : List ℕ → Bool) (c : Scope) (st : Setting) (x : List ℕ) (o : Option Sort) (es : Trees) (k : ℕ) → is_asked_call may c st x o es k ≡ true → IsCall may c st x o es k
+pub call_case : (may : Who → Bool) (c : Scope) (st : Setting) (x : List ℕ) (o : Option Sort) (es : Trees) (k : ℕ) → is_asked_call may c st x o es k ≡ true → IsCall may c st x o es k
 call_case may c st x (Some (n.intrinsic j)) es k e = record { intrinsic' = j; is = refl; question = question_case may c st x j es k e }
 call_case may c st x None es k e = absurd (false≢true e)
 call_case may c st x (Some (n.equate v)) es k e = absurd (false≢true e)
@@ -114,7 +94,7 @@ call_case may c st x (Some n.unknown) es k e = absurd (false≢true e)
 -- ---- what a call is given
 
 -- a call's arguments, behind the room for its answer
-asked_is : (may : List ℕ → Bool) (c : Scope) (results : List ℕ → Option (Kind × Place)) (z : Surroundings) (call : Callee) (d : ℕ) (n : Intrinsic) (x : List ℕ) (f : Formal)
+asked_is : (may : Who → Bool) (c : Scope) (results : List ℕ → Option (Kind × Place)) (z : Surroundings) (call : Callee) (d : ℕ) (n : Intrinsic) (x : List ℕ) (f : Formal)
     (fs : List Formal) (es : Trees) (k w need : ℕ) → is_answered n ≡ true → intrinsic_named x ≡ Some n → z.setting.split ≡ false → MayCall may c z d call
     → are_covered_arguments may c z.setting (f ∷ fs) es (k + w) ≡ true → formals_words (f ∷ fs) ≡ parameter_words n → w ≡ answer_words n
     → max (most_of c.names (f ∷ fs) w es) (w + formals_words (f ∷ fs) + 0) + 8 ≤ need
@@ -138,7 +118,7 @@ asked_is may c results z call d n x f fs es k w need answered its whole links co
     h = read_with c results z.setting
 
 -- of each intrinsic that answers
-pub question_asked : (may : List ℕ → Bool) (c : Scope) (results : List ℕ → Option (Kind × Place)) (z : Surroundings) (call : Callee) (d : ℕ) (n : Intrinsic) (x : List ℕ) (es : Trees)
+pub question_asked : (may : Who → Bool) (c : Scope) (results : List ℕ → Option (Kind × Place)) (z : Surroundings) (call : Callee) (d : ℕ) (n : Intrinsic) (x : List ℕ) (es : Trees)
     (k need : ℕ) → is_answered n ≡ true → IsQuestion may c z.setting x n es k → MayCall may c z d call
     → max (most_of c.names (intrinsic_profile n).formals (result_words (intrinsic_profile n)) es)
     (result_words (intrinsic_profile n) + formals_words (intrinsic_profile n).formals + 0) + 8 ≤ need
@@ -154,7 +134,7 @@ question_asked may c results z call d gate.Terminate x es k need a q links enoug
 question_asked may c results z call d gate.Quit x es k need a q links enough = absurd (false≢true a)
 
 -- its arguments' code is whole
-pub question_whole : (may : List ℕ → Bool) (c : Scope) (st : Setting) (n : Intrinsic) (x : List ℕ) (es : Trees) (k : ℕ) → is_answered n ≡ true → IsQuestion may c st x n es k
+pub question_whole : (may : Who → Bool) (c : Scope) (st : Setting) (n : Intrinsic) (x : List ℕ) (es : Trees) (k : ℕ) → is_answered n ≡ true → IsQuestion may c st x n es k
     → IsWhole (made.arguments c (intrinsic_profile n).formals es (k + result_words (intrinsic_profile n)))
 question_whole may c st gate.Print x es k a q = arguments_whole may c st _ _ es (k + 0) q.arguments
 question_whole may c st gate.Read x es k a q = arguments_whole may c st _ _ es (k + 1) q.arguments
@@ -247,19 +227,19 @@ pub begun_whole : (at : At) (a : Part) → IsWhole a → IsWhole (piece (Begin a
 begun_whole at a x = record { closed = λ l ws. x.closed (l + 0) ws; keeps = λ l ws. x.keeps (l + 0) ws }
 
 -- the other argument of a QUIT is none
-quit_value : (may : List ℕ → Bool) (c : Scope) (st : Setting) (es : Trees) (k : ℕ) → are_covered_arguments may c st (intrinsic_profile gate.Quit).formals es (k + 0) ≡ true
+quit_value : (may : Who → Bool) (c : Scope) (st : Setting) (es : Trees) (k : ℕ) → are_covered_arguments may c st (intrinsic_profile gate.Quit).formals es (k + 0) ≡ true
     → (e : Tree) × (es ≡ tree.Trees.and e tree.Trees.none) × (is_covered may c st e (k + 0) ≡ true)
 quit_value may c st (tree.Trees.and e tree.Trees.none) k h =
     let two = both (is_passed true (Some kind.Integer) (is_covered may c st e (k + 0)) (is_wide may c st e (k + 0)) (is_covered_reference may c st e (k + 0))) true h in (e, refl, two.0)
 quit_value may c st (tree.Trees.and e (tree.Trees.and u es)) k h = absurd (false≢true (both (is_passed true (Some kind.Integer) (is_covered may c st e (k + 0)) (is_wide may c st e (k + 0)) (is_covered_reference may c st e (k + 0))) false h).1)
 quit_value may c st tree.Trees.none k h = absurd (false≢true h)
 
-no_value : (may : List ℕ → Bool) (c : Scope) (st : Setting) (es : Trees) (k : ℕ) → are_covered_arguments may c st (intrinsic_profile gate.Terminate).formals es (k + 0) ≡ true
+no_value : (may : Who → Bool) (c : Scope) (st : Setting) (es : Trees) (k : ℕ) → are_covered_arguments may c st (intrinsic_profile gate.Terminate).formals es (k + 0) ≡ true
     → es ≡ tree.Trees.none
 no_value may c st tree.Trees.none k h = refl
 no_value may c st (tree.Trees.and e es) k h = absurd (false≢true h)
 
-pub call_whole : (may : List ℕ → Bool) (c : Context) (st : Setting) (x : List ℕ) (es : Trees) (at : At) (k : ℕ)
+pub call_whole : (may : Who → Bool) (c : Context) (st : Setting) (x : List ℕ) (es : Trees) (at : At) (k : ℕ)
     → is_asked_call may c.scope st x (c.scope.names x) es k ≡ true → IsWhole (statement c (stat.Statement.call x es at) k)
 call_whole may c st x es at k e = by r.intrinsic' r.is r.question where
   r : IsCall may c.scope st x (c.scope.names x) es k
@@ -294,7 +274,7 @@ call_whole may c st x es at k e = by r.intrinsic' r.is r.question where
 none_more : (k : ℕ) → k ≡ k + 0
 none_more k = omega arith
 
-pub call_performs : (may : List ℕ → Bool) (c : Context) (results : List ℕ → Option (Kind × Place)) (z : Surroundings) (call : Callee) (d number : ℕ) (x : List ℕ)
+pub call_performs : (may : Who → Bool) (c : Context) (results : List ℕ → Option (Kind × Place)) (z : Surroundings) (call : Callee) (d number : ℕ) (x : List ℕ)
     (es : Trees) (at : At) (k need : ℕ) → is_asked_call may c.scope z.setting x (c.scope.names x) es k ≡ true
     → statement_most c.scope.names (stat.Statement.call x es at) + 8 ≤ need → MayCall may c.scope z d call
     → Performs z d k need (statement c (stat.Statement.call x es at) k)

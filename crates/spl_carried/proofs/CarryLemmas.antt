@@ -3,78 +3,79 @@ use Rattle.std.proofs.Common.{◌≡◌, ℕ, ◌+◌, ◌≤◌, Bool, true, fa
 use Rattle.std.specs.Prelude.{◌==◌, ◌&&◌, ◌||◌, not, nat_eq, option_map, codes, if◌then◌else◌}
 use Rattle.std.specs.List.{list_all}
 use Rattle.std.proofs.lemmas.Bool.{and_parts, eqb-true, not-true, false≢true}
-use Rattle.hp_word.specs.declared.intrinsics.Intrinsic.TheVariants as gate
-use Rattle.hp_instr.specs.declared.instruction.Instr.TheVariants as i
-use Rattle.hp_program.specs.declared.program.Program.{Program}
-use Rattle.hp_program.specs.Programs.{words_of}
-use Rattle.hp_program.specs.Valid.{label_of}
-use Rattle.hp_flat.specs.Views.{start_of}
-use Rattle.hp_steady.proofs.ProgramLaws.{words_near}
-use Rattle.spl_tree.specs.declared.expressions.Kind.{Kind}
-use Rattle.spl_meaning.specs.Names.{Names, or_else}
-use Rattle.spl_meaning.specs.Places.{Place}
-use Rattle.spl_meaning.specs.Tables.{Source}
-use Rattle.spl_meaning.specs.StatementRules.{list_labels}
-use Rattle.spl_meaning.specs.Bodies.{Body, Named, main_body, program_of}
-use Rattle.spl_meaning.specs.Runs.{Seat}
-use Rattle.spl_branch.specs.declared.pieces.Piece.{Piece}
-use Rattle.spl_branch.specs.declared.modules.Module.{Module}
-use Rattle.spl_code.specs.Parts.{Wanted, wanted_place, with_wanted}
-use Rattle.spl_body_code.specs.Frames.{granted}
-use Rattle.spl_statement_code.specs.Landings.{Landing, Context}
-use Rattle.spl_statement_code.specs.Statements.{listed}
-use Rattle.spl_scopes.specs.Entries.{main, Entry, module_entries}
-use Rattle.spl_scopes.specs.Scopes.{Placed, first_reached, placed_units, global_places, outer_body}
-use Rattle.spl_module_code.specs.Bodies.{is_called, seen_results, statements_scope}
-use Rattle.spl_module_code.specs.Modules.{holds_main, main_mark, IsModuleOf}
-use Rattle.mpe_segmenter.specs.Names.{parts}
-use Rattle.mpe_segmenter.specs.Counts.{sizes}
-use Rattle.mpe_segmenter.specs.Programs.{program_words}
+use Rattle.spl_bounds.specs.hp_word.declared.intrinsics.Intrinsic.TheVariants as gate
+use Rattle.spl_bounds.specs.hp_instr.declared.instruction.Instr.TheVariants as i
+use Rattle.spl_bounds.specs.hp_program.declared.program.Program.{Program}
+use Rattle.spl_bounds.specs.hp_program.Programs.{words_of}
+use Rattle.spl_bounds.specs.hp_program.Valid.{label_of}
+use Rattle.spl_bounds.specs.hp_flat.Views.{start_of}
+use Rattle.spl_callable.proofs.hp_steady_proofs.ProgramLaws.{words_near}
+use Rattle.spl_bounds.specs.spl_tree.declared.expressions.Kind.{Kind}
+use Rattle.spl_bounds.specs.spl_meaning.Names.{Names, or_else}
+use Rattle.spl_bounds.specs.spl_meaning.Places.{Place}
+use Rattle.spl_bounds.specs.spl_meaning.Tables.{Source}
+use Rattle.spl_bounds.specs.spl_meaning.StatementRules.{list_labels}
+use Rattle.spl_bounds.specs.spl_meaning.Bodies.{Body, Named, main_body, program_of}
+use Rattle.spl_bounds.specs.spl_meaning.Runs.{Seat}
+use Rattle.spl_bounds.specs.spl_meaning.Values.{Who}
+use Rattle.spl_bounds.specs.spl_branch.declared.pieces.Piece.{Piece}
+use Rattle.spl_bounds.specs.spl_branch.declared.modules.Module.{Module}
+use Rattle.spl_sound_beginnings.specs.spl_code.Parts.{Wanted, wanted_place, with_wanted}
+use Rattle.spl_bounds.specs.spl_body_code.Frames.{granted}
+use Rattle.spl_sound_beginnings.specs.spl_statement_code.Landings.{Landing, Context}
+use Rattle.spl_sound_beginnings.specs.spl_statement_code.Statements.{listed}
+use Rattle.spl_bounds.specs.spl_scopes.Entries.{main, Entry, module_entries, subroutine_index}
+use Rattle.spl_bounds.specs.spl_scopes.Scopes.{Placed, first_reached, placed_units, global_places, outer_body}
+use Rattle.spl_bounds.specs.spl_module_code.Bodies.{is_called, seen_results, statements_scope}
+use Rattle.spl_bounds.specs.spl_module_code.Modules.{holds_main, main_mark, IsModuleOf}
+use Rattle.spl_bounds.specs.mpe_segmenter.Names.{parts}
+use Rattle.spl_bounds.specs.mpe_segmenter.Counts.{sizes}
+use Rattle.spl_bounds.specs.mpe_segmenter.Programs.{program_words}
 use Rattle.std.proofs.lemmas.List.{append-nil}
-use Rattle.spl_branch.specs.Stands.{at_left}
-use Rattle.spl_code.specs.Parts.{Written}
-use Rattle.spl_meaning.specs.Laws.{IsFront}
-use Rattle.spl_follow.specs.Spots.{Spot, pos, on, Ground}
-use Rattle.spl_follow.specs.Standing.{Sites, Stands, due_after}
-use Rattle.spl_follow.specs.Following.{Rate}
-use Rattle.spl_follow.specs.Doing.{calling}
-use Rattle.spl_follow.specs.Simulating.{Surroundings}
-use Rattle.spl_stands.specs.Fitting.{placed}
-use Rattle.spl_sites.specs.Beginnings.{begins_well}
-use Rattle.spl_sites.specs.Grounds.{ground_of}
-use Rattle.spl_ways.specs.Ways.{word_of}
-use Rattle.spl_ways.proofs.MainLemmas.{main_starts}
-use Rattle.spl_endings.specs.Gates.{Served, GatesLead}
-use Rattle.spl_endings.proofs.WantLemmas.{wanted_there, wanted_keeps}
-use Rattle.spl_endings.proofs.GateLemmas.{last_ends}
-use Rattle.spl_grants.proofs.GrantLemmas.{pieces_grant}
-use Rattle.spl_followed.specs.Mains.{MainFramed, MainStatementsFollow}
-use Rattle.spl_jumps.specs.Landed.{are_landed, MayJump}
-use Rattle.spl_sound_jumps.specs.Laws.{LandsInUnit, LandsInRoutines, SoundMainsLand, SoundRoutinesLand}
-use Rattle.spl_callable.proofs.CallableLemmas.{bodies_follow, list_clear}
-use Rattle.mpe_segmenter.specs.Faults.{first_fault}
-use Rattle.spl_piece_kinds.specs.Laws.{CodesHaveKinds}
+use Rattle.spl_bounds.specs.spl_branch.Stands.{at_left}
+use Rattle.spl_sound_beginnings.specs.spl_code.Parts.{Written}
+use Rattle.spl_bounds.specs.spl_meaning.Laws.{IsFront}
+use Rattle.spl_callable.specs.spl_follow.Spots.{Spot, pos, on, Ground}
+use Rattle.spl_callable.specs.spl_follow.Standing.{Sites, Stands, due_after}
+use Rattle.spl_callable.specs.spl_follow.Following.{Rate}
+use Rattle.spl_callable.specs.spl_follow.Doing.{calling}
+use Rattle.spl_callable.specs.spl_follow.Simulating.{Surroundings}
+use Rattle.spl_sound_beginnings.specs.spl_stands.Fitting.{placed}
+use Rattle.spl_sound_beginnings.specs.spl_sites.Beginnings.{begins_well}
+use Rattle.spl_sound_beginnings.specs.spl_sites.Grounds.{ground_of}
+use Rattle.spl_callable.specs.spl_ways.Ways.{word_of}
+use Rattle.spl_callable.proofs.spl_ways_proofs.MainLemmas.{main_starts}
+use Rattle.spl_callable.specs.spl_endings.Gates.{Served, GatesLead}
+use Rattle.spl_callable.proofs.spl_endings_proofs.WantLemmas.{wanted_there, wanted_keeps}
+use Rattle.spl_callable.proofs.spl_endings_proofs.GateLemmas.{last_ends}
+use Rattle.spl_callable.proofs.spl_grants_proofs.GrantLemmas.{pieces_grant}
+use Rattle.spl_callable.specs.spl_followed.Mains.{MainFramed, MainStatementsFollow}
+use Rattle.spl_callable.specs.spl_jumps.Landed.{are_landed, MayJump}
+use Rattle.spl_callable.specs.spl_sound_jumps.Laws.{LandsInUnit, LandsInRoutines, LandsInInners, SoundMainsLand, SoundRoutinesLand, SoundInnersLand}
+use Rattle.spl_callable.proofs.CallableLemmas.{bodies_follow, list_clear, frame_statements}
+use Rattle.spl_bounds.specs.mpe_segmenter.Faults.{first_fault}
+use Rattle.spl_sound_beginnings.specs.spl_piece_kinds.Laws.{CodesHaveKinds}
 use Rattle.spl_sound_beginnings.specs.Laws.{SoundCodesBeginWell}
 use Rattle.spl_bounds.specs.Programs.{IsOf, ProgramsKeepBounds, DataWordsAreInitial}
-use Rattle.spl_followed.specs.Laws.{FollowedProgramsCarry}
+use Rattle.spl_callable.specs.spl_followed.Laws.{FollowedProgramsCarry}
 use Rattle.spl_carried.specs.Laws.{CoveredProgramsCarry}
 use Rattle.spl_carried.proofs.WholeLemmas.{whole_parts}
-use Rattle.spl_routines.specs.Among.{IsIn}
-use Rattle.spl_routines.specs.Located.{MadeOf, Located, sites_at, wants_at}
-use Rattle.spl_routines.proofs.ListLemmas.{in_all, place_of}
-use Rattle.spl_routines.proofs.BodyLemmas.{each_placed}
-use Rattle.spl_routines.proofs.StandLemmas.{module_fits, module_stands, module_end}
-use Rattle.spl_routines.proofs.GateLemmas.{gates_are_served}
+use Rattle.spl_callable.specs.spl_routines.Among.{IsIn}
+use Rattle.spl_callable.specs.spl_routines.Located.{MadeOf, Located, sites_at, wants_at}
+use Rattle.spl_callable.proofs.spl_routines_proofs.ListLemmas.{in_all, place_of}
+use Rattle.spl_callable.proofs.spl_routines_proofs.BodyLemmas.{each_placed}
+use Rattle.spl_callable.proofs.spl_routines_proofs.StandLemmas.{module_fits, module_stands, module_end}
+use Rattle.spl_callable.proofs.spl_routines_proofs.GateLemmas.{gates_are_served}
 use Rattle.spl_carried.proofs.MainLemmas.{MainThere, main_there, main_is, same_entry}
 use Rattle.spl_carried.proofs.PieceLemmas.{landing_place, way_out, main_context, MainPieces, main_pieces, MainStands, main_stands}
-use Rattle.spl_names.specs.Names.{read_with}
-use Rattle.spl_callable.specs.Callable.{is_among, are_alike, is_covered_body, are_callable, most_words, are_covered}
-use Rattle.spl_callable.specs.Laws.{CallableProceduresFollow}
-use Rattle.spl_followed.specs.Mains.{main_setting}
-use Rattle.spl_carries.specs.Segments.{initial_words}
-use Rattle.spl_carries.specs.Carries.{weight, MaySit}
-use Rattle.spl_followed.specs.Followed.{Followed}
-use Rattle.spl_followed.specs.Mains.{FramedProgramsFollow}
+use Rattle.spl_callable.specs.spl_names.Names.{read_with}
+use Rattle.spl_callable.specs.Callable.{may_call, is_covered_frame, are_callable, most_words, are_covered}
+use Rattle.spl_callable.specs.Laws.{CallablesFollow}
+use Rattle.spl_callable.specs.spl_followed.Mains.{main_setting}
+use Rattle.spl_bounds.specs.spl_carries.Segments.{initial_words}
+use Rattle.spl_bounds.specs.spl_carries.Carries.{weight, MaySit}
+use Rattle.spl_callable.specs.spl_followed.Followed.{Followed}
+use Rattle.spl_callable.specs.spl_followed.Mains.{FramedProgramsFollow}
 use Rattle.spl_carried.specs.Covered.{main_count, is_covered_unit, is_covered_program}
 
 -- ---- the scope of a main body
@@ -135,9 +136,9 @@ module _ (us : List Source) (p : Program) (ms : List Module) (f : MadeOf us p ms
     (lands : (q : Placed) → IsIn q (placed_units (first_reached us) us) → LandsInUnit q.unit) (unit : Placed)
     (there : IsIn unit (placed_units (first_reached us) us)) (at : Located ms unit unit.unit.tree.segment) (whole : unit.unit.subprogram ≡ false)
     (holds : holds_main unit unit.unit.tree.segment ≡ true)
-    (xs : List (List ℕ)) (callees : CallableProceduresFollow) (routines : (q : Placed) → IsIn q (placed_units (first_reached us) us) → LandsInRoutines q.unit)
-    (callable : are_callable xs us ≡ true)
-    (all_covered : is_covered_body xs (program_of us).procedures (module_entries unit.unit unit.unit.tree.segment) main false (main_body (global_places unit) unit.unit) ≡ true) where
+    (xs ys : List (List ℕ)) (callees : CallablesFollow) (routines : (q : Placed) → IsIn q (placed_units (first_reached us) us) → LandsInRoutines q.unit)
+    (inners : (q : Placed) → IsIn q (placed_units (first_reached us) us) → LandsInInners q.unit) (callable : are_callable xs ys us ≡ true)
+    (all_covered : is_covered_frame xs ys (program_of us).procedures (module_entries unit.unit unit.unit.tree.segment) main false (main_body (global_places unit) unit.unit) ≡ true) where
   abbrev es : List Entry
   es = module_entries unit.unit unit.unit.tree.segment
 
@@ -147,9 +148,12 @@ module _ (us : List Source) (p : Program) (ms : List Module) (f : MadeOf us p ms
   abbrev procedures : List Named
   procedures = (program_of us).procedures
 
-  covered_parts : (are_alike xs procedures body.here.names ≡ true) × (are_covered (is_among xs) false (statements_scope es main body) body.here.results main_setting body.statements 0 ≡ true)
-  covered_parts =
-      and_parts (are_alike xs procedures body.here.names) (are_covered (is_among xs) false (statements_scope es main body) body.here.results main_setting body.statements 0) all_covered
+  -- whom the main body may call
+  abbrev may : Who → Bool
+  may = may_call xs ys (subroutine_index main es)
+
+  covered_statements : are_covered may false (statements_scope es main body) body.here.results main_setting body.statements 0 ≡ true
+  covered_statements = frame_statements xs ys procedures es main false body all_covered
 
   abbrev ground : Ground
   ground = ground_of p (words_near p) ms
@@ -183,7 +187,7 @@ module _ (us : List Source) (p : Program) (ms : List Module) (f : MadeOf us p ms
   end = placed at.seg (at_left (sizes at.front + length at.here.words.items))
 
   clear : due_after false statements.pieces ≡ false
-  clear = list_clear (is_among xs) false context body.here.results main_setting body.statements 0 covered_parts.1 (list_labels body.statements) landed parts_of.marks parts_of.wants
+  clear = list_clear may false context body.here.results main_setting body.statements 0 covered_statements (list_labels body.statements) landed parts_of.marks parts_of.wants
 
   stands : MainStands ground sites (length es) (granted body.depth') statements.pieces index end
   stands =
@@ -260,18 +264,19 @@ module _ (us : List Source) (p : Program) (ms : List Module) (f : MadeOf us p ms
   followed : MainStatementsFollow ground rate us body stands.first stands.leave
   followed =
       let within = stands.within in
-      bodies_follow (is_among xs) us body context around stands.first stands.leave parts_of.marks parts_of.wants refl refl
-      (here_is es unit) (omega arith) covered_parts.1 stands.statements_stand wanted (omega (arith, within, far))
-      (λ d. callees us p (words_near p) ms f routines xs callable rate refl (omega arith) unit there unit.unit.tree.segment at context.scope refl covered_parts.0
-      main_setting around.exits d body) (record { agree = λ x t r place kind result. cc }) jumps landed
+      bodies_follow may us body context around stands.first stands.leave parts_of.marks parts_of.wants refl refl
+      (here_is es unit) (omega arith) covered_statements stands.statements_stand wanted (omega (arith, within, far))
+      (λ d. callees us p (words_near p) ms f routines inners xs ys callable rate refl (omega arith) unit there main body (outer_is unit whole) at false all_covered
+      around.exits d) (record { agree = λ x t r place kind result. cc }) jumps landed
 
 -- ---- the program
 
 -- a program whose main body is covered follows the run of its units, from each seat
 module _ (us : List Source) (p : Program) (ms : List Module) (f : MadeOf us p ms)
-    (lands : (q : Placed) → IsIn q (placed_units (first_reached us) us) → LandsInUnit q.unit) (callees : CallableProceduresFollow)
-    (routines : (q : Placed) → IsIn q (placed_units (first_reached us) us) → LandsInRoutines q.unit) (xs : List (List ℕ))
-    (covered : is_covered_program xs us ≡ true) where
+    (lands : (q : Placed) → IsIn q (placed_units (first_reached us) us) → LandsInUnit q.unit) (callees : CallablesFollow)
+    (routines : (q : Placed) → IsIn q (placed_units (first_reached us) us) → LandsInRoutines q.unit)
+    (inners : (q : Placed) → IsIn q (placed_units (first_reached us) us) → LandsInInners q.unit) (xs ys : List (List ℕ))
+    (covered : is_covered_program xs ys us ≡ true) where
   abbrev main_module : MainThere us ms p.main p.entry
   main_module = main_there us ms p.main p.entry f.are f.main
 
@@ -314,16 +319,16 @@ module _ (us : List Source) (p : Program) (ms : List Module) (f : MadeOf us p ms
   }
 
   abbrev is_unit : Placed → Bool
-  is_unit = is_covered_unit xs (program_of us).procedures
+  is_unit = is_covered_unit xs ys (program_of us).procedures
 
-  both_of : ((main_count us == 1 && are_callable xs us) ≡ true) × (list_all is_unit (placed_units (first_reached us) us) ≡ true)
-  both_of = and_parts (main_count us == 1 && are_callable xs us) (list_all is_unit (placed_units (first_reached us) us)) covered
+  both_of : ((main_count us == 1 && are_callable xs ys us) ≡ true) × (list_all is_unit (placed_units (first_reached us) us) ≡ true)
+  both_of = and_parts (main_count us == 1 && are_callable xs ys us) (list_all is_unit (placed_units (first_reached us) us)) covered
 
-  first_two : (main_count us ≡ 1) × (are_callable xs us ≡ true)
-  first_two = let two = and_parts (main_count us == 1) (are_callable xs us) both_of.0 in (eqb-true (main_count us) 1 two.0, two.1)
+  first_two : (main_count us ≡ 1) × (are_callable xs ys us ≡ true)
+  first_two = let two = and_parts (main_count us == 1) (are_callable xs ys us) both_of.0 in (eqb-true (main_count us) 1 two.0, two.1)
 
   abbrev is_body : Bool
-  is_body = is_covered_body xs (program_of us).procedures (module_entries main_unit.unit main_unit.unit.tree.segment) main false (main_body (global_places main_unit) main_unit.unit)
+  is_body = is_covered_frame xs ys (program_of us).procedures (module_entries main_unit.unit main_unit.unit.tree.segment) main false (main_body (global_places main_unit) main_unit.unit)
 
   body_covered : is_body ≡ true
   body_covered = sym (ap (λ (b : Bool). b || is_body) main_of.whole) ∙ in_all is_unit main_unit (placed_units (first_reached us) us) main_module.of.there both_of.1
@@ -338,17 +343,17 @@ module _ (us : List Source) (p : Program) (ms : List Module) (f : MadeOf us p ms
   pub program_follows : FramedProgramsFollow → p.globals.items ≡ initial_words us → (seat : Seat) → MaySit us seat → Followed p us seat
   program_follows law globals seat sits =
       let there = main_module.of.there in
-      law p us seat (ground us p ms f lands main_unit there located main_of.whole main_of.holds xs callees routines first_two.1 body_covered)
-      (rate us p ms f lands main_unit there located main_of.whole main_of.holds xs callees routines first_two.1 body_covered)
-      (body us p ms f lands main_unit there located main_of.whole main_of.holds xs callees routines first_two.1 body_covered)
-      ((sites us p ms f lands main_unit there located main_of.whole main_of.holds xs callees routines first_two.1 body_covered).marks
+      law p us seat (ground us p ms f lands main_unit there located main_of.whole main_of.holds xs ys callees routines inners first_two.1 body_covered)
+      (rate us p ms f lands main_unit there located main_of.whole main_of.holds xs ys callees routines inners first_two.1 body_covered)
+      (body us p ms f lands main_unit there located main_of.whole main_of.holds xs ys callees routines inners first_two.1 body_covered)
+      ((sites us p ms f lands main_unit there located main_of.whole main_of.holds xs ys callees routines inners first_two.1 body_covered).marks
       (length (module_entries main_unit.unit main_unit.unit.tree.segment)))
-      (stands us p ms f lands main_unit there located main_of.whole main_of.holds xs callees routines first_two.1 body_covered).first
-      (stands us p ms f lands main_unit there located main_of.whole main_of.holds xs callees routines first_two.1 body_covered).leave
+      (stands us p ms f lands main_unit there located main_of.whole main_of.holds xs ys callees routines inners first_two.1 body_covered).first
+      (stands us p ms f lands main_unit there located main_of.whole main_of.holds xs ys callees routines inners first_two.1 body_covered).leave
       refl (omega arith) globals sits (main_is us main_unit first_two.0 there main_of.whole)
       (ap (λ (k : ℕ). word_of p.main k) starts)
-      (framed us p ms f lands main_unit there located main_of.whole main_of.holds xs callees routines first_two.1 body_covered)
-      (followed us p ms f lands main_unit there located main_of.whole main_of.holds xs callees routines first_two.1 body_covered)
+      (framed us p ms f lands main_unit there located main_of.whole main_of.holds xs ys callees routines inners first_two.1 body_covered)
+      (followed us p ms f lands main_unit there located main_of.whole main_of.holds xs ys callees routines inners first_two.1 body_covered)
 
 -- ---- all of it
 
@@ -365,10 +370,11 @@ made_of us ms globals p is none kinds well = record {
   well = λ q g there. let at = place_of q (placed_units (first_reached us) us) there in well us is.spelled is.sound at.0 q at.1 g;
 }
 
-pub carried : CodesHaveKinds → SoundCodesBeginWell → SoundMainsLand → SoundRoutinesLand → ProgramsKeepBounds → DataWordsAreInitial → FramedProgramsFollow
-    → FollowedProgramsCarry → CallableProceduresFollow → CoveredProgramsCarry
-carried kinds well lands routines bounds initial framed carry callees us ms globals p is numbers none laid xs covered =
+pub carried : CodesHaveKinds → SoundCodesBeginWell → SoundMainsLand → SoundRoutinesLand → SoundInnersLand → ProgramsKeepBounds → DataWordsAreInitial → FramedProgramsFollow
+    → FollowedProgramsCarry → CallablesFollow → CoveredProgramsCarry
+carried kinds well lands routines inners bounds initial framed carry callees us ms globals p is numbers none laid xs ys covered =
     let words = is.makes.data_words ∙ (initial us globals laid).1 in
     carry p us (bounds us ms globals p is numbers) words
     (program_follows us p ms (made_of us ms globals p is none kinds well) (λ q there. each_placed LandsInUnit (first_reached us) us q (lands us is.sound) there) callees
-    (λ q there. each_placed LandsInRoutines (first_reached us) us q (routines us is.sound) there) xs covered framed words)
+    (λ q there. each_placed LandsInRoutines (first_reached us) us q (routines us is.sound) there)
+    (λ q there. each_placed LandsInInners (first_reached us) us q (inners us is.sound) there) xs ys covered framed words)

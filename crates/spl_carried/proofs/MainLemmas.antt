@@ -2,18 +2,18 @@
 use Rattle.std.proofs.Common.{◌≡◌, ℕ, suc, ◌+◌, Bool, true, false, List, [], ◌∷◌, ◌++◌, length, Option, Some, None, refl, sym, ap, subst, ◌∙◌, arith}
 use Rattle.std.specs.Prelude.{slice_get, is_some, option_map, unwrap_or, if◌then◌else◌}
 use Rattle.std.proofs.lemmas.Bool.{false≢true}
-use Rattle.spl_meaning.specs.Tables.{Source}
-use Rattle.spl_meaning.specs.Bodies.{Reached, reached_behind, main_body, program_from, program_of, data_words}
-use Rattle.spl_branch.specs.declared.modules.Module.{Module}
-use Rattle.mpe_segmenter.specs.Names.{Part, parts}
-use Rattle.mpe_segmenter.specs.Entries.{own_count, owned, either}
-use Rattle.mpe_segmenter.specs.Programs.{main_at, main_from}
-use Rattle.mpe_segmenter.specs.Sites.{IsModule}
-use Rattle.spl_scopes.specs.Scopes.{Placed, first_reached, placed_units, global_places}
-use Rattle.spl_module_code.specs.Modules.{AreModules, program_uses}
-use Rattle.spl_routines.specs.Among.{IsIn, at_front, behind}
-use Rattle.spl_routines.proofs.ListLemmas.{in_middle}
-use Rattle.spl_routines.proofs.ModuleLemmas.{in_program, ModuleOf, modules_of_units}
+use Rattle.spl_bounds.specs.spl_meaning.Tables.{Source}
+use Rattle.spl_bounds.specs.spl_meaning.Bodies.{Reached, reached_behind, main_body, program_from, program_of, data_words}
+use Rattle.spl_bounds.specs.spl_branch.declared.modules.Module.{Module}
+use Rattle.spl_bounds.specs.mpe_segmenter.Names.{Part, parts}
+use Rattle.spl_bounds.specs.mpe_segmenter.Entries.{own_count, owned, either}
+use Rattle.spl_bounds.specs.mpe_segmenter.Programs.{main_at, main_from}
+use Rattle.spl_bounds.specs.mpe_segmenter.Sites.{IsModule}
+use Rattle.spl_bounds.specs.spl_scopes.Scopes.{Placed, first_reached, placed_units, global_places}
+use Rattle.spl_bounds.specs.spl_module_code.Modules.{AreModules, program_uses}
+use Rattle.spl_callable.specs.spl_routines.Among.{IsIn, at_front, behind}
+use Rattle.spl_callable.proofs.spl_routines_proofs.ListLemmas.{in_middle}
+use Rattle.spl_callable.proofs.spl_routines_proofs.ModuleLemmas.{in_program, ModuleOf, modules_of_units}
 use Rattle.spl_carried.specs.Covered.{main_count}
 
 -- ---- segments

@@ -1,32 +1,32 @@
 -- The pieces of a main body, among those of its module, and where each part of them stands.
 use Rattle.std.proofs.Common.{◌≡◌, ℕ, ◌+◌, ◌≤◌, Bool, true, false, List, [], ◌∷◌, ◌++◌, length, Option, Some, None, sym, ap, subst, ◌∙◌, arith}
 use Rattle.std.specs.Prelude.{codes, if◌then◌else◌}
-use Rattle.hp_instr.specs.declared.instruction.Instr.TheVariants as i
-use Rattle.spl_tree.specs.DeclarationTrees.{declarations}
-use Rattle.spl_meaning.specs.Names.{Table}
-use Rattle.spl_meaning.specs.Bodies.{Body}
-use Rattle.spl_meaning.specs.States.{Exit, to_label, back}
-use Rattle.spl_branch.specs.declared.pieces.Piece.{Piece}
-use Rattle.spl_branch.specs.declared.pieces.Piece.TheVariants.{Mark, Call}
-use Rattle.spl_code.specs.Parts.{Part, Wanted, Written, nothing, wanted_place, with_wanted}
-use Rattle.spl_body_code.specs.Frames.{granted}
-use Rattle.spl_statement_code.specs.Landings.{Landing, Context}
-use Rattle.spl_statement_code.specs.Statements.{listed}
-use Rattle.spl_scopes.specs.Entries.{main, Entry, module_entries}
-use Rattle.spl_scopes.specs.Scopes.{Placed, outer_body}
-use Rattle.spl_module_code.specs.LabelsOfBodies.{labels_among}
-use Rattle.spl_label_marks.proofs.LabelParts.{landed_part}
-use Rattle.spl_module_code.specs.Bodies.{context_of, main_part}
-use Rattle.spl_module_code.specs.Modules.{declared_parts, holds_main, main_at, marks_before, module_written}
-use Rattle.spl_follow.specs.Spots.{Spot, pos, Point, on, Ground}
-use Rattle.spl_follow.specs.Leading.{Leads}
-use Rattle.spl_follow.specs.Doing.{calling}
-use Rattle.spl_follow.specs.Standing.{Sites, Stands, due_after}
-use Rattle.spl_follow.proofs.PartLemmas.{stand_from_place}
-use Rattle.spl_follow.proofs.StandLemmas.{due_add}
-use Rattle.spl_sites.specs.Beginnings.{begins_well}
-use Rattle.spl_routines.specs.Routines.{labels_from}
-use Rattle.spl_routines.proofs.PieceLemmas.{clear_before, granted_clear}
+use Rattle.spl_bounds.specs.hp_instr.declared.instruction.Instr.TheVariants as i
+use Rattle.spl_bounds.specs.spl_tree.DeclarationTrees.{declarations}
+use Rattle.spl_bounds.specs.spl_meaning.Names.{Table}
+use Rattle.spl_bounds.specs.spl_meaning.Bodies.{Body}
+use Rattle.spl_bounds.specs.spl_meaning.States.{Exit, to_label, back}
+use Rattle.spl_bounds.specs.spl_branch.declared.pieces.Piece.{Piece}
+use Rattle.spl_bounds.specs.spl_branch.declared.pieces.Piece.TheVariants.{Mark, Call}
+use Rattle.spl_sound_beginnings.specs.spl_code.Parts.{Part, Wanted, Written, nothing, wanted_place, with_wanted}
+use Rattle.spl_bounds.specs.spl_body_code.Frames.{granted}
+use Rattle.spl_sound_beginnings.specs.spl_statement_code.Landings.{Landing, Context}
+use Rattle.spl_sound_beginnings.specs.spl_statement_code.Statements.{listed}
+use Rattle.spl_bounds.specs.spl_scopes.Entries.{main, Entry, module_entries}
+use Rattle.spl_bounds.specs.spl_scopes.Scopes.{Placed, outer_body}
+use Rattle.spl_bounds.specs.spl_module_code.LabelsOfBodies.{labels_among}
+use Rattle.spl_callable.proofs.spl_label_marks_proofs.LabelParts.{landed_part}
+use Rattle.spl_bounds.specs.spl_module_code.Bodies.{context_of, main_part}
+use Rattle.spl_bounds.specs.spl_module_code.Modules.{declared_parts, holds_main, main_at, marks_before, module_written}
+use Rattle.spl_callable.specs.spl_follow.Spots.{Spot, pos, Point, on, Ground}
+use Rattle.spl_callable.specs.spl_follow.Leading.{Leads}
+use Rattle.spl_callable.specs.spl_follow.Doing.{calling}
+use Rattle.spl_callable.specs.spl_follow.Standing.{Sites, Stands, due_after}
+use Rattle.spl_callable.proofs.spl_follow_proofs.PartLemmas.{stand_from_place}
+use Rattle.spl_callable.proofs.spl_follow_proofs.StandLemmas.{due_add}
+use Rattle.spl_sound_beginnings.specs.spl_sites.Beginnings.{begins_well}
+use Rattle.spl_callable.specs.spl_routines.Routines.{labels_from}
+use Rattle.spl_callable.proofs.spl_routines_proofs.PieceLemmas.{clear_before, granted_clear}
 
 -- ---- the pieces of a main body
 

@@ -3,16 +3,16 @@ use Rattle.std.proofs.Common.{◌≡◌, ℕ, ◌≤◌, Bool, true, false, nat_
 use Rattle.std.specs.Prelude.{option_map, if◌then◌else◌}
 use Rattle.std.proofs.lemmas.Bool.{ltb-false}
 use Rattle.std.proofs.lemmas.List.{length-map}
-use Rattle.spl_meaning.specs.Tables.{Source}
-use Rattle.spl_branch.specs.declared.modules.Module.{Module}
-use Rattle.mpe_segmenter.specs.Names.{segment_names, part_from, parts}
-use Rattle.mpe_segmenter.specs.Entries.{either}
-use Rattle.mpe_segmenter.specs.Counts.{entries_full, segment_full}
-use Rattle.mpe_segmenter.specs.Faults.{mains, doubled, unresolved, Doubled, Unresolved, SegmentsFull, EntriesFull, SegmentFull, main_faults, name_faults, segment_faults, size_faults, first_fault}
-use Rattle.mpe_segmenter.specs.Whole.{IsWhole}
-use Rattle.mpe_segmenter.proofs.PrepareLemmas.{one_main, whole}
-use Rattle.spl_module_code.specs.Modules.{AreModules}
-use Rattle.spl_formed_modules.proofs.Formed.{all_formed}
+use Rattle.spl_bounds.specs.spl_meaning.Tables.{Source}
+use Rattle.spl_bounds.specs.spl_branch.declared.modules.Module.{Module}
+use Rattle.spl_bounds.specs.mpe_segmenter.Names.{segment_names, part_from, parts}
+use Rattle.spl_bounds.specs.mpe_segmenter.Entries.{either}
+use Rattle.spl_bounds.specs.mpe_segmenter.Counts.{entries_full, segment_full}
+use Rattle.spl_bounds.specs.mpe_segmenter.Faults.{mains, doubled, unresolved, Doubled, Unresolved, SegmentsFull, EntriesFull, SegmentFull, main_faults, name_faults, segment_faults, size_faults, first_fault}
+use Rattle.spl_bounds.specs.mpe_segmenter.Whole.{IsWhole}
+use Rattle.spl_bounds.proofs.mpe_segmenter_proofs.PrepareLemmas.{one_main, whole}
+use Rattle.spl_bounds.specs.spl_module_code.Modules.{AreModules}
+use Rattle.spl_bounds.proofs.spl_formed_modules_proofs.Formed.{all_formed}
 
 -- ---- where there is no first of two, there is neither
 

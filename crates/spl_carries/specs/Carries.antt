@@ -1,9 +1,9 @@
 -- What it means that a program carries some units: its flat run goes where the units' run goes.
 use Rattle.std.specs.Prelude.{ℕ, ◌≡◌, ◌+◌, ◌*◌, ◌<◌, ◌≤◌, List, [], ◌∷◌, ◌++◌, length, slice_get, Some}
-use Rattle.hp_word.specs.declared.endings.Ending.TheVariants.{Running}
-use Rattle.hp_program.specs.declared.program.Program.{Program}
-use Rattle.hp_program.specs.Programs.{segments_of}
-use Rattle.hp_session.specs.State.{Machine, opened}
+use Rattle.hp_flat.specs.hp_word.declared.endings.Ending.TheVariants.{Running}
+use Rattle.hp_flat.specs.hp_program.declared.program.Program.{Program}
+use Rattle.hp_flat.specs.hp_program.Programs.{segments_of}
+use Rattle.hp_flat.specs.hp_session.State.{Machine, opened}
 use Rattle.hp_flat.specs.Step.{after}
 use Rattle.hp_flat.specs.Views.{start_of}
 use Rattle.spl_meaning.specs.Tables.{Source}

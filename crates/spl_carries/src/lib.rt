@@ -1,2 +1,4 @@
 //! What it means that a program carries sources, as definitions.
 #![tactic(auto)]
+
+pub use hp_flat;

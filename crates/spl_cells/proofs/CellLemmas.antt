@@ -3,47 +3,47 @@ use Rattle.std.proofs.Common.{◌≡◌, ℕ, ◌+◌, ◌-◌, ◌*◌, ◌%◌
 use Rattle.std.specs.Prelude.{Option, Some, None, is_some, ℤ}
 use Rattle.std.proofs.lemmas.Bool.{false≢true}
 use Rattle.std.proofs.lemmas.Int.{ints}
-use Rattle.hp_word.specs.Words.{word_of, word_result, logically_added}
-use Rattle.hp_word.proofs.WordLaws.{word_of-below}
-use Rattle.hp_instr.specs.Instructions.{op}
-use Rattle.hp_instr.specs.declared.instruction.Instr.TheVariants as instr
-use Rattle.hp_session.specs.State.{Machine, word}
-use Rattle.hp_stack_rows.specs.StackRows.{operated}
-use Rattle.hp_word_rows.specs.WordRows.{shifting}
-use Rattle.hp_flat.specs.Step.{at_left}
-use Rattle.hp_yields.proofs.StackYields as rows
-use Rattle.spl_tree.specs.declared.expressions.Kind.{Kind}
-use Rattle.spl_tree.specs.declared.expressions.Kind.TheVariants as kind
-use Rattle.spl_meaning.specs.Kinds.{width}
-use Rattle.spl_meaning.specs.Operations.{kept}
-use Rattle.spl_meaning.specs.Places.{Cell, Place, data_word, above_base, below_base, below_return, stored, put_cells, cell_word, viewed as twice}
-use Rattle.spl_meaning.specs.References.{Setting, address_of, variable_located, own_located, placed_word, word_stored, store}
-use Rattle.spl_meaning.specs.Bodies.{Body}
-use Rattle.spl_meaning.specs.States.{State, Outcome, done}
-use Rattle.spl_code.specs.Code.{as_value}
-use Rattle.spl_code.specs.Constants.{constant}
-use Rattle.spl_code.specs.Instructions.{STOR}
-use Rattle.spl_code.specs.Operands.{mode_of}
-use Rattle.spl_body_code.specs.Based.{base_word}
-use Rattle.spl_body_code.specs.Cells.{LADD, base_pushed, cell_from, viewed, cell_set, cells_set}
-use Rattle.spl_body_code.proofs.CellLaws.{cells_move}
-use Rattle.spl_follow.specs.Spots.{Spot, pos, Point, on, Ground}
-use Rattle.spl_follow.specs.Leading.{Leads}
-use Rattle.spl_follow.specs.Matching.{IsValue}
-use Rattle.spl_follow.specs.Following.{Rate, tally, Follows, NoExit}
-use Rattle.spl_follow.specs.Doing.{doing}
-use Rattle.spl_follow.specs.Standing.{Sites, Stands}
-use Rattle.spl_follow.specs.Yielding.{Yields}
-use Rattle.spl_follow.specs.Parts.{Ready, Gives, Completes}
-use Rattle.spl_follow.proofs.KeepLemmas.{value_ready}
-use Rattle.spl_follow.proofs.PartLemmas.{stand_from_place, values_follow}
-use Rattle.spl_values.proofs.ConstantLemmas.{constants_give}
-use Rattle.spl_values.proofs.GiveLemmas.{last_leads, row_behind}
-use Rattle.spl_values.proofs.SumLemmas.{lower_is, upper_is, two_there}
-use Rattle.spl_values.proofs.VariableLemmas.{both}
-use Rattle.spl_operands.proofs.StoreLemmas.{storing, store_follows}
-use Rattle.spl_operands.proofs.AssignLemmas.{value_storing}
-use Rattle.spl_variables.proofs.OwnLemmas.{own_refers}
+use Rattle.spl_procedures.specs.hp_word.Words.{word_of, word_result, logically_added}
+use Rattle.spl_procedures.proofs.hp_word_proofs.WordLaws.{word_of-below}
+use Rattle.spl_procedures.specs.hp_instr.Instructions.{op}
+use Rattle.spl_procedures.specs.hp_instr.declared.instruction.Instr.TheVariants as instr
+use Rattle.spl_procedures.specs.hp_session.State.{Machine, word}
+use Rattle.spl_procedures.specs.hp_stack_rows.StackRows.{operated}
+use Rattle.spl_procedures.specs.hp_word_rows.WordRows.{shifting}
+use Rattle.spl_procedures.specs.hp_flat.Step.{at_left}
+use Rattle.spl_procedures.proofs.hp_yields_proofs.StackYields as rows
+use Rattle.spl_procedures.specs.spl_tree.declared.expressions.Kind.{Kind}
+use Rattle.spl_procedures.specs.spl_tree.declared.expressions.Kind.TheVariants as kind
+use Rattle.spl_procedures.specs.spl_meaning.Kinds.{width}
+use Rattle.spl_procedures.specs.spl_meaning.Operations.{kept}
+use Rattle.spl_procedures.specs.spl_meaning.Places.{Cell, Place, data_word, above_base, below_base, below_return, stored, put_cells, cell_word, viewed as twice}
+use Rattle.spl_procedures.specs.spl_meaning.References.{Setting, address_of, variable_located, own_located, placed_word, word_stored, store}
+use Rattle.spl_procedures.specs.spl_meaning.Bodies.{Body}
+use Rattle.spl_procedures.specs.spl_meaning.States.{State, Outcome, done}
+use Rattle.spl_procedures.specs.spl_code.Code.{as_value}
+use Rattle.spl_procedures.specs.spl_code.Constants.{constant}
+use Rattle.spl_procedures.specs.spl_code.Instructions.{STOR}
+use Rattle.spl_procedures.specs.spl_code.Operands.{mode_of}
+use Rattle.spl_procedures.specs.spl_body_code.Based.{base_word}
+use Rattle.spl_procedures.specs.spl_body_code.Cells.{LADD, base_pushed, cell_from, viewed, cell_set, cells_set}
+use Rattle.spl_procedures.proofs.spl_body_code_proofs.CellLaws.{cells_move}
+use Rattle.spl_procedures.specs.spl_follow.Spots.{Spot, pos, Point, on, Ground}
+use Rattle.spl_procedures.specs.spl_follow.Leading.{Leads}
+use Rattle.spl_procedures.specs.spl_follow.Matching.{IsValue}
+use Rattle.spl_procedures.specs.spl_follow.Following.{Rate, tally, Follows, NoExit}
+use Rattle.spl_procedures.specs.spl_follow.Doing.{doing}
+use Rattle.spl_procedures.specs.spl_follow.Standing.{Sites, Stands}
+use Rattle.spl_procedures.specs.spl_follow.Yielding.{Yields}
+use Rattle.spl_procedures.specs.spl_follow.Parts.{Ready, Gives, Completes}
+use Rattle.spl_procedures.proofs.spl_follow_proofs.KeepLemmas.{value_ready}
+use Rattle.spl_procedures.proofs.spl_follow_proofs.PartLemmas.{stand_from_place, values_follow}
+use Rattle.spl_procedures.proofs.spl_values_proofs.ConstantLemmas.{constants_give}
+use Rattle.spl_procedures.proofs.spl_values_proofs.GiveLemmas.{last_leads, row_behind}
+use Rattle.spl_procedures.proofs.spl_values_proofs.SumLemmas.{lower_is, upper_is, two_there}
+use Rattle.spl_procedures.proofs.spl_values_proofs.VariableLemmas.{both}
+use Rattle.spl_addresses.proofs.spl_operands_proofs.StoreLemmas.{storing, store_follows}
+use Rattle.spl_addresses.proofs.spl_operands_proofs.AssignLemmas.{value_storing}
+use Rattle.spl_addresses.proofs.spl_variables_proofs.OwnLemmas.{own_refers}
 use Rattle.spl_addresses.proofs.AddressLemmas as addresses
 use Rattle.spl_procedures.specs.Procedures.{procedure_setting}
 use Rattle.spl_procedures.proofs.ClearLemmas.{clear_both, clear_constant, clear_base, clear_cell_from, clear_viewed, clear_cell}

@@ -2,34 +2,34 @@
 use Rattle.std.proofs.Common.{◌≡◌, ℕ, suc, ◌+◌, ◌-◌, ◌*◌, ◌/◌, ◌%◌, ◌≤◌, ◌<◌, true, false, List, [], ◌∷◌, refl, sym, ap, subst, ◌∙◌, arith}
 use Rattle.std.specs.Prelude.{Option, Some, is_some, ℤ}
 use Rattle.std.proofs.lemmas.Bool.{false≢true}
-use Rattle.hp_word.specs.Words.{word_of, double_of}
-use Rattle.hp_word.specs.Bytes.{with_byte, high_word, low_word}
-use Rattle.hp_word.proofs.WordLaws.{word_of-below, double_of-below}
-use Rattle.hp_instr.specs.declared.instruction.Instr.TheVariants as instr
-use Rattle.hp_session.specs.State.{Machine}
-use Rattle.hp_flat.specs.Step.{at_left}
-use Rattle.spl_tree.specs.declared.expressions.Kind.{Kind}
-use Rattle.spl_tree.specs.declared.expressions.Kind.TheVariants as kind
-use Rattle.spl_branch.specs.declared.pieces.Piece.TheVariants.{Do}
-use Rattle.spl_meaning.specs.Kinds.{width}
-use Rattle.spl_meaning.specs.Operations.{kept}
-use Rattle.spl_meaning.specs.Places.{Place, Initial, put, stored, word_or_zero, put_byte, put_value, put_values, put_initials}
-use Rattle.spl_meaning.specs.References.{Setting, address_of, variable_located, placed_word, word_at, word_stored, store_by, store}
-use Rattle.spl_meaning.specs.Bodies.{Body}
-use Rattle.spl_meaning.specs.States.{State, Outcome, done, then_go}
-use Rattle.spl_code.specs.Constants.{constant}
-use Rattle.spl_code.specs.Operands.{mode_of}
-use Rattle.spl_body_code.specs.Cells.{value_pushed, first_set, initial_set, initials_set}
-use Rattle.spl_follow.specs.Spots.{Spot, pos, on, Ground}
-use Rattle.spl_follow.specs.Following.{Rate, tally, Follows, NoExit}
-use Rattle.spl_follow.specs.Standing.{Sites, Stands}
-use Rattle.spl_follow.specs.Parts.{Completes}
-use Rattle.spl_follow.proofs.PartLemmas.{stand_from_place}
-use Rattle.spl_values.proofs.GiveLemmas.{last_leads}
-use Rattle.spl_values.proofs.VariableLemmas.{both}
-use Rattle.spl_operands.proofs.OperandLemmas.{place_based}
-use Rattle.spl_operands.proofs.StoreLemmas.{storing}
-use Rattle.spl_variables.proofs.OwnLemmas.{place_low, own_finds}
+use Rattle.spl_procedures.specs.hp_word.Words.{word_of, double_of}
+use Rattle.spl_procedures.specs.hp_word.Bytes.{with_byte, high_word, low_word}
+use Rattle.spl_procedures.proofs.hp_word_proofs.WordLaws.{word_of-below, double_of-below}
+use Rattle.spl_procedures.specs.hp_instr.declared.instruction.Instr.TheVariants as instr
+use Rattle.spl_procedures.specs.hp_session.State.{Machine}
+use Rattle.spl_procedures.specs.hp_flat.Step.{at_left}
+use Rattle.spl_procedures.specs.spl_tree.declared.expressions.Kind.{Kind}
+use Rattle.spl_procedures.specs.spl_tree.declared.expressions.Kind.TheVariants as kind
+use Rattle.spl_procedures.specs.spl_branch.declared.pieces.Piece.TheVariants.{Do}
+use Rattle.spl_procedures.specs.spl_meaning.Kinds.{width}
+use Rattle.spl_procedures.specs.spl_meaning.Operations.{kept}
+use Rattle.spl_procedures.specs.spl_meaning.Places.{Place, Initial, put, stored, word_or_zero, put_byte, put_value, put_values, put_initials}
+use Rattle.spl_procedures.specs.spl_meaning.References.{Setting, address_of, variable_located, placed_word, word_at, word_stored, store_by, store}
+use Rattle.spl_procedures.specs.spl_meaning.Bodies.{Body}
+use Rattle.spl_procedures.specs.spl_meaning.States.{State, Outcome, done, then_go}
+use Rattle.spl_procedures.specs.spl_code.Constants.{constant}
+use Rattle.spl_procedures.specs.spl_code.Operands.{mode_of}
+use Rattle.spl_procedures.specs.spl_body_code.Cells.{value_pushed, first_set, initial_set, initials_set}
+use Rattle.spl_procedures.specs.spl_follow.Spots.{Spot, pos, on, Ground}
+use Rattle.spl_procedures.specs.spl_follow.Following.{Rate, tally, Follows, NoExit}
+use Rattle.spl_procedures.specs.spl_follow.Standing.{Sites, Stands}
+use Rattle.spl_procedures.specs.spl_follow.Parts.{Completes}
+use Rattle.spl_procedures.proofs.spl_follow_proofs.PartLemmas.{stand_from_place}
+use Rattle.spl_procedures.proofs.spl_values_proofs.GiveLemmas.{last_leads}
+use Rattle.spl_procedures.proofs.spl_values_proofs.VariableLemmas.{both}
+use Rattle.spl_addresses.proofs.spl_operands_proofs.OperandLemmas.{place_based}
+use Rattle.spl_addresses.proofs.spl_operands_proofs.StoreLemmas.{storing}
+use Rattle.spl_addresses.proofs.spl_variables_proofs.OwnLemmas.{place_low, own_finds}
 use Rattle.spl_doubles.proofs.DoubleLemmas as doubles
 use Rattle.spl_doubles.proofs.StoreLemmas.{double_put, value_storing}
 use Rattle.spl_procedures.specs.Procedures.{procedure_setting}

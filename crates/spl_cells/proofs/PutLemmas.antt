@@ -2,15 +2,15 @@
 use Rattle.std.proofs.Common.{◌≡◌, ℕ, ◌+◌, ◌*◌, ◌/◌, ◌%◌, ◌<◌, Bool, true, false, List, [], ◌∷◌, refl, sym, ap, ◌∙◌}
 use Rattle.std.specs.Prelude.{Option, Some, None, is_some, nat_eq, ℤ, if◌then◌else◌}
 use Rattle.std.proofs.lemmas.Bool.{false≢true, eqb-true, lt-ltb}
-use Rattle.hp_word.specs.declared.endings.Trap.TheVariants.{Bounds}
-use Rattle.hp_word.specs.Words.{word_of, double_of}
-use Rattle.hp_word.specs.Bytes.{with_byte, high_word, low_word}
-use Rattle.spl_tree.specs.declared.expressions.Kind.{Kind}
-use Rattle.spl_tree.specs.declared.expressions.Kind.TheVariants as kind
-use Rattle.spl_meaning.specs.Places.{Place, data_word, above_base, below_base, below_return, Cell, put, changed, stored, put_value, put_cells, viewed}
-use Rattle.spl_meaning.specs.Places.{cell_word, word_or_zero}
-use Rattle.spl_meaning.specs.References.{address_of, word_at, data_word_read}
-use Rattle.spl_meaning.specs.States.{Data, State, Outcome, ends, trapped, then_go}
+use Rattle.spl_procedures.specs.hp_word.declared.endings.Trap.TheVariants.{Bounds}
+use Rattle.spl_procedures.specs.hp_word.Words.{word_of, double_of}
+use Rattle.spl_procedures.specs.hp_word.Bytes.{with_byte, high_word, low_word}
+use Rattle.spl_procedures.specs.spl_tree.declared.expressions.Kind.{Kind}
+use Rattle.spl_procedures.specs.spl_tree.declared.expressions.Kind.TheVariants as kind
+use Rattle.spl_procedures.specs.spl_meaning.Places.{Place, data_word, above_base, below_base, below_return, Cell, put, changed, stored, put_value, put_cells, viewed}
+use Rattle.spl_procedures.specs.spl_meaning.Places.{cell_word, word_or_zero}
+use Rattle.spl_procedures.specs.spl_meaning.References.{address_of, word_at, data_word_read}
+use Rattle.spl_procedures.specs.spl_meaning.States.{Data, State, Outcome, ends, trapped, then_go}
 
 -- ---- what stays there
 

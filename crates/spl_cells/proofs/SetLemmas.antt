@@ -1,10 +1,10 @@
 -- Cells, and then initial values; and calls of procedures that have such ones.
 use Rattle.std.proofs.Common.{ℕ, subst}
 use Rattle.std.specs.Prelude.{Option}
-use Rattle.spl_meaning.specs.Places.{Place, put_cells, put_initials}
-use Rattle.spl_body_code.specs.Cells.{cells_set, initials_set}
-use Rattle.spl_follow.proofs.PartLemmas.{stand_from_place}
-use Rattle.spl_values.proofs.VariableLemmas.{both}
+use Rattle.spl_procedures.specs.spl_meaning.Places.{Place, put_cells, put_initials}
+use Rattle.spl_procedures.specs.spl_body_code.Cells.{cells_set, initials_set}
+use Rattle.spl_procedures.proofs.spl_follow_proofs.PartLemmas.{stand_from_place}
+use Rattle.spl_procedures.proofs.spl_values_proofs.VariableLemmas.{both}
 use Rattle.spl_procedures.specs.Laws.{ProceduresAreCalled}
 use Rattle.spl_procedures.proofs.ClearLemmas.{clear_cells}
 use Rattle.spl_cells.specs.Settable.{cells_settable, initials_settable}

@@ -2,24 +2,24 @@
 use Rattle.std.proofs.Common.{◌≡◌, ℕ, ◌+◌, ◌-◌, ◌≤◌, ◌<◌, true, false, List, [], sym, ap, subst, ◌∙◌, refl, arith}
 use Rattle.std.specs.Prelude.{Option, None, is_some, ◌&&◌, nat_lt, nat_le}
 use Rattle.std.proofs.lemmas.Bool.{ltb-true, leb-true, false≢true}
-use Rattle.hp_word.specs.declared.arithmetic.Code.{Code}
-use Rattle.hp_session.specs.State.{Machine}
-use Rattle.spl_meaning.specs.References.{Setting, address_of}
-use Rattle.spl_meaning.specs.Places.{Place, data_word, above_base, below_base, below_return}
-use Rattle.spl_meaning.specs.Bodies.{Body}
-use Rattle.spl_meaning.specs.States.{Data, State, done}
-use Rattle.spl_code.specs.Code.{as_value}
-use Rattle.spl_follow.specs.Spots.{Spot, spot, pos, Point, on, Ground}
-use Rattle.spl_follow.specs.Matching.{Matched, Coded, IsValue}
-use Rattle.spl_follow.specs.Following.{Rate, tally, Follows, NoExit}
-use Rattle.spl_follow.specs.Standing.{Sites, Stands}
-use Rattle.spl_follow.specs.Parts.{Ready, Gives, Completes}
-use Rattle.spl_follow.specs.Simulating.{Surroundings}
-use Rattle.spl_follow.proofs.FollowLemmas.{then_follows}
-use Rattle.spl_follow.proofs.KeepLemmas.{kept_same, arrives_after}
-use Rattle.spl_follow.proofs.WayLemmas.{goes_none, goes_on}
-use Rattle.spl_values.specs.Reached.{is_reached}
-use Rattle.spl_values.proofs.VariableLemmas.{both}
+use Rattle.spl_procedures.specs.hp_word.declared.arithmetic.Code.{Code}
+use Rattle.spl_procedures.specs.hp_session.State.{Machine}
+use Rattle.spl_procedures.specs.spl_meaning.References.{Setting, address_of}
+use Rattle.spl_procedures.specs.spl_meaning.Places.{Place, data_word, above_base, below_base, below_return}
+use Rattle.spl_procedures.specs.spl_meaning.Bodies.{Body}
+use Rattle.spl_procedures.specs.spl_meaning.States.{Data, State, done}
+use Rattle.spl_procedures.specs.spl_code.Code.{as_value}
+use Rattle.spl_procedures.specs.spl_follow.Spots.{Spot, spot, pos, Point, on, Ground}
+use Rattle.spl_procedures.specs.spl_follow.Matching.{Matched, Coded, IsValue}
+use Rattle.spl_procedures.specs.spl_follow.Following.{Rate, tally, Follows, NoExit}
+use Rattle.spl_procedures.specs.spl_follow.Standing.{Sites, Stands}
+use Rattle.spl_procedures.specs.spl_follow.Parts.{Ready, Gives, Completes}
+use Rattle.spl_procedures.specs.spl_follow.Simulating.{Surroundings}
+use Rattle.spl_procedures.proofs.spl_follow_proofs.FollowLemmas.{then_follows}
+use Rattle.spl_procedures.proofs.spl_follow_proofs.KeepLemmas.{kept_same, arrives_after}
+use Rattle.spl_procedures.proofs.spl_follow_proofs.WayLemmas.{goes_none, goes_on}
+use Rattle.spl_procedures.specs.spl_values.Reached.{is_reached}
+use Rattle.spl_procedures.proofs.spl_values_proofs.VariableLemmas.{both}
 use Rattle.spl_procedures.specs.Procedures.{procedure_setting, HasLocals}
 use Rattle.spl_cells.specs.Settable.{is_local}
 

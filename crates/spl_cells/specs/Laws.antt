@@ -1,18 +1,18 @@
 -- The laws of this crate.
 use Rattle.std.specs.Prelude.{◌≡◌, ℕ, ◌+◌, ◌-◌, ◌≤◌, true, false, List}
-use Rattle.hp_instr.specs.declared.instruction.Instr.TheVariants as i
-use Rattle.hp_session.specs.State.{Machine}
-use Rattle.spl_meaning.specs.References.{Setting}
-use Rattle.spl_meaning.specs.Bodies.{Body}
-use Rattle.spl_meaning.specs.Runs.{enter_procedure}
-use Rattle.spl_meaning.specs.States.{State, Begun}
-use Rattle.spl_meaning.specs.Values.{Callee}
-use Rattle.spl_follow.specs.Spots.{Spot, next_word, pos, Point, Ground}
-use Rattle.spl_follow.specs.Leading.{Leads}
-use Rattle.spl_follow.specs.Doing.{body, calling}
-use Rattle.spl_follow.specs.Following.{Rate, tally_with, Follows, NoExit}
-use Rattle.spl_follow.specs.Standing.{Sites}
-use Rattle.spl_follow.specs.Calling.{Link, Calling, IsResult}
+use Rattle.spl_procedures.specs.hp_instr.declared.instruction.Instr.TheVariants as i
+use Rattle.spl_procedures.specs.hp_session.State.{Machine}
+use Rattle.spl_procedures.specs.spl_meaning.References.{Setting}
+use Rattle.spl_procedures.specs.spl_meaning.Bodies.{Body}
+use Rattle.spl_procedures.specs.spl_meaning.Runs.{enter_procedure}
+use Rattle.spl_procedures.specs.spl_meaning.States.{State, Begun}
+use Rattle.spl_procedures.specs.spl_meaning.Values.{Callee}
+use Rattle.spl_procedures.specs.spl_follow.Spots.{Spot, next_word, pos, Point, Ground}
+use Rattle.spl_procedures.specs.spl_follow.Leading.{Leads}
+use Rattle.spl_procedures.specs.spl_follow.Doing.{body, calling}
+use Rattle.spl_procedures.specs.spl_follow.Following.{Rate, tally_with, Follows, NoExit}
+use Rattle.spl_procedures.specs.spl_follow.Standing.{Sites}
+use Rattle.spl_procedures.specs.spl_follow.Calling.{Link, Calling, IsResult}
 use Rattle.spl_procedures.specs.Procedures.{ProcedureFramed, IsProcedure, AreSet, ProcedureStatementsFollow}
 use Rattle.spl_cells.specs.Settable.{are_settable}
 

@@ -1,9 +1,9 @@
 -- Which cells and initial values the code at a procedure's entry sets as the run does; of a program this can be tested.
 use Rattle.std.specs.Prelude.{ℕ, ◌+◌, ◌&&◌, nat_lt, nat_le, Bool, true, false, ℤ, List, [], ◌∷◌}
-use Rattle.spl_tree.specs.declared.expressions.Kind.{Kind}
-use Rattle.spl_meaning.specs.Kinds.{width}
-use Rattle.spl_meaning.specs.Places.{Place, data_word, above_base, below_base, below_return, Cell, Initial}
-use Rattle.spl_meaning.specs.Bodies.{Body}
+use Rattle.spl_procedures.specs.spl_tree.declared.expressions.Kind.{Kind}
+use Rattle.spl_procedures.specs.spl_meaning.Kinds.{width}
+use Rattle.spl_procedures.specs.spl_meaning.Places.{Place, data_word, above_base, below_base, below_return, Cell, Initial}
+use Rattle.spl_procedures.specs.spl_meaning.Bodies.{Body}
 
 -- So many words stand, from a place on, among so many local words, which begin at the word above the base; and an instruction reaches the first.
 abbrev pub is_local : ℕ → ℕ → Place → Bool

@@ -4,49 +4,49 @@ use Rattle.std.specs.Prelude.{Some, Option, pos as integer, int_lt, if◌then◌
 use Rattle.std.proofs.lemmas.Bool.Decides.{nat_tests}
 use Rattle.std.proofs.lemmas.Int.{ints}
 use Rattle.std.proofs.lemmas.List.{append_assoc, append-nil}
-use Rattle.hp_word.specs.declared.arithmetic.Code.{Code}
-use Rattle.hp_word.specs.declared.arithmetic.Code.TheVariants.{Greater, Less, Equal}
-use Rattle.hp_word.specs.Words.{signed, word_of, compared, word_code, logically_subtracted, word_result}
-use Rattle.hp_instr.specs.declared.instruction.Instr.TheVariants as i
-use Rattle.hp_instr.specs.Instructions.{op}
-use Rattle.hp_session.specs.State.{Machine, word, with_code}
-use Rattle.hp_stack_rows.specs.StackRows.{operated}
-use Rattle.hp_word_rows.specs.WordRows.{immediate_row}
-use Rattle.hp_memory_rows.specs.MemoryRows.{is_named}
-use Rattle.hp_flat.specs.Step.{at_left}
-use Rattle.hp_yields.proofs.StackYields as stack
-use Rattle.hp_yields.proofs.WordYields as rows
-use Rattle.spl_tree.specs.declared.names_and_places.At.{At}
-use Rattle.spl_branch.specs.declared.pieces.Piece.{Piece}
-use Rattle.spl_branch.specs.declared.pieces.Piece.TheVariants.{Mark}
-use Rattle.spl_meaning.specs.Elements.{with_one}
-use Rattle.spl_meaning.specs.Laws.{IsFront}
-use Rattle.spl_meaning.specs.References.{Setting}
-use Rattle.spl_meaning.specs.States.{Data, State, Begun, Outcome, done, then_go, code_dropped}
-use Rattle.spl_code.specs.Code.{as_value}
-use Rattle.spl_code.specs.Instructions.{LDI, DEL, BR}
-use Rattle.spl_code.specs.Parts.{Part, Wanted, ◌⨟◌}
+use Rattle.spl_statement_code.specs.hp_word.declared.arithmetic.Code.{Code}
+use Rattle.spl_statement_code.specs.hp_word.declared.arithmetic.Code.TheVariants.{Greater, Less, Equal}
+use Rattle.spl_statement_code.specs.hp_word.Words.{signed, word_of, compared, word_code, logically_subtracted, word_result}
+use Rattle.spl_statement_code.specs.hp_instr.declared.instruction.Instr.TheVariants as i
+use Rattle.spl_statement_code.specs.hp_instr.Instructions.{op}
+use Rattle.spl_control.specs.hp_session.State.{Machine, word, with_code}
+use Rattle.spl_control.specs.hp_stack_rows.StackRows.{operated}
+use Rattle.spl_control.specs.hp_word_rows.WordRows.{immediate_row}
+use Rattle.spl_control.specs.hp_memory_rows.MemoryRows.{is_named}
+use Rattle.spl_control.specs.hp_flat.Step.{at_left}
+use Rattle.spl_conditions.proofs.hp_yields_proofs.StackYields as stack
+use Rattle.spl_conditions.proofs.hp_yields_proofs.WordYields as rows
+use Rattle.spl_statement_code.specs.spl_tree.declared.names_and_places.At.{At}
+use Rattle.spl_statement_code.specs.spl_branch.declared.pieces.Piece.{Piece}
+use Rattle.spl_statement_code.specs.spl_branch.declared.pieces.Piece.TheVariants.{Mark}
+use Rattle.spl_statement_code.specs.spl_meaning.Elements.{with_one}
+use Rattle.spl_statement_code.specs.spl_meaning.Laws.{IsFront}
+use Rattle.spl_statement_code.specs.spl_meaning.References.{Setting}
+use Rattle.spl_statement_code.specs.spl_meaning.States.{Data, State, Begun, Outcome, done, then_go, code_dropped}
+use Rattle.spl_statement_code.specs.spl_code.Code.{as_value}
+use Rattle.spl_statement_code.specs.spl_code.Instructions.{LDI, DEL, BR}
+use Rattle.spl_statement_code.specs.spl_code.Parts.{Part, Wanted, ◌⨟◌}
 use Rattle.spl_statement_code.specs.Instructions.{LSUB}
 use Rattle.spl_statement_code.specs.Statements.{arm, chosen_among}
-use Rattle.spl_follow.specs.Spots.{Spot, pos, landed, Point, on, Ground}
-use Rattle.spl_follow.specs.Leading.{Leads}
-use Rattle.spl_follow.specs.Matching.{Outer, Matched, IsValue, Coded}
-use Rattle.spl_follow.specs.Following.{Rate, tally, tally_with, Goes, Follows, NoExit}
-use Rattle.spl_follow.specs.Doing.{going, doing, turning}
-use Rattle.spl_follow.specs.Standing.{Stands}
-use Rattle.spl_follow.specs.Parts.{Ready, Completes, Leaving}
-use Rattle.spl_follow.specs.Simulating.{Surroundings, Simulates, Performs}
-use Rattle.spl_follow.proofs.FollowLemmas.{then_follows, bind_follows, no_exit}
-use Rattle.spl_follow.proofs.KeepLemmas.{kept_same, kept_top, kept_stack, value_word, values_join}
-use Rattle.spl_follow.proofs.PartLemmas.{stand_in_order}
-use Rattle.spl_follow.proofs.RowLemmas.{no_print, shown, row_value, row_drops}
-use Rattle.spl_follow.proofs.StandLemmas.{closed_last, stands_le}
-use Rattle.spl_follow.proofs.WayLemmas.{goes_wider, lead}
+use Rattle.spl_control.specs.spl_follow.Spots.{Spot, pos, landed, Point, on, Ground}
+use Rattle.spl_control.specs.spl_follow.Leading.{Leads}
+use Rattle.spl_control.specs.spl_follow.Matching.{Outer, Matched, IsValue, Coded}
+use Rattle.spl_control.specs.spl_follow.Following.{Rate, tally, tally_with, Goes, Follows, NoExit}
+use Rattle.spl_control.specs.spl_follow.Doing.{going, doing, turning}
+use Rattle.spl_control.specs.spl_follow.Standing.{Stands}
+use Rattle.spl_control.specs.spl_follow.Parts.{Ready, Completes, Leaving}
+use Rattle.spl_control.specs.spl_follow.Simulating.{Surroundings, Simulates, Performs}
+use Rattle.spl_control.proofs.spl_follow_proofs.FollowLemmas.{then_follows, bind_follows, no_exit}
+use Rattle.spl_control.proofs.spl_follow_proofs.KeepLemmas.{kept_same, kept_top, kept_stack, value_word, values_join}
+use Rattle.spl_control.proofs.spl_follow_proofs.PartLemmas.{stand_in_order}
+use Rattle.spl_control.proofs.spl_follow_proofs.RowLemmas.{no_print, shown, row_value, row_drops}
+use Rattle.spl_control.proofs.spl_follow_proofs.StandLemmas.{closed_last, stands_le}
+use Rattle.spl_control.proofs.spl_follow_proofs.WayLemmas.{goes_wider, lead}
 use Rattle.spl_control.specs.Laws.{Settles}
-use Rattle.spl_values.specs.Reached.{IsWhole}
-use Rattle.spl_values.proofs.GiveLemmas.{last_leads}
-use Rattle.spl_values.proofs.SumLemmas.{front_on, yielding, logically_subtracted_small}
-use Rattle.spl_values.proofs.WholeLemmas.{closed_mark}
+use Rattle.spl_conditions.specs.spl_values.Reached.{IsWhole}
+use Rattle.spl_conditions.proofs.spl_values_proofs.GiveLemmas.{last_leads}
+use Rattle.spl_conditions.proofs.spl_values_proofs.SumLemmas.{front_on, yielding, logically_subtracted_small}
+use Rattle.spl_conditions.proofs.spl_values_proofs.WholeLemmas.{closed_mark}
 use Rattle.spl_choices.specs.Laws.{Chooses, NoArmChooses, chosen_before, ArmsChoose, CasesPerform}
 use Rattle.spl_choices.proofs.ChoiceLemmas.{first_side}
 use Rattle.spl_choices.proofs.PartLemmas.{mark_ends, settles_completes, begins_sooner}

@@ -1,35 +1,35 @@
 -- IF: a statement is noted, tested, and one of its sides follows from where the test leads.
 use Rattle.std.proofs.Common.{◌≡◌, ℕ, suc, ◌+◌, ◌-◌, ◌≤◌, Bool, true, false, List, [], ◌∷◌, ◌++◌, refl, sym, ap, subst, arith}
 use Rattle.std.specs.Prelude.{Some, if◌then◌else◌}
-use Rattle.hp_instr.specs.declared.instruction.Instr.TheVariants as i
-use Rattle.hp_session.specs.State.{Machine}
-use Rattle.spl_tree.specs.declared.names_and_places.At.{At}
-use Rattle.spl_branch.specs.declared.pieces.Piece.{Piece}
-use Rattle.spl_branch.specs.declared.pieces.Piece.TheVariants.{Mark}
-use Rattle.spl_meaning.specs.Laws.{IsFront}
-use Rattle.spl_meaning.specs.States.{State, Begun, Outcome, done, then_go, code_dropped}
-use Rattle.spl_code.specs.Instructions.{BR}
-use Rattle.spl_code.specs.Parts.{Part, Wanted}
+use Rattle.spl_statement_code.specs.hp_instr.declared.instruction.Instr.TheVariants as i
+use Rattle.spl_control.specs.hp_session.State.{Machine}
+use Rattle.spl_statement_code.specs.spl_tree.declared.names_and_places.At.{At}
+use Rattle.spl_statement_code.specs.spl_branch.declared.pieces.Piece.{Piece}
+use Rattle.spl_statement_code.specs.spl_branch.declared.pieces.Piece.TheVariants.{Mark}
+use Rattle.spl_statement_code.specs.spl_meaning.Laws.{IsFront}
+use Rattle.spl_statement_code.specs.spl_meaning.States.{State, Begun, Outcome, done, then_go, code_dropped}
+use Rattle.spl_statement_code.specs.spl_code.Instructions.{BR}
+use Rattle.spl_statement_code.specs.spl_code.Parts.{Part, Wanted}
 use Rattle.spl_statement_code.specs.Statements.{chosen, chosen_or}
-use Rattle.spl_follow.specs.Spots.{Spot, pos, Point, on}
-use Rattle.spl_follow.specs.Matching.{Arrives}
-use Rattle.spl_follow.specs.Leading.{Leads}
-use Rattle.spl_follow.specs.Doing.{turning}
-use Rattle.spl_follow.specs.Following.{tally, tally_with, Follows, NoExit}
-use Rattle.spl_follow.specs.Standing.{Stands}
-use Rattle.spl_follow.specs.Parts.{Ready, Truth, Completes, Leaving}
-use Rattle.spl_follow.specs.Simulating.{Surroundings, Performs}
-use Rattle.spl_follow.proofs.FollowLemmas.{widen, tail_follows}
-use Rattle.spl_follow.proofs.KeepLemmas.{arrives_begins}
-use Rattle.spl_follow.proofs.PartLemmas.{stand_in_order, statements_begin_noted}
-use Rattle.spl_follow.proofs.RowLemmas.{row_branches}
-use Rattle.spl_follow.proofs.StandLemmas.{closed_last, stands_le}
-use Rattle.spl_follow.proofs.WayLemmas.{goes_none}
+use Rattle.spl_control.specs.spl_follow.Spots.{Spot, pos, Point, on}
+use Rattle.spl_control.specs.spl_follow.Matching.{Arrives}
+use Rattle.spl_control.specs.spl_follow.Leading.{Leads}
+use Rattle.spl_control.specs.spl_follow.Doing.{turning}
+use Rattle.spl_control.specs.spl_follow.Following.{tally, tally_with, Follows, NoExit}
+use Rattle.spl_control.specs.spl_follow.Standing.{Stands}
+use Rattle.spl_control.specs.spl_follow.Parts.{Ready, Truth, Completes, Leaving}
+use Rattle.spl_control.specs.spl_follow.Simulating.{Surroundings, Performs}
+use Rattle.spl_control.proofs.spl_follow_proofs.FollowLemmas.{widen, tail_follows}
+use Rattle.spl_control.proofs.spl_follow_proofs.KeepLemmas.{arrives_begins}
+use Rattle.spl_control.proofs.spl_follow_proofs.PartLemmas.{stand_in_order, statements_begin_noted}
+use Rattle.spl_control.proofs.spl_follow_proofs.RowLemmas.{row_branches}
+use Rattle.spl_control.proofs.spl_follow_proofs.StandLemmas.{closed_last, stands_le}
+use Rattle.spl_control.proofs.spl_follow_proofs.WayLemmas.{goes_none}
 use Rattle.spl_control.specs.Laws.{Settles}
 use Rattle.spl_control.proofs.ControlLemmas as control
-use Rattle.spl_values.specs.Reached.{IsWhole}
-use Rattle.spl_values.proofs.SumLemmas.{front_on}
-use Rattle.spl_values.proofs.WholeLemmas.{then_same}
+use Rattle.spl_conditions.specs.spl_values.Reached.{IsWhole}
+use Rattle.spl_conditions.proofs.spl_values_proofs.SumLemmas.{front_on}
+use Rattle.spl_conditions.proofs.spl_values_proofs.WholeLemmas.{then_same}
 use Rattle.spl_choices.specs.Laws.{decided, Decides, ChoicesPerform, EitherPerforms}
 use Rattle.spl_choices.proofs.PartLemmas.{mark_ends, test_follows, body_follows, settles_after, settles_completes}
 

@@ -1,30 +1,30 @@
 -- IF on the condition code: one branch, by the code that a call has left.
 use Rattle.std.proofs.Common.{◌≡◌, ℕ, ◌+◌, ◌-◌, Bool, true, false, refl, ap, subst, ◌∙◌, arith, inl}
 use Rattle.std.specs.Prelude.{Option, Some, None, if◌then◌else◌}
-use Rattle.hp_word.specs.declared.arithmetic.Code.{Code}
-use Rattle.hp_instr.specs.declared.instruction.Instr.TheVariants as i
-use Rattle.hp_session.specs.State.{Machine}
-use Rattle.hp_memory_rows.specs.MemoryRows.{is_named}
-use Rattle.spl_tree.specs.declared.names_and_places.At.{At}
-use Rattle.spl_meaning.specs.Names.{truth_word}
-use Rattle.spl_meaning.specs.Operations as run
-use Rattle.spl_meaning.specs.Operations.{is_odd}
-use Rattle.spl_meaning.specs.States.{State, Outcome, done, without_code, noted, code_dropped}
-use Rattle.spl_meaning.specs.Statements.{code_tested}
-use Rattle.spl_code.specs.Code.{related}
-use Rattle.spl_code.specs.Operators.{failing_codes}
-use Rattle.spl_follow.specs.Spots.{Spot, pos, landed}
-use Rattle.spl_follow.specs.Leading.{Leads}
-use Rattle.spl_follow.specs.Matching.{Coded}
-use Rattle.spl_follow.specs.Following.{Owes, tally, tally_with, Follows}
-use Rattle.spl_follow.specs.Doing.{turning}
-use Rattle.spl_follow.specs.Parts.{Begins, Completes, Leaving}
-use Rattle.spl_follow.specs.Simulating.{Surroundings}
-use Rattle.spl_follow.proofs.FollowLemmas.{spend_follows}
-use Rattle.spl_follow.proofs.KeepLemmas.{kept_same}
-use Rattle.spl_follow.proofs.RowLemmas.{no_print, shown, stray_here}
-use Rattle.spl_follow.proofs.WayLemmas.{goes_wider, lead}
-use Rattle.spl_values.proofs.WholeLemmas.{whole_pieces}
+use Rattle.spl_statement_code.specs.hp_word.declared.arithmetic.Code.{Code}
+use Rattle.spl_statement_code.specs.hp_instr.declared.instruction.Instr.TheVariants as i
+use Rattle.spl_control.specs.hp_session.State.{Machine}
+use Rattle.spl_control.specs.hp_memory_rows.MemoryRows.{is_named}
+use Rattle.spl_statement_code.specs.spl_tree.declared.names_and_places.At.{At}
+use Rattle.spl_statement_code.specs.spl_meaning.Names.{truth_word}
+use Rattle.spl_statement_code.specs.spl_meaning.Operations as run
+use Rattle.spl_statement_code.specs.spl_meaning.Operations.{is_odd}
+use Rattle.spl_statement_code.specs.spl_meaning.States.{State, Outcome, done, without_code, noted, code_dropped}
+use Rattle.spl_statement_code.specs.spl_meaning.Statements.{code_tested}
+use Rattle.spl_statement_code.specs.spl_code.Code.{related}
+use Rattle.spl_statement_code.specs.spl_code.Operators.{failing_codes}
+use Rattle.spl_control.specs.spl_follow.Spots.{Spot, pos, landed}
+use Rattle.spl_control.specs.spl_follow.Leading.{Leads}
+use Rattle.spl_control.specs.spl_follow.Matching.{Coded}
+use Rattle.spl_control.specs.spl_follow.Following.{Owes, tally, tally_with, Follows}
+use Rattle.spl_control.specs.spl_follow.Doing.{turning}
+use Rattle.spl_control.specs.spl_follow.Parts.{Begins, Completes, Leaving}
+use Rattle.spl_control.specs.spl_follow.Simulating.{Surroundings}
+use Rattle.spl_control.proofs.spl_follow_proofs.FollowLemmas.{spend_follows}
+use Rattle.spl_control.proofs.spl_follow_proofs.KeepLemmas.{kept_same}
+use Rattle.spl_control.proofs.spl_follow_proofs.RowLemmas.{no_print, shown, stray_here}
+use Rattle.spl_control.proofs.spl_follow_proofs.WayLemmas.{goes_wider, lead}
+use Rattle.spl_conditions.proofs.spl_values_proofs.WholeLemmas.{whole_pieces}
 use Rattle.spl_conditions.proofs.BranchLemmas.{branch_leads}
 use Rattle.spl_conditions.proofs.RelationLemmas.{fails_where}
 use Rattle.spl_choices.specs.Laws.{told, CodeChoicesPerform, CodeEitherPerforms}

@@ -1,30 +1,30 @@
 -- WHILE and DO: a statement begins, and each turn of its loop is followed; the step of a turn pays for its test and the branch back.
 use Rattle.std.proofs.Common.{◌≡◌, ℕ, suc, ◌+◌, ◌-◌, ◌≤◌, false, List, [], ◌∷◌, ◌++◌, refl, sym, ap, subst, arith}
 use Rattle.std.specs.Prelude.{Option}
-use Rattle.hp_word.specs.declared.arithmetic.Code.{Code}
-use Rattle.hp_session.specs.State.{Machine}
-use Rattle.spl_branch.specs.declared.pieces.Piece.{Piece}
-use Rattle.spl_branch.specs.declared.pieces.Piece.TheVariants.{Mark}
-use Rattle.spl_meaning.specs.Laws.{IsFront}
-use Rattle.spl_meaning.specs.States.{State, Outcome, code_dropped}
-use Rattle.spl_meaning.specs.Statements.{looping, repeating}
-use Rattle.spl_code.specs.Instructions.{BR}
-use Rattle.spl_code.specs.Parts.{Part, Wanted}
+use Rattle.spl_statement_code.specs.hp_word.declared.arithmetic.Code.{Code}
+use Rattle.spl_control.specs.hp_session.State.{Machine}
+use Rattle.spl_statement_code.specs.spl_branch.declared.pieces.Piece.{Piece}
+use Rattle.spl_statement_code.specs.spl_branch.declared.pieces.Piece.TheVariants.{Mark}
+use Rattle.spl_statement_code.specs.spl_meaning.Laws.{IsFront}
+use Rattle.spl_statement_code.specs.spl_meaning.States.{State, Outcome, code_dropped}
+use Rattle.spl_statement_code.specs.spl_meaning.Statements.{looping, repeating}
+use Rattle.spl_statement_code.specs.spl_code.Instructions.{BR}
+use Rattle.spl_statement_code.specs.spl_code.Parts.{Part, Wanted}
 use Rattle.spl_statement_code.specs.Statements.{repeated_while, repeated_until}
-use Rattle.spl_follow.specs.Spots.{Spot, pos, on}
-use Rattle.spl_follow.specs.Matching.{Coded}
-use Rattle.spl_follow.specs.Following.{tally, Follows, NoExit}
-use Rattle.spl_follow.specs.Standing.{Stands}
-use Rattle.spl_follow.specs.Parts.{Ready, Truth, Completes, Leaving}
-use Rattle.spl_follow.specs.Simulating.{Surroundings, Performs}
-use Rattle.spl_follow.proofs.FollowLemmas.{widen, then_follows}
-use Rattle.spl_follow.proofs.KeepLemmas.{kept_same, arrives_begins}
-use Rattle.spl_follow.proofs.PartLemmas.{stand_in_order, statements_begin_plain}
-use Rattle.spl_follow.proofs.RowLemmas.{row_idle}
+use Rattle.spl_control.specs.spl_follow.Spots.{Spot, pos, on}
+use Rattle.spl_control.specs.spl_follow.Matching.{Coded}
+use Rattle.spl_control.specs.spl_follow.Following.{tally, Follows, NoExit}
+use Rattle.spl_control.specs.spl_follow.Standing.{Stands}
+use Rattle.spl_control.specs.spl_follow.Parts.{Ready, Truth, Completes, Leaving}
+use Rattle.spl_control.specs.spl_follow.Simulating.{Surroundings, Performs}
+use Rattle.spl_control.proofs.spl_follow_proofs.FollowLemmas.{widen, then_follows}
+use Rattle.spl_control.proofs.spl_follow_proofs.KeepLemmas.{kept_same, arrives_begins}
+use Rattle.spl_control.proofs.spl_follow_proofs.PartLemmas.{stand_in_order, statements_begin_plain}
+use Rattle.spl_control.proofs.spl_follow_proofs.RowLemmas.{row_idle}
 use Rattle.spl_control.specs.Laws.{Settles}
 use Rattle.spl_control.proofs.ControlLemmas as control
-use Rattle.spl_values.specs.Reached.{IsWhole}
-use Rattle.spl_values.proofs.SumLemmas.{front_on}
+use Rattle.spl_conditions.specs.spl_values.Reached.{IsWhole}
+use Rattle.spl_conditions.proofs.spl_values_proofs.SumLemmas.{front_on}
 use Rattle.spl_choices.specs.Laws.{decided, Decides, WhilePerforms, UntilPerforms}
 use Rattle.spl_choices.proofs.PartLemmas.{branch_ends, test_follows, body_follows, settles_after, settles_completes}
 

@@ -1,32 +1,32 @@
 -- The parts of choices and loops, where they stand: a test as a condition, and a statement inside whose condition code is dropped.
 use Rattle.std.proofs.Common.{◌≡◌, ℕ, ◌+◌, ◌-◌, ◌≤◌, ◌<◌, false, List, [], ◌∷◌, ◌++◌, refl, ap, subst, ◌∙◌, arith, inl}
 use Rattle.std.specs.Prelude.{min, Some}
-use Rattle.hp_instr.specs.declared.instruction.Instr.TheVariants as i
-use Rattle.hp_session.specs.State.{Machine}
-use Rattle.spl_branch.specs.declared.pieces.Piece.{Piece}
-use Rattle.spl_branch.specs.declared.pieces.Piece.TheVariants.{Begin, Mark}
-use Rattle.spl_tree.specs.declared.names_and_places.At.{At}
-use Rattle.spl_meaning.specs.Laws.{IsFront}
-use Rattle.spl_meaning.specs.States.{Data, State, Begun, Outcome, without_code, noted, stopping, code_dropped}
-use Rattle.spl_code.specs.Instructions.{BR}
-use Rattle.spl_code.specs.Parts.{Part, Wanted, piece, ◌⨟◌, with_fresh}
+use Rattle.spl_statement_code.specs.hp_instr.declared.instruction.Instr.TheVariants as i
+use Rattle.spl_control.specs.hp_session.State.{Machine}
+use Rattle.spl_statement_code.specs.spl_branch.declared.pieces.Piece.{Piece}
+use Rattle.spl_statement_code.specs.spl_branch.declared.pieces.Piece.TheVariants.{Begin, Mark}
+use Rattle.spl_statement_code.specs.spl_tree.declared.names_and_places.At.{At}
+use Rattle.spl_statement_code.specs.spl_meaning.Laws.{IsFront}
+use Rattle.spl_statement_code.specs.spl_meaning.States.{Data, State, Begun, Outcome, without_code, noted, stopping, code_dropped}
+use Rattle.spl_statement_code.specs.spl_code.Instructions.{BR}
+use Rattle.spl_statement_code.specs.spl_code.Parts.{Part, Wanted, piece, ◌⨟◌, with_fresh}
 use Rattle.spl_statement_code.specs.Instructions.{SUBS}
 use Rattle.spl_statement_code.specs.Statements.{idle, chosen, chosen_or, repeated_while, repeated_until}
-use Rattle.spl_follow.specs.Spots.{Spot, pos, Point, on, Ground}
-use Rattle.spl_follow.specs.Leading.{Leads}
-use Rattle.spl_follow.specs.Doing.{turning}
-use Rattle.spl_follow.specs.Matching.{Kept}
-use Rattle.spl_follow.specs.Following.{tally, tally_with, Follows, NoExit}
-use Rattle.spl_follow.specs.Standing.{Sites, Stands, IsClosed}
-use Rattle.spl_follow.specs.Parts.{Ready, Begins, Truth, Completes, Leaving, Runs}
-use Rattle.spl_follow.specs.Simulating.{Surroundings, Performs}
-use Rattle.spl_follow.proofs.FollowLemmas.{weaken, dropped_follows, spend_follows}
-use Rattle.spl_follow.proofs.KeepLemmas.{arrives_after}
-use Rattle.spl_follow.proofs.PartLemmas.{stand_in_order, tests_decide}
-use Rattle.spl_follow.proofs.RowLemmas.{shown}
+use Rattle.spl_control.specs.spl_follow.Spots.{Spot, pos, Point, on, Ground}
+use Rattle.spl_control.specs.spl_follow.Leading.{Leads}
+use Rattle.spl_control.specs.spl_follow.Doing.{turning}
+use Rattle.spl_control.specs.spl_follow.Matching.{Kept}
+use Rattle.spl_control.specs.spl_follow.Following.{tally, tally_with, Follows, NoExit}
+use Rattle.spl_control.specs.spl_follow.Standing.{Sites, Stands, IsClosed}
+use Rattle.spl_control.specs.spl_follow.Parts.{Ready, Begins, Truth, Completes, Leaving, Runs}
+use Rattle.spl_control.specs.spl_follow.Simulating.{Surroundings, Performs}
+use Rattle.spl_control.proofs.spl_follow_proofs.FollowLemmas.{weaken, dropped_follows, spend_follows}
+use Rattle.spl_control.proofs.spl_follow_proofs.KeepLemmas.{arrives_after}
+use Rattle.spl_control.proofs.spl_follow_proofs.PartLemmas.{stand_in_order, tests_decide}
+use Rattle.spl_control.proofs.spl_follow_proofs.RowLemmas.{shown}
 use Rattle.spl_control.specs.Laws.{Settles}
-use Rattle.spl_values.specs.Reached.{IsWhole}
-use Rattle.spl_values.proofs.WholeLemmas.{whole_pieces, whole_then, whole_mark, whole_fresh, whole_behind}
+use Rattle.spl_conditions.specs.spl_values.Reached.{IsWhole}
+use Rattle.spl_conditions.proofs.spl_values_proofs.WholeLemmas.{whole_pieces, whole_then, whole_mark, whole_fresh, whole_behind}
 use Rattle.spl_choices.specs.Laws.{decided, Decides}
 
 -- ---- where parts end

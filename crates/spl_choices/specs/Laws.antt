@@ -1,26 +1,26 @@
 -- The laws of this crate: IF, CASE, WHILE and DO over their parts as variables. A test is code that leads to any mark where it does not hold.
 -- Nothing is due behind a test or a body.
 use Rattle.std.specs.Prelude.{◌≡◌, ℕ, zero, suc, ◌+◌, ◌-◌, ◌≤◌, ◌<◌, Bool, if◌then◌else◌, List, [], ◌∷◌, ◌++◌}
-use Rattle.hp_session.specs.State.{Machine}
-use Rattle.spl_tree.specs.declared.names_and_places.At.{At}
-use Rattle.spl_branch.specs.declared.pieces.Piece.TheVariants.{Begin}
-use Rattle.spl_meaning.specs.Elements.{with_one}
-use Rattle.spl_meaning.specs.Laws.{IsFront}
-use Rattle.spl_meaning.specs.Operations.{is_odd}
-use Rattle.spl_meaning.specs.States.{State, Outcome, done, then_go, stepping, without_code, noted, beginning, stopping, code_dropped}
-use Rattle.spl_meaning.specs.Statements.{looping, repeating, code_tested}
-use Rattle.spl_code.specs.Instructions.{DEL}
-use Rattle.spl_code.specs.Parts.{Part, Wanted, piece, nothing, ◌⨟◌}
-use Rattle.spl_code.specs.Code.{as_value, as_test, related}
+use Rattle.spl_control.specs.hp_session.State.{Machine}
+use Rattle.spl_statement_code.specs.spl_tree.declared.names_and_places.At.{At}
+use Rattle.spl_statement_code.specs.spl_branch.declared.pieces.Piece.TheVariants.{Begin}
+use Rattle.spl_statement_code.specs.spl_meaning.Elements.{with_one}
+use Rattle.spl_statement_code.specs.spl_meaning.Laws.{IsFront}
+use Rattle.spl_statement_code.specs.spl_meaning.Operations.{is_odd}
+use Rattle.spl_statement_code.specs.spl_meaning.States.{State, Outcome, done, then_go, stepping, without_code, noted, beginning, stopping, code_dropped}
+use Rattle.spl_statement_code.specs.spl_meaning.Statements.{looping, repeating, code_tested}
+use Rattle.spl_statement_code.specs.spl_code.Instructions.{DEL}
+use Rattle.spl_statement_code.specs.spl_code.Parts.{Part, Wanted, piece, nothing, ◌⨟◌}
+use Rattle.spl_statement_code.specs.spl_code.Code.{as_value, as_test, related}
 use Rattle.spl_statement_code.specs.Statements.{chosen, chosen_or, repeated_while, repeated_until, arm, chosen_among}
-use Rattle.spl_follow.specs.Spots.{Spot, pos, on}
-use Rattle.spl_follow.specs.Matching.{IsValue}
-use Rattle.spl_follow.specs.Following.{tally, Follows}
-use Rattle.spl_follow.specs.Standing.{Stands}
-use Rattle.spl_follow.specs.Parts.{Leaving}
-use Rattle.spl_follow.specs.Simulating.{Surroundings, Simulates, Performs}
+use Rattle.spl_control.specs.spl_follow.Spots.{Spot, pos, on}
+use Rattle.spl_control.specs.spl_follow.Matching.{IsValue}
+use Rattle.spl_control.specs.spl_follow.Following.{tally, Follows}
+use Rattle.spl_control.specs.spl_follow.Standing.{Stands}
+use Rattle.spl_control.specs.spl_follow.Parts.{Leaving}
+use Rattle.spl_control.specs.spl_follow.Simulating.{Surroundings, Simulates, Performs}
 use Rattle.spl_control.specs.Laws.{Settles}
-use Rattle.spl_values.specs.Reached.{IsWhole}
+use Rattle.spl_conditions.specs.spl_values.Reached.{IsWhole}
 
 -- a condition: the lowest bit of a value
 abbrev pub decided : (State → Outcome (List ℕ)) → State → Outcome Bool

@@ -1,7 +1,7 @@
 -- The code of an expression has few words, along the tree.
 use Rattle.std.proofs.Common.{◌≤◌, ℕ, ◌+◌, ◌-◌, ◌%◌, ◌==◌, Bool, true, false, if◌then◌else◌, List, [], ◌∷◌, arith}
-use Rattle.spl_tree.specs.Trees as tree
-use Rattle.spl_tree.specs.Trees.{Tree, Trees, Constant}
+use Rattle.spl_meaning.specs.spl_tree.Trees as tree
+use Rattle.spl_meaning.specs.spl_tree.Trees.{Tree, Trees, Constant}
 use Rattle.spl_meaning.specs.Names.{Formal, Profile, text_value, truth_word}
 use Rattle.spl_meaning.specs.Kinds.{Class, kind_of, class_of, operand_width, is_connective, is_relation, compares_text, relation_number, or_operator}
 use Rattle.spl_meaning.specs.Pending.{by_value, formal_words, result_words}

@@ -1,10 +1,10 @@
 -- The words of the parts of an expression.
 use Rattle.std.proofs.Common.{◌≡◌, ◌≤◌, ℕ, suc, ◌+◌, ◌%◌, ◌==◌, ◌&&◌, nat_lt, nat_le, ℤ, Bool, true, false, if◌then◌else◌, List, [], ◌∷◌, ◌++◌, map, length, Option, Some, None, refl, arith}
-use Rattle.spl_tree.specs.declared.expressions.Kind.{Kind}
-use Rattle.spl_tree.specs.declared.expressions.Kind.TheVariants as kind
-use Rattle.hp_instr.specs.declared.instruction.Mode.{Mode}
-use Rattle.hp_word.specs.Words.{word_of}
-use Rattle.hp_word.specs.Bytes.{high_word, low_word}
+use Rattle.spl_meaning.specs.spl_tree.declared.expressions.Kind.{Kind}
+use Rattle.spl_meaning.specs.spl_tree.declared.expressions.Kind.TheVariants as kind
+use Rattle.spl_branch.specs.hp_instr.declared.instruction.Mode.{Mode}
+use Rattle.spl_meaning.specs.hp_word.Words.{word_of}
+use Rattle.spl_meaning.specs.hp_word.Bytes.{high_word, low_word}
 use Rattle.spl_meaning.specs.Names.{Profile, intrinsic_profile}
 use Rattle.spl_meaning.specs.Kinds.{Operand, of, const, unknown, Class, integers, logicals, doubles, mixed, plus, minus, times, modulo, works_on_bits, positive, negative, lor_operator, xor_operator}
 use Rattle.spl_meaning.specs.Places.{Place}

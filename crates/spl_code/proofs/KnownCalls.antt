@@ -1,10 +1,10 @@
 -- The code of calls, worked by hand.
 use Rattle.std.specs.Prelude.{◌≡◌, [], ◌∷◌, codes, false, true}
 use Rattle.std.proofs.Common.{refl}
-use Rattle.hp_instr.specs.declared.instruction.Instr.TheVariants as i
-use Rattle.hp_instr.specs.declared.instruction.Mode.TheVariants.{QPlus, SMinus}
-use Rattle.spl_tree.specs.Trees as tree
-use Rattle.spl_tree.specs.Trees.{Tree}
+use Rattle.spl_branch.specs.hp_instr.declared.instruction.Instr.TheVariants as i
+use Rattle.spl_branch.specs.hp_instr.declared.instruction.Mode.TheVariants.{QPlus, SMinus}
+use Rattle.spl_meaning.specs.spl_tree.Trees as tree
+use Rattle.spl_meaning.specs.spl_tree.Trees.{Tree}
 use Rattle.spl_meaning.specs.Kinds.{plus}
 use Rattle.spl_branch.specs.declared.pieces.Piece.TheVariants.{Do, Call}
 use Rattle.spl_code.specs.Instructions.{operate, LDI, LOAD, LRA, ZERO, DZRO, LSL, LSR}

@@ -1,9 +1,9 @@
 -- The code of references, worked by hand: values and addresses of elements, pointers and parameters by reference.
 use Rattle.std.specs.Prelude.{◌≡◌, [], ◌∷◌, codes, false, true}
 use Rattle.std.proofs.Common.{refl}
-use Rattle.hp_instr.specs.declared.instruction.Instr.TheVariants as i
-use Rattle.hp_instr.specs.declared.instruction.Mode.TheVariants.{QPlus, QMinus, SMinus}
-use Rattle.spl_tree.specs.Trees as tree
+use Rattle.spl_branch.specs.hp_instr.declared.instruction.Instr.TheVariants as i
+use Rattle.spl_branch.specs.hp_instr.declared.instruction.Mode.TheVariants.{QPlus, QMinus, SMinus}
+use Rattle.spl_meaning.specs.spl_tree.Trees as tree
 use Rattle.spl_meaning.specs.Kinds.{plus}
 use Rattle.spl_branch.specs.declared.pieces.Piece.TheVariants.{Do}
 use Rattle.spl_code.specs.Instructions.{operate, LDI, LOAD, LRA, LSL, STAX}

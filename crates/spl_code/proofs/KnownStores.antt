@@ -1,9 +1,9 @@
 -- The code of stores, worked by hand, behind a value while no word waited below it, or an index alone.
 use Rattle.std.specs.Prelude.{◌≡◌, [], ◌∷◌, false, true}
 use Rattle.std.proofs.Common.{refl}
-use Rattle.hp_instr.specs.declared.instruction.Instr.TheVariants as i
-use Rattle.hp_instr.specs.declared.instruction.Mode.TheVariants.{DbPlus, QPlus, QMinus, SMinus}
-use Rattle.spl_tree.specs.declared.expressions.Kind.TheVariants as kind
+use Rattle.spl_branch.specs.hp_instr.declared.instruction.Instr.TheVariants as i
+use Rattle.spl_branch.specs.hp_instr.declared.instruction.Mode.TheVariants.{DbPlus, QPlus, QMinus, SMinus}
+use Rattle.spl_meaning.specs.spl_tree.declared.expressions.Kind.TheVariants as kind
 use Rattle.spl_meaning.specs.Places.{data_word, above_base, below_base, below_return}
 use Rattle.spl_meaning.specs.References.{its_own, by_address, by_cell}
 use Rattle.spl_branch.specs.declared.pieces.Piece.TheVariants.{Do}

@@ -1,9 +1,9 @@
 -- The code of conditions, worked by hand: as tests that lead to mark 9, and as values, with marks from 20 on.
 use Rattle.std.specs.Prelude.{◌≡◌, ◌+◌, [], ◌∷◌, codes, false, true}
 use Rattle.std.proofs.Common.{refl}
-use Rattle.hp_instr.specs.declared.instruction.Instr.TheVariants as i
-use Rattle.hp_instr.specs.declared.instruction.Mode.TheVariants.{QPlus}
-use Rattle.spl_tree.specs.Trees as tree
+use Rattle.spl_branch.specs.hp_instr.declared.instruction.Instr.TheVariants as i
+use Rattle.spl_branch.specs.hp_instr.declared.instruction.Mode.TheVariants.{QPlus}
+use Rattle.spl_meaning.specs.spl_tree.Trees as tree
 use Rattle.spl_branch.specs.declared.pieces.Piece.TheVariants.{Do, Literal, Place, Mark}
 use Rattle.spl_code.specs.Instructions.{operate, LDI, LDNI, LOAD, ZERO, LSL, BR, BRE, BCC, CMPB, LOAD_BEFORE}
 use Rattle.spl_code.specs.Code.{code, as_value, as_test}

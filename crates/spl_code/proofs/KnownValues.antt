@@ -1,12 +1,12 @@
 -- The code of values, worked by hand: constants, variables, operators.
 use Rattle.std.specs.Prelude.{◌≡◌, [], ◌∷◌, codes, false, true}
 use Rattle.std.proofs.Common.{refl}
-use Rattle.hp_word.specs.Words.{word_of}
-use Rattle.hp_word.specs.Bytes.{high_word, low_word}
-use Rattle.hp_instr.specs.declared.instruction.Instr.TheVariants as i
-use Rattle.hp_instr.specs.declared.instruction.Mode.TheVariants.{DbPlus, QPlus, QMinus, SMinus}
-use Rattle.spl_tree.specs.declared.expressions.Kind.TheVariants as kind
-use Rattle.spl_tree.specs.Trees as tree
+use Rattle.spl_meaning.specs.hp_word.Words.{word_of}
+use Rattle.spl_meaning.specs.hp_word.Bytes.{high_word, low_word}
+use Rattle.spl_branch.specs.hp_instr.declared.instruction.Instr.TheVariants as i
+use Rattle.spl_branch.specs.hp_instr.declared.instruction.Mode.TheVariants.{DbPlus, QPlus, QMinus, SMinus}
+use Rattle.spl_meaning.specs.spl_tree.declared.expressions.Kind.TheVariants as kind
+use Rattle.spl_meaning.specs.spl_tree.Trees as tree
 use Rattle.spl_meaning.specs.Kinds.{plus, minus, times, modulo}
 use Rattle.spl_branch.specs.declared.pieces.Piece.TheVariants.{Do}
 use Rattle.spl_code.specs.Instructions.{operate, LDI, LDNI, LSL, ORI, ANDI, ASR, EXF, LOAD, ZERO, XCH, CAB, DUP, DEL, DELB, shift}

@@ -1,7 +1,7 @@
 -- The code of expressions and conditions: one recursion on the tree, by what is wanted of it and by how many words wait.
 use Rattle.std.specs.Prelude.{ℕ, ◌+◌, ◌%◌, ◌==◌, Bool, true, false, if◌then◌else◌, List, [], ◌∷◌, length}
-use Rattle.spl_tree.specs.Trees as tree
-use Rattle.spl_tree.specs.Trees.{Tree, Trees}
+use Rattle.spl_meaning.specs.spl_tree.Trees as tree
+use Rattle.spl_meaning.specs.spl_tree.Trees.{Tree, Trees}
 use Rattle.spl_meaning.specs.Names.{Formal, Profile, intrinsic_profile, text_value, truth_word}
 use Rattle.spl_meaning.specs.Kinds.{Class, kind_of, operand_width, class_of, is_connective, is_relation, compares_text, relation_number, or_operator}
 use Rattle.spl_meaning.specs.Pending.{by_value, result_words, formal_words}

@@ -1,7 +1,7 @@
 -- Constants and strings in the code.
 use Rattle.std.specs.Prelude.{ℕ, ◌-◌, ◌/◌, ◌%◌, nat_lt, if◌then◌else◌, ℤ, List, [], ◌∷◌, ◌++◌, map, Option, Some, None}
-use Rattle.hp_word.specs.Words.{word_of}
-use Rattle.hp_word.specs.Bytes.{high_word, low_word}
+use Rattle.spl_meaning.specs.hp_word.Words.{word_of}
+use Rattle.spl_meaning.specs.hp_word.Bytes.{high_word, low_word}
 use Rattle.spl_meaning.specs.Elements.{as_words}
 use Rattle.spl_branch.specs.declared.pieces.Piece.{Piece}
 use Rattle.spl_branch.specs.declared.pieces.Piece.TheVariants.{Literal, Place, Mark}

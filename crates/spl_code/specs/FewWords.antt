@@ -1,6 +1,6 @@
 -- How many words the code of an expression takes at most: its weight, with some to spare, which is more of a value than of a test.
 use Rattle.std.specs.Prelude.{ℕ, ◌+◌, ◌≤◌, List}
-use Rattle.spl_tree.specs.Trees.{Tree}
+use Rattle.spl_meaning.specs.spl_tree.Trees.{Tree}
 use Rattle.spl_meaning.specs.Bound.{weight}
 use Rattle.spl_branch.specs.Pieces.{count_of}
 use Rattle.spl_code.specs.Parts.{Wanted}

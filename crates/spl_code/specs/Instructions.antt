@@ -1,8 +1,8 @@
 -- The instructions that the code of expressions and stores has, as pieces, by the manual's names.
 use Rattle.std.specs.Prelude.{ℕ, ◌+◌, ◌*◌, ◌%◌, Bool, true, false}
-use Rattle.hp_instr.specs.declared.instruction.Instr.TheVariants as i
-use Rattle.hp_instr.specs.declared.instruction.Mode.{Mode}
-use Rattle.hp_instr.specs.Instructions.{op}
+use Rattle.spl_branch.specs.hp_instr.declared.instruction.Instr.TheVariants as i
+use Rattle.spl_branch.specs.hp_instr.declared.instruction.Mode.{Mode}
+use Rattle.spl_branch.specs.hp_instr.Instructions.{op}
 use Rattle.spl_branch.specs.declared.pieces.Piece.{Piece}
 use Rattle.spl_branch.specs.declared.pieces.Piece.TheVariants.{Do, Branch}
 

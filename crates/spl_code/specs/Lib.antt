@@ -9,3 +9,9 @@ pub mod Code
 pub mod Stores
 pub mod Appends
 pub mod FewWords
+-- Passed on from the crates below.
+pub use Rattle.spl_branch.specs.hp_instr
+pub use Rattle.spl_meaning.specs.hp_word
+pub use Rattle.spl_branch.specs as spl_branch
+pub use Rattle.spl_meaning.specs as spl_meaning
+pub use Rattle.spl_meaning.specs.spl_tree

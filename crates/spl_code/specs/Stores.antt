@@ -1,10 +1,10 @@
 -- Stores: what stands behind a value on top, for what a name leads to. The index of an element waits below the value.
 use Rattle.std.specs.Prelude.{ℕ, ◌+◌, Bool, true, false, if◌then◌else◌, List, [], ◌∷◌, ◌++◌}
-use Rattle.hp_instr.specs.declared.instruction.Instr.TheVariants as i
-use Rattle.hp_instr.specs.declared.instruction.Mode.{Mode}
-use Rattle.hp_instr.specs.declared.instruction.Mode.TheVariants.{SMinus}
-use Rattle.spl_tree.specs.declared.expressions.Kind.{Kind}
-use Rattle.spl_tree.specs.declared.expressions.Kind.TheVariants as kind
+use Rattle.spl_branch.specs.hp_instr.declared.instruction.Instr.TheVariants as i
+use Rattle.spl_branch.specs.hp_instr.declared.instruction.Mode.{Mode}
+use Rattle.spl_branch.specs.hp_instr.declared.instruction.Mode.TheVariants.{SMinus}
+use Rattle.spl_meaning.specs.spl_tree.declared.expressions.Kind.{Kind}
+use Rattle.spl_meaning.specs.spl_tree.declared.expressions.Kind.TheVariants as kind
 use Rattle.spl_meaning.specs.Kinds.{width}
 use Rattle.spl_meaning.specs.Places as p
 use Rattle.spl_meaning.specs.References.{Access, its_own, by_address, by_cell, its_result, nowhere}

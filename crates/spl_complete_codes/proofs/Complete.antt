@@ -6,12 +6,12 @@ use Rattle.std.proofs.Common.{◌≡◌, ◌<◌, ◌≤◌, ℕ, suc, ◌+◌, 
 use Rattle.std.specs.List.{list_all}
 use Rattle.std.proofs.lemmas.Bool.{ltb-true, and_parts, and_from}
 use Rattle.std.proofs.lemmas.List.{get_or-replicate, length-replicate}
-use Rattle.spl_branch.specs.declared.buffer.Entry as code
-use Rattle.spl_branch.specs.declared.pieces.Piece.{Piece}
-use Rattle.spl_branch.specs.Pieces.{named, is_made, is_set, is_set_if}
-use Rattle.spl_scopes.specs.Entries.{Entry, module_entries}
-use Rattle.spl_modules.specs.Made.{Made, made_of, made_from}
-use Rattle.spl_module_code.specs.Modules.{holds_main, marks_before, module_written}
+use Rattle.spl_call_indexes.specs.spl_branch.declared.buffer.Entry as code
+use Rattle.spl_call_indexes.specs.spl_branch.declared.pieces.Piece.{Piece}
+use Rattle.spl_call_indexes.specs.spl_branch.Pieces.{named, is_made, is_set, is_set_if}
+use Rattle.spl_call_indexes.specs.spl_scopes.Entries.{Entry, module_entries}
+use Rattle.spl_call_indexes.specs.spl_modules.Made.{Made, made_of, made_from}
+use Rattle.spl_call_indexes.specs.spl_module_code.Modules.{holds_main, marks_before, module_written}
 use Rattle.spl_call_indexes.proofs.ModuleLaws.{code_indexes}
 use Rattle.spl_complete_codes.specs.Laws.{CodesAreComplete}
 

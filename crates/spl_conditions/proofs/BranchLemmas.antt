@@ -1,24 +1,24 @@
 -- What stands behind a part that is done: branches, and words that are pushed.
 use Rattle.std.proofs.Common.{◌≡◌, ℕ, ◌+◌, ◌-◌, ◌<◌, ◌≤◌, Bool, false, List, [], ◌∷◌, length, refl, ap, subst, arith, inl}
 use Rattle.std.specs.Prelude.{None, if◌then◌else◌}
-use Rattle.hp_word.specs.declared.endings.Ending.TheVariants.{Running}
-use Rattle.hp_instr.specs.declared.instruction.Instr.{Instr}
-use Rattle.hp_instr.specs.declared.instruction.Instr.TheVariants as i
-use Rattle.hp_session.specs.State.{Machine, Outcome as Row}
-use Rattle.hp_memory_rows.specs.MemoryRows.{is_named}
-use Rattle.spl_branch.specs.declared.pieces.Piece.TheVariants.{Branch}
-use Rattle.spl_meaning.specs.References.{Setting}
-use Rattle.spl_meaning.specs.States.{Data, State, Exit, done, strays}
-use Rattle.spl_follow.specs.Spots.{Spot, pos, landed, Point, on, Ground}
-use Rattle.spl_follow.specs.Leading.{Leads}
-use Rattle.spl_follow.specs.Matching.{Outer, Matched, Shows, IsValue, Arrives}
-use Rattle.spl_follow.specs.Following.{Rate, tally, Goes, Follows, NoExit}
-use Rattle.spl_follow.specs.Doing.{going, turning}
-use Rattle.spl_follow.specs.Standing.{Sites, Stands}
-use Rattle.spl_follow.specs.Yielding.{Yields}
-use Rattle.spl_follow.proofs.KeepLemmas.{kept_top, kept_stack}
-use Rattle.spl_follow.proofs.RowLemmas.{no_print, shown, row_value}
-use Rattle.spl_follow.proofs.WayLemmas.{goes_none, goes_wider, lead}
+use Rattle.spl_values.specs.hp_word.declared.endings.Ending.TheVariants.{Running}
+use Rattle.spl_values.specs.hp_instr.declared.instruction.Instr.{Instr}
+use Rattle.spl_values.specs.hp_instr.declared.instruction.Instr.TheVariants as i
+use Rattle.spl_values.specs.hp_session.State.{Machine, Outcome as Row}
+use Rattle.spl_values.specs.hp_memory_rows.MemoryRows.{is_named}
+use Rattle.spl_values.specs.spl_branch.declared.pieces.Piece.TheVariants.{Branch}
+use Rattle.spl_values.specs.spl_meaning.References.{Setting}
+use Rattle.spl_values.specs.spl_meaning.States.{Data, State, Exit, done, strays}
+use Rattle.spl_values.specs.spl_follow.Spots.{Spot, pos, landed, Point, on, Ground}
+use Rattle.spl_values.specs.spl_follow.Leading.{Leads}
+use Rattle.spl_values.specs.spl_follow.Matching.{Outer, Matched, Shows, IsValue, Arrives}
+use Rattle.spl_values.specs.spl_follow.Following.{Rate, tally, Goes, Follows, NoExit}
+use Rattle.spl_values.specs.spl_follow.Doing.{going, turning}
+use Rattle.spl_values.specs.spl_follow.Standing.{Sites, Stands}
+use Rattle.spl_values.specs.spl_follow.Yielding.{Yields}
+use Rattle.spl_values.proofs.spl_follow_proofs.KeepLemmas.{kept_top, kept_stack}
+use Rattle.spl_values.proofs.spl_follow_proofs.RowLemmas.{no_print, shown, row_value}
+use Rattle.spl_values.proofs.spl_follow_proofs.WayLemmas.{goes_none, goes_wider, lead}
 
 -- ---- branches
 

@@ -1,28 +1,28 @@
 -- NOT: the value waits on top, and one operation turns each of its bits.
 use Rattle.std.proofs.Common.{ℕ, ◌+◌, ◌-◌, ◌≤◌, List, [], ◌∷◌, length, refl, subst, arith}
-use Rattle.hp_instr.specs.declared.instruction.Instr.TheVariants as i
-use Rattle.hp_instr.specs.Instructions.{op}
-use Rattle.hp_session.specs.State.{Machine}
-use Rattle.hp_stack_rows.specs.StackRows.{operated}
-use Rattle.hp_yields.proofs.StackYields as rows
-use Rattle.spl_branch.specs.declared.pieces.Piece.{Piece}
-use Rattle.spl_branch.specs.declared.pieces.Piece.TheVariants.{Do}
-use Rattle.spl_meaning.specs.Operations.{not_done}
-use Rattle.spl_meaning.specs.References.{Setting}
-use Rattle.spl_meaning.specs.States.{Data, State, Outcome, then_go}
-use Rattle.spl_code.specs.Code.{as_value}
-use Rattle.spl_code.specs.Parts.{Part, pieces, ◌⨟◌}
-use Rattle.spl_follow.specs.Spots.{Spot, pos, on, Ground}
-use Rattle.spl_follow.specs.Leading.{Leads}
-use Rattle.spl_follow.specs.Matching.{IsValue}
-use Rattle.spl_follow.specs.Following.{Rate, tally, tally_with, Follows, NoExit}
-use Rattle.spl_follow.specs.Doing.{doing}
-use Rattle.spl_follow.specs.Simulating.{Surroundings, Simulates}
-use Rattle.spl_follow.specs.Standing.{Stands}
-use Rattle.spl_follow.specs.Yielding.{Yields}
-use Rattle.spl_follow.proofs.FollowLemmas.{bind_follows}
-use Rattle.spl_follow.proofs.KeepLemmas.{value_word}
-use Rattle.spl_follow.proofs.PartLemmas.{stand_in_order}
+use Rattle.spl_values.specs.hp_instr.declared.instruction.Instr.TheVariants as i
+use Rattle.spl_values.specs.hp_instr.Instructions.{op}
+use Rattle.spl_values.specs.hp_session.State.{Machine}
+use Rattle.spl_values.specs.hp_stack_rows.StackRows.{operated}
+use Rattle.spl_values.proofs.hp_yields_proofs.StackYields as rows
+use Rattle.spl_values.specs.spl_branch.declared.pieces.Piece.{Piece}
+use Rattle.spl_values.specs.spl_branch.declared.pieces.Piece.TheVariants.{Do}
+use Rattle.spl_values.specs.spl_meaning.Operations.{not_done}
+use Rattle.spl_values.specs.spl_meaning.References.{Setting}
+use Rattle.spl_values.specs.spl_meaning.States.{Data, State, Outcome, then_go}
+use Rattle.spl_values.specs.spl_code.Code.{as_value}
+use Rattle.spl_values.specs.spl_code.Parts.{Part, pieces, ◌⨟◌}
+use Rattle.spl_values.specs.spl_follow.Spots.{Spot, pos, on, Ground}
+use Rattle.spl_values.specs.spl_follow.Leading.{Leads}
+use Rattle.spl_values.specs.spl_follow.Matching.{IsValue}
+use Rattle.spl_values.specs.spl_follow.Following.{Rate, tally, tally_with, Follows, NoExit}
+use Rattle.spl_values.specs.spl_follow.Doing.{doing}
+use Rattle.spl_values.specs.spl_follow.Simulating.{Surroundings, Simulates}
+use Rattle.spl_values.specs.spl_follow.Standing.{Stands}
+use Rattle.spl_values.specs.spl_follow.Yielding.{Yields}
+use Rattle.spl_values.proofs.spl_follow_proofs.FollowLemmas.{bind_follows}
+use Rattle.spl_values.proofs.spl_follow_proofs.KeepLemmas.{value_word}
+use Rattle.spl_values.proofs.spl_follow_proofs.PartLemmas.{stand_in_order}
 use Rattle.spl_values.specs.Reached.{IsWhole}
 use Rattle.spl_values.proofs.GiveLemmas.{last_leads, value_row}
 use Rattle.spl_conditions.specs.Laws.{ComplementsSimulate}

@@ -1,31 +1,31 @@
 -- Values as tests, and conditions as values: all ones where the test goes on, and zero at its mark.
 use Rattle.std.proofs.Common.{◌≡◌, ℕ, suc, ◌+◌, ◌-◌, ◌≤◌, Bool, true, false, List, [], ◌∷◌, ◌++◌, refl, sym, ap, subst, ◌∙◌, arith}
-use Rattle.hp_instr.specs.Instructions.{op}
-use Rattle.hp_instr.specs.declared.instruction.Instr.TheVariants as i
-use Rattle.hp_session.specs.State.{Machine}
-use Rattle.hp_stack_rows.specs.StackRows.{operated}
-use Rattle.hp_word_rows.specs.WordRows.{minus, immediate_row}
-use Rattle.hp_flat.specs.Step.{at_left}
-use Rattle.hp_yields.proofs.StackYields as stack
-use Rattle.hp_yields.proofs.WordYields as rows
-use Rattle.spl_branch.specs.declared.pieces.Piece.{Piece}
-use Rattle.spl_branch.specs.declared.pieces.Piece.TheVariants.{Mark}
-use Rattle.spl_meaning.specs.Names.{truth_word}
-use Rattle.spl_meaning.specs.Operations.{is_odd}
-use Rattle.spl_meaning.specs.States.{Data, State, Outcome, done, leaves, spent, ends, strays, then_go}
-use Rattle.spl_code.specs.Code.{Aim, as_value, as_test, condition}
-use Rattle.spl_code.specs.Instructions.{ZERO, LDNI, BR, BRE}
-use Rattle.spl_code.specs.Parts.{Part, piece, ◌⨟◌, with_fresh}
-use Rattle.spl_follow.specs.Spots.{Spot, pos, Point, on, Ground}
-use Rattle.spl_follow.specs.Doing.{doing}
-use Rattle.spl_follow.specs.Following.{Rate, Tally, tally, tally_with, Follows, NoExit}
-use Rattle.spl_follow.specs.Matching.{IsValue, Arrives}
-use Rattle.spl_follow.specs.Parts.{Truth, Tested}
-use Rattle.spl_follow.specs.Simulating.{Surroundings, Simulates}
-use Rattle.spl_follow.specs.Standing.{Stands}
-use Rattle.spl_follow.specs.Yielding.{Yields}
-use Rattle.spl_follow.proofs.FollowLemmas.{widen, then_follows, tail_follows}
-use Rattle.spl_follow.proofs.PartLemmas.{stand_in_order, values_tested}
+use Rattle.spl_values.specs.hp_instr.Instructions.{op}
+use Rattle.spl_values.specs.hp_instr.declared.instruction.Instr.TheVariants as i
+use Rattle.spl_values.specs.hp_session.State.{Machine}
+use Rattle.spl_values.specs.hp_stack_rows.StackRows.{operated}
+use Rattle.spl_values.specs.hp_word_rows.WordRows.{minus, immediate_row}
+use Rattle.spl_values.specs.hp_flat.Step.{at_left}
+use Rattle.spl_values.proofs.hp_yields_proofs.StackYields as stack
+use Rattle.spl_values.proofs.hp_yields_proofs.WordYields as rows
+use Rattle.spl_values.specs.spl_branch.declared.pieces.Piece.{Piece}
+use Rattle.spl_values.specs.spl_branch.declared.pieces.Piece.TheVariants.{Mark}
+use Rattle.spl_values.specs.spl_meaning.Names.{truth_word}
+use Rattle.spl_values.specs.spl_meaning.Operations.{is_odd}
+use Rattle.spl_values.specs.spl_meaning.States.{Data, State, Outcome, done, leaves, spent, ends, strays, then_go}
+use Rattle.spl_values.specs.spl_code.Code.{Aim, as_value, as_test, condition}
+use Rattle.spl_values.specs.spl_code.Instructions.{ZERO, LDNI, BR, BRE}
+use Rattle.spl_values.specs.spl_code.Parts.{Part, piece, ◌⨟◌, with_fresh}
+use Rattle.spl_values.specs.spl_follow.Spots.{Spot, pos, Point, on, Ground}
+use Rattle.spl_values.specs.spl_follow.Doing.{doing}
+use Rattle.spl_values.specs.spl_follow.Following.{Rate, Tally, tally, tally_with, Follows, NoExit}
+use Rattle.spl_values.specs.spl_follow.Matching.{IsValue, Arrives}
+use Rattle.spl_values.specs.spl_follow.Parts.{Truth, Tested}
+use Rattle.spl_values.specs.spl_follow.Simulating.{Surroundings, Simulates}
+use Rattle.spl_values.specs.spl_follow.Standing.{Stands}
+use Rattle.spl_values.specs.spl_follow.Yielding.{Yields}
+use Rattle.spl_values.proofs.spl_follow_proofs.FollowLemmas.{widen, then_follows, tail_follows}
+use Rattle.spl_values.proofs.spl_follow_proofs.PartLemmas.{stand_in_order, values_tested}
 use Rattle.spl_values.specs.Reached.{IsWhole}
 use Rattle.spl_values.proofs.WholeLemmas.{whole_behind, whole_mark, whole_fresh, last_simulates}
 use Rattle.spl_conditions.specs.Laws.{ClosedValuesSimulate}

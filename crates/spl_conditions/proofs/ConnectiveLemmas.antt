@@ -3,32 +3,32 @@ use Rattle.std.proofs.Common.{◌≡◌, ◌⊎◌, inl, inr, ℕ, zero, suc, �
 use Rattle.std.specs.Prelude.{None, if◌then◌else◌}
 use Rattle.std.proofs.lemmas.Bool.{ltb-true}
 use Rattle.std.proofs.Math.Logic.{⊎_elim}
-use Rattle.hp_session.specs.State.{Machine}
-use Rattle.spl_branch.specs.declared.pieces.Piece.{Piece}
-use Rattle.spl_branch.specs.declared.pieces.Piece.TheVariants.{Mark}
-use Rattle.spl_meaning.specs.Elements.{with_one}
-use Rattle.spl_meaning.specs.Kinds.{is_connective}
-use Rattle.spl_meaning.specs.Laws.{IsFront}
-use Rattle.spl_meaning.specs.Names.{truth_word}
-use Rattle.spl_meaning.specs.Operations.{is_odd}
-use Rattle.spl_meaning.specs.References.{Setting}
-use Rattle.spl_meaning.specs.States.{Data, State, Outcome, done, leaves, spent, ends, strays, then_go}
-use Rattle.spl_meaning.specs.Values as meant
-use Rattle.spl_code.specs.Code as made
-use Rattle.spl_code.specs.Code.{Aim, as_value, as_test}
-use Rattle.spl_code.specs.Instructions.{BR}
-use Rattle.spl_code.specs.Parts.{Part, Wanted, piece, ◌⨟◌, with_fresh}
-use Rattle.spl_follow.specs.Spots.{Spot, pos, Point, on, Ground}
-use Rattle.spl_follow.specs.Following.{Rate, Tally, tally, tally_with, Follows, NoExit}
-use Rattle.spl_follow.specs.Matching.{Kept, Arrives}
-use Rattle.spl_follow.specs.Parts.{Truth, Tested}
-use Rattle.spl_follow.specs.Simulating.{Surroundings, Simulates}
-use Rattle.spl_follow.specs.Standing.{Stands}
-use Rattle.spl_follow.proofs.FollowLemmas.{bind_follows, widen, weaken}
-use Rattle.spl_follow.proofs.KeepLemmas.{arrives_after, arrives_ready}
-use Rattle.spl_follow.proofs.PartLemmas.{stand_in_order}
-use Rattle.spl_follow.proofs.RowLemmas.{row_branches}
-use Rattle.spl_follow.proofs.WayLemmas.{goes_wider}
+use Rattle.spl_values.specs.hp_session.State.{Machine}
+use Rattle.spl_values.specs.spl_branch.declared.pieces.Piece.{Piece}
+use Rattle.spl_values.specs.spl_branch.declared.pieces.Piece.TheVariants.{Mark}
+use Rattle.spl_values.specs.spl_meaning.Elements.{with_one}
+use Rattle.spl_values.specs.spl_meaning.Kinds.{is_connective}
+use Rattle.spl_values.specs.spl_meaning.Laws.{IsFront}
+use Rattle.spl_values.specs.spl_meaning.Names.{truth_word}
+use Rattle.spl_values.specs.spl_meaning.Operations.{is_odd}
+use Rattle.spl_values.specs.spl_meaning.References.{Setting}
+use Rattle.spl_values.specs.spl_meaning.States.{Data, State, Outcome, done, leaves, spent, ends, strays, then_go}
+use Rattle.spl_values.specs.spl_meaning.Values as meant
+use Rattle.spl_values.specs.spl_code.Code as made
+use Rattle.spl_values.specs.spl_code.Code.{Aim, as_value, as_test}
+use Rattle.spl_values.specs.spl_code.Instructions.{BR}
+use Rattle.spl_values.specs.spl_code.Parts.{Part, Wanted, piece, ◌⨟◌, with_fresh}
+use Rattle.spl_values.specs.spl_follow.Spots.{Spot, pos, Point, on, Ground}
+use Rattle.spl_values.specs.spl_follow.Following.{Rate, Tally, tally, tally_with, Follows, NoExit}
+use Rattle.spl_values.specs.spl_follow.Matching.{Kept, Arrives}
+use Rattle.spl_values.specs.spl_follow.Parts.{Truth, Tested}
+use Rattle.spl_values.specs.spl_follow.Simulating.{Surroundings, Simulates}
+use Rattle.spl_values.specs.spl_follow.Standing.{Stands}
+use Rattle.spl_values.proofs.spl_follow_proofs.FollowLemmas.{bind_follows, widen, weaken}
+use Rattle.spl_values.proofs.spl_follow_proofs.KeepLemmas.{arrives_after, arrives_ready}
+use Rattle.spl_values.proofs.spl_follow_proofs.PartLemmas.{stand_in_order}
+use Rattle.spl_values.proofs.spl_follow_proofs.RowLemmas.{row_branches}
+use Rattle.spl_values.proofs.spl_follow_proofs.WayLemmas.{goes_wider}
 use Rattle.spl_values.specs.Reached.{IsWhole}
 use Rattle.spl_values.proofs.SumLemmas.{front_on}
 use Rattle.spl_values.proofs.WholeLemmas.{whole_then, whole_behind, whole_mark, whole_fresh}

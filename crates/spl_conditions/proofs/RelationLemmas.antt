@@ -2,39 +2,39 @@
 use Rattle.std.proofs.Common.{◌≡◌, ℕ, ◌+◌, ◌-◌, ◌≤◌, Bool, true, false, List, [], ◌∷◌, ◌++◌, length, refl, sym, ap, subst, ◌∙◌, arith}
 use Rattle.std.specs.Prelude.{◌==◌, not, take, if◌then◌else◌}
 use Rattle.std.proofs.lemmas.Bool.{false≢true}
-use Rattle.hp_word.specs.declared.arithmetic.Code.{Code}
-use Rattle.hp_word.specs.declared.arithmetic.Code.TheVariants.{Greater, Less, Equal}
-use Rattle.hp_word.specs.Words.{words_compared, logically_compared}
-use Rattle.hp_instr.specs.declared.instruction.Instr.TheVariants as i
-use Rattle.hp_instr.specs.Instructions.{op}
-use Rattle.hp_session.specs.State.{Machine, word}
-use Rattle.hp_stack_rows.specs.StackRows.{operated}
-use Rattle.hp_memory_rows.specs.MemoryRows.{is_named}
-use Rattle.hp_yields.specs.Rows.{Codes}
-use Rattle.hp_yields.proofs.StackYields as rows
-use Rattle.spl_branch.specs.declared.pieces.Piece.TheVariants.{Do}
-use Rattle.spl_meaning.specs.Kinds.{Class, integers, logicals, doubles, mixed, is_relation, relation_number}
-use Rattle.spl_meaning.specs.Names.{truth_word}
-use Rattle.spl_meaning.specs.Operations.{is_odd, is_greater, is_less, is_equal, related, relation_done, by_class}
-use Rattle.spl_meaning.specs.References.{Setting}
-use Rattle.spl_meaning.specs.States.{Data, State, Outcome, then_go}
-use Rattle.spl_code.specs.Code as made
-use Rattle.spl_code.specs.Code.{Aim, as_value, as_test}
-use Rattle.spl_code.specs.Instructions.{BCC}
-use Rattle.spl_code.specs.Operators.{comparison, failing_codes}
-use Rattle.spl_code.specs.Parts.{Part, pieces, ◌⨟◌}
-use Rattle.spl_follow.specs.Spots.{Spot, pos, landed, on, Ground}
-use Rattle.spl_follow.specs.Leading.{Leads}
-use Rattle.spl_follow.specs.Matching.{outer, Matches, Kept, Coded, IsValue, Arrives}
-use Rattle.spl_follow.specs.Following.{Rate, tally, Goes, Follows, NoExit}
-use Rattle.spl_follow.specs.Doing.{doing, turning}
-use Rattle.spl_follow.specs.Parts.{Tested}
-use Rattle.spl_follow.specs.Simulating.{Surroundings, Simulates}
-use Rattle.spl_follow.proofs.FollowLemmas.{then_follows}
-use Rattle.spl_follow.proofs.KeepLemmas.{kept_top, matched_length, value_ready}
-use Rattle.spl_follow.proofs.PartLemmas.{stand_in_order}
-use Rattle.spl_follow.proofs.RowLemmas.{becomes_goes, becomes_matches, yields_matched, yields_kept}
-use Rattle.spl_follow.proofs.StandLemmas.{closed_last}
+use Rattle.spl_values.specs.hp_word.declared.arithmetic.Code.{Code}
+use Rattle.spl_values.specs.hp_word.declared.arithmetic.Code.TheVariants.{Greater, Less, Equal}
+use Rattle.spl_values.specs.hp_word.Words.{words_compared, logically_compared}
+use Rattle.spl_values.specs.hp_instr.declared.instruction.Instr.TheVariants as i
+use Rattle.spl_values.specs.hp_instr.Instructions.{op}
+use Rattle.spl_values.specs.hp_session.State.{Machine, word}
+use Rattle.spl_values.specs.hp_stack_rows.StackRows.{operated}
+use Rattle.spl_values.specs.hp_memory_rows.MemoryRows.{is_named}
+use Rattle.spl_values.specs.hp_yields.Rows.{Codes}
+use Rattle.spl_values.proofs.hp_yields_proofs.StackYields as rows
+use Rattle.spl_values.specs.spl_branch.declared.pieces.Piece.TheVariants.{Do}
+use Rattle.spl_values.specs.spl_meaning.Kinds.{Class, integers, logicals, doubles, mixed, is_relation, relation_number}
+use Rattle.spl_values.specs.spl_meaning.Names.{truth_word}
+use Rattle.spl_values.specs.spl_meaning.Operations.{is_odd, is_greater, is_less, is_equal, related, relation_done, by_class}
+use Rattle.spl_values.specs.spl_meaning.References.{Setting}
+use Rattle.spl_values.specs.spl_meaning.States.{Data, State, Outcome, then_go}
+use Rattle.spl_values.specs.spl_code.Code as made
+use Rattle.spl_values.specs.spl_code.Code.{Aim, as_value, as_test}
+use Rattle.spl_values.specs.spl_code.Instructions.{BCC}
+use Rattle.spl_values.specs.spl_code.Operators.{comparison, failing_codes}
+use Rattle.spl_values.specs.spl_code.Parts.{Part, pieces, ◌⨟◌}
+use Rattle.spl_values.specs.spl_follow.Spots.{Spot, pos, landed, on, Ground}
+use Rattle.spl_values.specs.spl_follow.Leading.{Leads}
+use Rattle.spl_values.specs.spl_follow.Matching.{outer, Matches, Kept, Coded, IsValue, Arrives}
+use Rattle.spl_values.specs.spl_follow.Following.{Rate, tally, Goes, Follows, NoExit}
+use Rattle.spl_values.specs.spl_follow.Doing.{doing, turning}
+use Rattle.spl_values.specs.spl_follow.Parts.{Tested}
+use Rattle.spl_values.specs.spl_follow.Simulating.{Surroundings, Simulates}
+use Rattle.spl_values.proofs.spl_follow_proofs.FollowLemmas.{then_follows}
+use Rattle.spl_values.proofs.spl_follow_proofs.KeepLemmas.{kept_top, matched_length, value_ready}
+use Rattle.spl_values.proofs.spl_follow_proofs.PartLemmas.{stand_in_order}
+use Rattle.spl_values.proofs.spl_follow_proofs.RowLemmas.{becomes_goes, becomes_matches, yields_matched, yields_kept}
+use Rattle.spl_values.proofs.spl_follow_proofs.StandLemmas.{closed_last}
 use Rattle.spl_values.specs.Reached.{is_word_class, IsWhole}
 use Rattle.spl_values.proofs.GiveLemmas.{last_leads}
 use Rattle.spl_values.proofs.SumLemmas.{lower_is, upper_is, two_there, operands_follow, front_on}

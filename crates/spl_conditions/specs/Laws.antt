@@ -1,15 +1,15 @@
 -- The laws of this crate: values as tests, relations, NOT, AND and OR, each over its parts as variables. A test goes on where it holds, and
 -- leads to its mark where it does not.
 use Rattle.std.specs.Prelude.{◌≡◌, ℕ, ◌+◌, ◌≤◌, true, List}
-use Rattle.spl_meaning.specs.Kinds.{Class, Operand, complement, is_connective, is_relation, relation_number}
-use Rattle.spl_meaning.specs.Operations.{by_class, signed_done}
-use Rattle.spl_meaning.specs.States.{State, Outcome, then_go}
-use Rattle.spl_meaning.specs.Values as meant
-use Rattle.spl_code.specs.Parts.{Part, pieces, ◌⨟◌}
-use Rattle.spl_code.specs.Operators.{sign_operator}
-use Rattle.spl_code.specs.Code as made
-use Rattle.spl_code.specs.Code.{Aim, as_value, as_test, closing}
-use Rattle.spl_follow.specs.Simulating.{Surroundings, Simulates}
+use Rattle.spl_values.specs.spl_meaning.Kinds.{Class, Operand, complement, is_connective, is_relation, relation_number}
+use Rattle.spl_values.specs.spl_meaning.Operations.{by_class, signed_done}
+use Rattle.spl_values.specs.spl_meaning.States.{State, Outcome, then_go}
+use Rattle.spl_values.specs.spl_meaning.Values as meant
+use Rattle.spl_values.specs.spl_code.Parts.{Part, pieces, ◌⨟◌}
+use Rattle.spl_values.specs.spl_code.Operators.{sign_operator}
+use Rattle.spl_values.specs.spl_code.Code as made
+use Rattle.spl_values.specs.spl_code.Code.{Aim, as_value, as_test, closing}
+use Rattle.spl_values.specs.spl_follow.Simulating.{Surroundings, Simulates}
 use Rattle.spl_values.specs.Reached.{is_word_class, IsWhole}
 
 -- a value that is wanted stays as it is; one that is tested is deleted, and its lowest bit decides

@@ -2,11 +2,11 @@
 use Rattle.std.proofs.Common.{◌≡◌, ℕ, zero, suc, ◌+◌, ◌-◌, ◌*◌, ◌≤◌, ◌<◌, Bool, true, false, List, refl, ap, subst, arith, inl}
 use Rattle.std.specs.Prelude.{min, nat_lt, if◌then◌else◌}
 use Rattle.std.proofs.lemmas.Bool.{ltb-true, ltb-false}
-use Rattle.hp_instr.specs.declared.instruction.Instr.TheVariants as i
-use Rattle.hp_session.specs.State.{Machine}
-use Rattle.spl_meaning.specs.References.{Setting}
-use Rattle.spl_meaning.specs.Statements.{looping, repeating, landing}
-use Rattle.spl_meaning.specs.States.{Data, State, Exit, to_label, back, Outcome, done, leaves, spent, ends, strays, then_go, stepping}
+use Rattle.spl_follow.specs.hp_instr.declared.instruction.Instr.TheVariants as i
+use Rattle.spl_follow.specs.hp_session.State.{Machine}
+use Rattle.spl_follow.specs.spl_meaning.References.{Setting}
+use Rattle.spl_follow.specs.spl_meaning.Statements.{looping, repeating, landing}
+use Rattle.spl_follow.specs.spl_meaning.States.{Data, State, Exit, to_label, back, Outcome, done, leaves, spent, ends, strays, then_go, stepping}
 use Rattle.spl_follow.specs.Spots.{Spot, pos, on, Ground}
 use Rattle.spl_follow.specs.Leading.{Leads}
 use Rattle.spl_follow.specs.Matching.{Kept, Arrives}

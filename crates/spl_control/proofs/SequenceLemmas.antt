@@ -1,9 +1,9 @@
 -- Code of statements, one behind the other.
 use Rattle.std.proofs.Common.{◌+◌, List, ◌++◌, ap, subst, ◌∙◌, arith}
 use Rattle.std.proofs.lemmas.List.{append_assoc}
-use Rattle.spl_meaning.specs.Laws.{IsFront}
-use Rattle.spl_meaning.specs.States.{done}
-use Rattle.spl_code.specs.Parts.{Wanted}
+use Rattle.spl_follow.specs.spl_meaning.Laws.{IsFront}
+use Rattle.spl_follow.specs.spl_meaning.States.{done}
+use Rattle.spl_follow.specs.spl_code.Parts.{Wanted}
 use Rattle.spl_follow.specs.Spots.{Spot, Point}
 use Rattle.spl_follow.specs.Following.{tally}
 use Rattle.spl_follow.specs.Parts.{RunsAll}

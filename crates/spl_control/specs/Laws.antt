@@ -1,10 +1,10 @@
 -- The laws of control: choices, loops and jumps, whatever their parts are, where these are followed.
 use Rattle.std.specs.Prelude.{◌≡◌, ℕ, ◌+◌, ◌-◌, ◌≤◌, ◌<◌, Bool, true, false, if◌then◌else◌, List, None}
-use Rattle.hp_instr.specs.declared.instruction.Instr.TheVariants as i
-use Rattle.hp_session.specs.State.{Machine}
-use Rattle.spl_meaning.specs.References.{Setting}
-use Rattle.spl_meaning.specs.Statements.{looping, repeating, landing}
-use Rattle.spl_meaning.specs.States.{Data, State, Exit, to_label, back, Outcome, done, leaves, spent, ends, strays, then_go}
+use Rattle.spl_follow.specs.hp_instr.declared.instruction.Instr.TheVariants as i
+use Rattle.spl_follow.specs.hp_session.State.{Machine}
+use Rattle.spl_follow.specs.spl_meaning.References.{Setting}
+use Rattle.spl_follow.specs.spl_meaning.Statements.{looping, repeating, landing}
+use Rattle.spl_follow.specs.spl_meaning.States.{Data, State, Exit, to_label, back, Outcome, done, leaves, spent, ends, strays, then_go}
 use Rattle.spl_follow.specs.Spots.{Spot, pos, on, Ground}
 use Rattle.spl_follow.specs.Leading.{Leads}
 use Rattle.spl_follow.specs.Matching.{Arrives}

@@ -1,10 +1,10 @@
 -- The laws of statements one behind the other, over the code that simulates them wherever it stands.
 use Rattle.std.specs.Prelude.{◌≡◌, ℕ, false, List, [], ◌∷◌}
-use Rattle.hp_instr.specs.declared.instruction.Instr.TheVariants as i
-use Rattle.spl_branch.specs.declared.pieces.Piece.TheVariants.{Do}
-use Rattle.spl_meaning.specs.Laws.{IsFront}
-use Rattle.spl_meaning.specs.States.{State, Outcome, done, then_go, beginning}
-use Rattle.spl_code.specs.Parts.{Part, Wanted, pieces, ◌⨟◌}
+use Rattle.spl_follow.specs.hp_instr.declared.instruction.Instr.TheVariants as i
+use Rattle.spl_follow.specs.spl_branch.declared.pieces.Piece.TheVariants.{Do}
+use Rattle.spl_follow.specs.spl_meaning.Laws.{IsFront}
+use Rattle.spl_follow.specs.spl_meaning.States.{State, Outcome, done, then_go, beginning}
+use Rattle.spl_follow.specs.spl_code.Parts.{Part, Wanted, pieces, ◌⨟◌}
 use Rattle.spl_follow.specs.Standing.{due_after}
 use Rattle.spl_follow.specs.Simulating.{Surroundings, Performs, PerformsAll}
 

@@ -1,38 +1,38 @@
 -- A variable that counts, at its address: how it is read and raised, and what TBA and MTBA do with address, step and limit on top.
-use Rattle.std.proofs.Common.{◌≡◌, ◌⊎◌, ℕ, ◌+◌, ◌-◌, ◌<◌, ◌≤◌, Bool, true, false, List, [], ◌∷◌, ◌++◌, length, refl, sym, ap, subst, ◌∙◌, arith}
+use Rattle.std.proofs.Common.{◌≡◌, ℕ, ◌+◌, ◌-◌, ◌<◌, ◌≤◌, Bool, true, false, List, [], ◌∷◌, ◌++◌, length, refl, sym, ap, subst, ◌∙◌, arith}
 use Rattle.std.specs.Prelude.{Option, Some, None, Ok, Err, nat_lt, take, slice_index, slice_set, if◌then◌else◌}
 use Rattle.std.proofs.lemmas.Bool.{eq-eqb}
 use Rattle.std.proofs.lemmas.List.{append-nil, length-set, get_or-set_same, get_or-set_other}
 use Rattle.std.proofs.lemmas.Option.{none-some}
 use Rattle.std.proofs.Math.Logic.{⊎_elim}
-use Rattle.hp_word.specs.declared.arithmetic.Code.{Code}
-use Rattle.hp_word.specs.declared.endings.Trap.TheVariants.{Bounds, IntegerOverflow}
-use Rattle.hp_word.specs.Words.{added}
-use Rattle.hp_instr.specs.declared.instruction.Instr.TheVariants as i
-use Rattle.hp_session.specs.declared.places.Place.TheVariants.{Stack}
-use Rattle.hp_session.specs.State.{Machine, word, without}
-use Rattle.hp_session.specs.Places.{read_at, written}
-use Rattle.hp_memory_rows.specs.MemoryRows as machine
-use Rattle.hp_flat.specs.Step.{at_left, ended}
-use Rattle.hp_yields.proofs.MemoryYields as rows
+use Rattle.spl_choices.specs.hp_word.declared.arithmetic.Code.{Code}
+use Rattle.spl_choices.specs.hp_word.declared.endings.Trap.TheVariants.{Bounds, IntegerOverflow}
+use Rattle.spl_choices.specs.hp_word.Words.{added}
+use Rattle.spl_choices.specs.hp_instr.declared.instruction.Instr.TheVariants as i
+use Rattle.spl_choices.specs.hp_session.declared.places.Place.TheVariants.{Stack}
+use Rattle.spl_choices.specs.hp_session.State.{Machine, word, without}
+use Rattle.spl_choices.specs.hp_session.Places.{read_at, written}
+use Rattle.spl_choices.specs.hp_memory_rows.MemoryRows as machine
+use Rattle.spl_choices.specs.hp_flat.Step.{at_left, ended}
+use Rattle.hp_call_yields.proofs.hp_yields_proofs.MemoryYields as rows
 use Rattle.hp_call_yields.proofs.LoopYields as loop
-use Rattle.spl_tree.specs.declared.expressions.Kind.TheVariants as kind
-use Rattle.spl_meaning.specs.Elements.{with_one}
-use Rattle.spl_meaning.specs.Operations.{word_done}
-use Rattle.spl_meaning.specs.Places.{put}
-use Rattle.spl_meaning.specs.References.{Setting, Located, variable_located, data_word_read, read, store, placed_word}
-use Rattle.spl_meaning.specs.States.{Data, State, Outcome, done, ends, strays, trapped, then_go}
-use Rattle.spl_meaning.specs.Statements.{goes_on, raised}
-use Rattle.spl_follow.specs.Spots.{Spot, spot, pos, landed, on, Ground, print_between}
-use Rattle.spl_follow.specs.Leading.{Leads}
-use Rattle.spl_follow.specs.Matching.{Outer, outer, Matches, Kept, Stand, IsValue, Arrives, Coded}
-use Rattle.spl_follow.specs.Following.{Rate, tally, Goes}
-use Rattle.spl_follow.specs.Doing.{turned, turning, loop_turning}
-use Rattle.spl_follow.proofs.KeepLemmas.{kept_top, matched_length, value_word}
-use Rattle.spl_follow.proofs.RowLemmas.{no_print, shown, yields_matched, yields_kept, put_cases, put_none}
-use Rattle.spl_follow.proofs.StackLemmas.{stand_kept}
-use Rattle.spl_follow.proofs.WayLemmas.{lead}
-use Rattle.spl_values.proofs.SumLemmas.{added_small}
+use Rattle.spl_choices.specs.spl_tree.declared.expressions.Kind.TheVariants as kind
+use Rattle.spl_choices.specs.spl_meaning.Elements.{with_one}
+use Rattle.spl_choices.specs.spl_meaning.Operations.{word_done}
+use Rattle.spl_choices.specs.spl_meaning.Places.{put}
+use Rattle.spl_choices.specs.spl_meaning.References.{Setting, Located, variable_located, data_word_read, read, store, placed_word}
+use Rattle.spl_choices.specs.spl_meaning.States.{Data, State, Outcome, done, ends, strays, trapped, then_go}
+use Rattle.spl_choices.specs.spl_meaning.Statements.{goes_on, raised}
+use Rattle.spl_choices.specs.spl_follow.Spots.{Spot, spot, pos, landed, on, Ground, print_between}
+use Rattle.spl_choices.specs.spl_follow.Leading.{Leads}
+use Rattle.spl_choices.specs.spl_follow.Matching.{Outer, outer, Matches, Kept, Stand, IsValue, Arrives, Coded}
+use Rattle.spl_choices.specs.spl_follow.Following.{Rate, tally, Goes}
+use Rattle.spl_choices.specs.spl_follow.Doing.{turned, turning, loop_turning}
+use Rattle.spl_choices.proofs.spl_follow_proofs.KeepLemmas.{kept_top, matched_length, value_word}
+use Rattle.spl_choices.proofs.spl_follow_proofs.RowLemmas.{no_print, shown, yields_matched, yields_kept, put_cases, put_none}
+use Rattle.spl_choices.proofs.spl_follow_proofs.StackLemmas.{stand_kept}
+use Rattle.spl_choices.proofs.spl_follow_proofs.WayLemmas.{lead}
+use Rattle.spl_tops.proofs.spl_values_proofs.SumLemmas.{added_small}
 
 -- ---- what is meant
 

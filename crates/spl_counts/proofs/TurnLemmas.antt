@@ -3,29 +3,29 @@
 use Rattle.std.proofs.Common.{◌≡◌, ℕ, zero, suc, ◌+◌, ◌-◌, ◌<◌, ◌≤◌, Bool, true, false, List, [], ◌∷◌, refl, sym, ap, subst, arith, inl}
 use Rattle.std.specs.Prelude.{Option, Some, None, Err, nat_lt, min, if◌then◌else◌}
 use Rattle.std.proofs.lemmas.Bool.{ltb-false}
-use Rattle.hp_word.specs.declared.arithmetic.Code.{Code}
-use Rattle.hp_word.specs.declared.endings.Trap.{Trap}
-use Rattle.hp_word.specs.declared.endings.Trap.TheVariants.{Bounds, IntegerOverflow}
-use Rattle.hp_word.specs.Words.{added}
-use Rattle.hp_instr.specs.declared.instruction.Instr.{Instr}
-use Rattle.hp_instr.specs.declared.instruction.Instr.TheVariants as i
-use Rattle.hp_session.specs.State.{Machine}
-use Rattle.hp_flat.specs.Step.{at_left, ended}
-use Rattle.spl_meaning.specs.Elements.{with_one}
-use Rattle.spl_meaning.specs.References.{Setting, read, placed_word}
-use Rattle.spl_meaning.specs.States.{Data, State, Exit, Outcome, done, ends, trapped, then_go}
-use Rattle.spl_meaning.specs.Statements.{goes_on, raised, counting}
-use Rattle.spl_follow.specs.Spots.{Spot, spot, pos, on, Ground}
-use Rattle.spl_follow.specs.Leading.{Leads}
-use Rattle.spl_follow.specs.Matching.{Matched, IsValue, Arrives, Coded}
-use Rattle.spl_follow.specs.Following.{Rate, tally, Follows}
-use Rattle.spl_follow.specs.Doing.{turned, turning}
-use Rattle.spl_follow.specs.Parts.{Begins, Exits, Leaving}
-use Rattle.spl_follow.proofs.FollowLemmas.{then_follows, bind_follows, weaken, widen, spend_follows}
-use Rattle.spl_follow.proofs.KeepLemmas.{kept_top, kept_stack, values_join, arrives_after}
-use Rattle.spl_follow.proofs.RowLemmas.{shown, stray_here, row_trap, row_branches}
-use Rattle.spl_follow.proofs.WayLemmas.{goes_none, goes_wider}
-use Rattle.spl_control.specs.Laws.{Settles}
+use Rattle.spl_choices.specs.hp_word.declared.arithmetic.Code.{Code}
+use Rattle.spl_choices.specs.hp_word.declared.endings.Trap.{Trap}
+use Rattle.spl_choices.specs.hp_word.declared.endings.Trap.TheVariants.{Bounds, IntegerOverflow}
+use Rattle.spl_choices.specs.hp_word.Words.{added}
+use Rattle.spl_choices.specs.hp_instr.declared.instruction.Instr.{Instr}
+use Rattle.spl_choices.specs.hp_instr.declared.instruction.Instr.TheVariants as i
+use Rattle.spl_choices.specs.hp_session.State.{Machine}
+use Rattle.spl_choices.specs.hp_flat.Step.{at_left, ended}
+use Rattle.spl_choices.specs.spl_meaning.Elements.{with_one}
+use Rattle.spl_choices.specs.spl_meaning.References.{Setting, read, placed_word}
+use Rattle.spl_choices.specs.spl_meaning.States.{Data, State, Exit, Outcome, done, ends, trapped, then_go}
+use Rattle.spl_choices.specs.spl_meaning.Statements.{goes_on, raised, counting}
+use Rattle.spl_choices.specs.spl_follow.Spots.{Spot, spot, pos, on, Ground}
+use Rattle.spl_choices.specs.spl_follow.Leading.{Leads}
+use Rattle.spl_choices.specs.spl_follow.Matching.{Matched, IsValue, Arrives, Coded}
+use Rattle.spl_choices.specs.spl_follow.Following.{Rate, tally, Follows}
+use Rattle.spl_choices.specs.spl_follow.Doing.{turned, turning}
+use Rattle.spl_choices.specs.spl_follow.Parts.{Begins, Exits, Leaving}
+use Rattle.spl_choices.proofs.spl_follow_proofs.FollowLemmas.{then_follows, bind_follows, weaken, widen, spend_follows}
+use Rattle.spl_choices.proofs.spl_follow_proofs.KeepLemmas.{kept_top, kept_stack, values_join, arrives_after}
+use Rattle.spl_choices.proofs.spl_follow_proofs.RowLemmas.{shown, stray_here, row_trap, row_branches}
+use Rattle.spl_choices.proofs.spl_follow_proofs.WayLemmas.{goes_none, goes_wider}
+use Rattle.spl_choices.specs.spl_control.Laws.{Settles}
 use Rattle.spl_counts.proofs.TestLemmas.{counter, read_is, read_none, read_past, raised_is, raised_over, raised_none, raised_past, put_read, Went, tested, stepped, test_past, step_past, step_over}
 
 -- ---- words that wait

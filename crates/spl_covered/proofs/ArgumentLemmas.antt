@@ -2,49 +2,32 @@
 use Rattle.std.proofs.Common.{◌≡◌, ℕ, ◌+◌, ◌-◌, ◌*◌, ◌%◌, ◌≤◌, Bool, true, false, List, [], ◌∷◌, ◌++◌, length, refl, sym, ap, subst, ◌∙◌, arith}
 use Rattle.std.specs.Prelude.{Option, Some, None, if◌then◌else◌}
 use Rattle.std.proofs.lemmas.Bool.{false≢true}
-use Rattle.hp_word.specs.Bits.{shifted}
-use Rattle.hp_word.specs.declared.shifts.Shift.TheVariants.{Lsl}
-use Rattle.hp_word.proofs.ShiftLemmas.{shifted-Lsl}
-use Rattle.hp_session.specs.State.{Machine}
-use Rattle.spl_tree.specs.declared.expressions.Kind.{Kind}
-use Rattle.spl_tree.specs.declared.expressions.Kind.TheVariants as kind
-use Rattle.spl_branch.specs.declared.pieces.Piece.{Piece}
-use Rattle.spl_meaning.specs.Kinds.{of, width}
-use Rattle.spl_meaning.specs.Operations.{transferred, passed, shift_done}
-use Rattle.spl_meaning.specs.Names.{Profile}
-use Rattle.spl_meaning.specs.Pending.{value_words, formals_words, result_words}
-use Rattle.spl_meaning.specs.References.{Setting}
-use Rattle.spl_meaning.specs.States.{Data, State, Outcome, done, leaves, spent, ends, strays, then_go}
-use Rattle.spl_code.specs.Code.{as_value}
-use Rattle.spl_code.specs.Operators.{as_parameter, shift_operator}
-use Rattle.spl_code.specs.Parts.{Part, pieces, nothing, ◌⨟◌}
-use Rattle.spl_follow.specs.Spots.{Spot, pos, Ground}
-use Rattle.spl_follow.specs.Matching.{IsValue}
-use Rattle.spl_follow.specs.Following.{Rate, Tally, tally_with, Follows, NoExit}
-use Rattle.spl_follow.specs.Standing.{Stands, due_after}
-use Rattle.spl_follow.specs.Simulating.{Surroundings, Simulates}
-use Rattle.spl_values.specs.Reached.{IsWhole}
-use Rattle.spl_values.proofs.WholeLemmas.{whole_last, whole_then, whole_behind, then_same, same_simulates, last_simulates}
-use Rattle.spl_intrinsics.proofs.RoomLemmas.{joined}
-use Rattle.spl_operators.proofs.SingleLemmas.{shifts}
-use Rattle.spl_links.specs.Laws.{HasCode, none, some, ArgumentsCode}
+use Rattle.spl_byte_tests.specs.hp_word.Bits.{shifted}
+use Rattle.spl_byte_tests.specs.hp_word.declared.shifts.Shift.TheVariants.{Lsl}
+use Rattle.spl_byte_tests.proofs.hp_word_proofs.ShiftLemmas.{shifted-Lsl}
+use Rattle.spl_byte_tests.specs.hp_session.State.{Machine}
+use Rattle.spl_byte_tests.specs.spl_tree.declared.expressions.Kind.{Kind}
+use Rattle.spl_byte_tests.specs.spl_tree.declared.expressions.Kind.TheVariants as kind
+use Rattle.spl_byte_tests.specs.spl_meaning.Kinds.{of, width}
+use Rattle.spl_byte_tests.specs.spl_meaning.Operations.{transferred, passed, shift_done}
+use Rattle.spl_byte_tests.specs.spl_meaning.Names.{Profile}
+use Rattle.spl_byte_tests.specs.spl_meaning.Pending.{value_words, formals_words, result_words}
+use Rattle.spl_byte_tests.specs.spl_meaning.References.{Setting}
+use Rattle.spl_byte_tests.specs.spl_meaning.States.{Data, State, Outcome, done, leaves, spent, ends, strays, then_go}
+use Rattle.spl_byte_tests.specs.spl_code.Code.{as_value}
+use Rattle.spl_byte_tests.specs.spl_code.Operators.{as_parameter, shift_operator}
+use Rattle.spl_byte_tests.specs.spl_code.Parts.{Part, pieces, nothing, ◌⨟◌}
+use Rattle.spl_byte_tests.specs.spl_follow.Spots.{Spot, pos, Ground}
+use Rattle.spl_byte_tests.specs.spl_follow.Matching.{IsValue}
+use Rattle.spl_byte_tests.specs.spl_follow.Following.{Rate, Tally, tally_with, Follows, NoExit}
+use Rattle.spl_byte_tests.specs.spl_follow.Simulating.{Surroundings, Simulates}
+use Rattle.spl_byte_tests.specs.spl_values.Reached.{IsWhole}
+use Rattle.spl_byte_tests.proofs.spl_values_proofs.WholeLemmas.{whole_last, whole_then, whole_behind, then_same, same_simulates, last_simulates}
+use Rattle.spl_whom.proofs.spl_intrinsics_proofs.RoomLemmas.{joined}
+use Rattle.spl_whom.proofs.spl_operators_proofs.SingleLemmas.{shifts}
+use Rattle.spl_whom.specs.spl_links.Laws.{HasCode, none, some, ArgumentsCode}
 use Rattle.spl_covered.specs.Covered.{is_passed}
 use Rattle.std.proofs.lemmas.List.{append-nil}
-
--- ---- nothing behind code
-
-pub bare_whole : (a : Part) → IsWhole (a ⨟ nothing) → IsWhole a
-bare_whole a x = record {
-  closed = λ l ws. ap (λ (ps : List Piece). due_after true ps) (sym (append-nil (a l ws).pieces)) ∙ x.closed l ws;
-  keeps = λ l ws. x.keeps l ws;
-}
-
-pub bare_simulates : (z : Surroundings) (d n k need : ℕ) (a : Part) (f : State → Outcome (List ℕ)) → Simulates z d as_value n k need (a ⨟ nothing) f
-    → Simulates z d as_value n k need a f
-bare_simulates z d n k need a f x = record {
-  does = λ h ws p q s l m stands front ready.
-      x.does h ws p q s l m (subst (λ (ps : List Piece). Stands z.ground z.sites p ps q) (sym (append-nil (a h ws).pieces)) stands) front ready;
-}
 
 -- what comes behind a location that comes behind an index
 pub behind_both : {A B C : Type 0} (o : Outcome A) (f : A → State → Outcome B) (g : B → State → Outcome C)

@@ -1,33 +1,37 @@
 -- Operators of two operands in a tree, over what is known of these.
 use Rattle.std.proofs.Common.{◌≡◌, ℕ, ◌+◌, ◌≤◌, true, false, List, sym, ap, subst, ◌∙◌, arith}
 use Rattle.std.specs.Prelude.{Option}
-use Rattle.spl_tree.specs.declared.expressions.Kind.{Kind}
-use Rattle.spl_tree.specs.declared.expressions.Kind.TheVariants as kind
-use Rattle.spl_tree.specs.declared.names_and_places.At.{At}
-use Rattle.spl_tree.specs.Trees as tree
-use Rattle.spl_tree.specs.Trees.{Tree}
-use Rattle.spl_meaning.specs.Names.{Names}
-use Rattle.spl_meaning.specs.Kinds.{of, Class, doubles, is_connective, is_relation, relation_number, works_on_bits, compares_text, kind_of, operand_width, class_of}
-use Rattle.spl_meaning.specs.Operations.{by_class, bits_done, joined}
-use Rattle.spl_meaning.specs.Pending.{most, left_words}
-use Rattle.spl_meaning.specs.Places.{Place}
-use Rattle.spl_meaning.specs.States.{then_go}
-use Rattle.spl_meaning.specs.Values as meant
-use Rattle.spl_meaning.specs.Values.{Callee, value}
-use Rattle.spl_code.specs.Parts.{Part, pieces, ◌⨟◌}
-use Rattle.spl_code.specs.Operators.{operator}
-use Rattle.spl_code.specs.Calls.{Scope}
-use Rattle.spl_code.specs.Code as made
-use Rattle.spl_code.specs.Code.{Aim, as_value, as_test, closing, code}
-use Rattle.spl_follow.specs.Simulating.{Surroundings, Simulates}
-use Rattle.spl_values.specs.Reached.{is_word_class, IsWhole}
-use Rattle.spl_values.proofs.WholeLemmas.{whole_then, then_same, same_simulates}
-use Rattle.spl_doubles.proofs.RelationLemmas.{relations_give}
-use Rattle.spl_conditions.proofs.ConnectiveLemmas.{connected_whole, connectives}
-use Rattle.spl_word_operators.specs.Operators.{is_covered_operator}
-use Rattle.spl_word_operators.proofs.OperatorLemmas.{where_true, where_false, no_bits, operated_whole, operated_simulates}
-use Rattle.spl_word_operators.proofs.DoubleLemmas.{class_is, doubles_whole}
-use Rattle.spl_names.specs.Names.{read_with}
+use Rattle.spl_byte_tests.specs.spl_tree.declared.expressions.Kind.{Kind}
+use Rattle.spl_byte_tests.specs.spl_tree.declared.expressions.Kind.TheVariants as kind
+use Rattle.spl_byte_tests.specs.spl_tree.declared.names_and_places.At.{At}
+use Rattle.spl_byte_tests.specs.spl_tree.Trees as tree
+use Rattle.spl_byte_tests.specs.spl_tree.Trees.{Tree}
+use Rattle.spl_byte_tests.specs.spl_meaning.Names.{Names}
+use Rattle.spl_byte_tests.specs.spl_meaning.Kinds.{of, Class, doubles, is_connective, is_relation, relation_number, works_on_bits, compares_text, kind_of, operand_width, class_of}
+use Rattle.spl_byte_tests.specs.spl_meaning.Operations.{by_class, bits_done, joined}
+use Rattle.spl_byte_tests.specs.spl_meaning.Elements.{compared_text, relation_told}
+use Rattle.spl_byte_tests.specs.spl_meaning.Pending.{most, left_words}
+use Rattle.spl_byte_tests.specs.spl_meaning.Places.{Place}
+use Rattle.spl_byte_tests.specs.spl_meaning.States.{then_go}
+use Rattle.spl_byte_tests.specs.spl_meaning.Values as meant
+use Rattle.spl_byte_tests.specs.spl_meaning.Values.{Callee, text_bytes, value}
+use Rattle.spl_byte_tests.specs.spl_code.Parts.{Part, pieces, ◌⨟◌}
+use Rattle.spl_byte_tests.specs.spl_code.Operators.{operator}
+use Rattle.spl_byte_tests.specs.spl_code.Calls.{Scope}
+use Rattle.spl_byte_tests.specs.spl_code.Code as made
+use Rattle.spl_byte_tests.specs.spl_code.Code.{Aim, as_value, as_test, closing, code}
+use Rattle.spl_byte_tests.specs.spl_follow.Simulating.{Surroundings, Simulates}
+use Rattle.spl_byte_tests.specs.spl_values.Reached.{is_word_class, IsWhole}
+use Rattle.spl_byte_tests.proofs.spl_values_proofs.WholeLemmas.{whole_then, then_same, same_simulates}
+use Rattle.spl_byte_tests.proofs.spl_doubles_proofs.RelationLemmas.{relations_give}
+use Rattle.spl_whom.proofs.spl_conditions_proofs.ConnectiveLemmas.{connected_whole, connectives}
+use Rattle.spl_byte_tests.specs.spl_word_operators.Operators.{is_covered_operator}
+use Rattle.spl_byte_tests.proofs.spl_word_operators_proofs.OperatorLemmas.{where_true, where_false, no_bits, operated_whole, operated_simulates}
+use Rattle.spl_byte_tests.proofs.spl_word_operators_proofs.DoubleLemmas.{class_is, doubles_whole}
+use Rattle.spl_byte_tests.specs.spl_names.Names.{read_with}
+use Rattle.spl_byte_tests.specs.spl_moves.Moving.{IsReference}
+use Rattle.spl_byte_tests.specs.spl_scans.Laws.{AreBytes}
+use Rattle.spl_byte_tests.proofs.TestLemmas.{texts_whole, texts_compared}
 
 -- ---- AND and OR
 
@@ -141,6 +145,30 @@ related_simulates c results z call d o a b at aim k need more i r enough wa wb s
     ∙ ap (λ (x : Class). by_class x o vs us u) (class_is left right r.left r.right))))
     (relations_give z d k need more o aim first other (λ s. value h call a k s) (λ s. value h call b (k + operand_width left) s) r.relation wa wb sa sb enough)
 
+-- ---- comparisons with a string
+
+-- the code of one
+spelled_code : (c : Scope) (o : ℕ) (a b : Tree) (at : At) (aim : Aim) (k : ℕ) → is_connective o ≡ false → compares_text c.names o a b ≡ true
+    → code c (tree.Tree.binary o a b at) aim k ≡ made.text_related (relation_number o) aim (made.reference c a k) (text_bytes b)
+spelled_code c o a b at aim k i j = where_false (is_connective o) _ _ i ∙ where_true (compares_text c.names o a b) _ _ j
+
+pub spelled_whole : (c : Scope) (o : ℕ) (a b : Tree) (at : At) (aim : Aim) (k : ℕ) → is_connective o ≡ false → compares_text c.names o a b ≡ true
+    → IsWhole (made.reference c a k) → IsWhole (code c (tree.Tree.binary o a b at) aim k)
+spelled_whole c o a b at aim k i j whole =
+    subst (λ (p : Part). IsWhole p) (sym (spelled_code c o a b at aim k i j)) (texts_whole (relation_number o) aim (made.reference c a k) (text_bytes b) whole)
+
+pub spelled_simulates : (c : Scope) (results : List ℕ → Option (Kind × Place)) (z : Surroundings) (call : Callee) (d o : ℕ) (a b : Tree) (at : At) (aim : Aim)
+    (k need : ℕ) → is_connective o ≡ false → compares_text c.names o a b ≡ true → AreBytes (text_bytes b) → 3 ≤ need
+    → IsReference z d k need kind.Byte (made.reference c a k) (λ s. meant.located (read_with c results z.setting) call a k s)
+    → Simulates z d aim 1 k need (code c (tree.Tree.binary o a b at) aim k) (λ s. value (read_with c results z.setting) call (tree.Tree.binary o a b at) k s)
+spelled_simulates c results z call d o a b at aim k need i j small enough reference =
+    let h = read_with c results z.setting in
+    same_simulates z d aim 1 k need (code c (tree.Tree.binary o a b at) aim k) (made.text_related (relation_number o) aim (made.reference c a k) (text_bytes b))
+    (λ s. value h call (tree.Tree.binary o a b at) k s)
+    (λ s. then_go (meant.located h call a k s) (λ p t. relation_told (relation_number o) (compared_text p (text_bytes b) t)))
+    (spelled_code c o a b at aim k i j) (λ s. where_false (is_connective o) _ _ i ∙ where_true (compares_text c.names o a b) _ _ j)
+    (texts_compared z d k need (relation_number o) aim (made.reference c a k) (λ s. meant.located h call a k s) (text_bytes b) small reference enough)
+
 -- ---- room
 
 -- The room of both operands: where the left one waits, and where it does not.
@@ -155,3 +183,6 @@ pub either_room : (names : Names) (o : ℕ) (a b : Tree) (at : At) (need : ℕ) 
     → (most names a + 8 ≤ need) × (most names b + 8 ≤ need)
 either_room names o a b at need i room =
     let none : left_words names o a b ≡ 0 = where_true (is_connective o) _ _ i in (omega (arith, room), omega (arith, none, room))
+
+pub left_room : (names : Names) (o : ℕ) (a b : Tree) (at : At) (need : ℕ) → most names (tree.Tree.binary o a b at) + 8 ≤ need → most names a + 8 ≤ need
+left_room names o a b at need room = omega (arith, room)

@@ -4,56 +4,64 @@ use Rattle.std.proofs.Common.{◌≡◌, ℕ, ◌+◌, ◌-◌, ◌%◌, ◌<◌
 use Rattle.std.specs.Prelude.{Option, Some, None, ◌==◌, ◌&&◌, ◌||◌, not, nat_lt, nat_le, if◌then◌else◌}
 use Rattle.std.proofs.lemmas.Bool.{ltb-true, false≢true, not-true}
 use Rattle.std.proofs.Math.Logic.{⊎_elim}
-use Rattle.spl_tree.specs.declared.expressions.Kind.{Kind}
-use Rattle.spl_tree.specs.declared.expressions.Kind.TheVariants as kind
-use Rattle.spl_tree.specs.declared.names_and_places.At.{At}
-use Rattle.spl_tree.specs.Trees as tree
-use Rattle.spl_tree.specs.Trees.{Tree, Trees, Constant}
-use Rattle.spl_meaning.specs.Names.{Formal, Profile, text_value, truth_word}
-use Rattle.spl_meaning.specs.Kinds.{Operand, of, doubles, is_connective, is_relation, positive, negative, named_operand, compares_text, kind_of, operand_width, class_of, callable}
-use Rattle.spl_meaning.specs.Operations.{double_words, by_class, signed_done, transferred}
-use Rattle.spl_meaning.specs.Pending.{by_value, value_words, formal_words, formals_words, result_words, profile_formals, profile_result_words, most, most_of}
-use Rattle.spl_meaning.specs.Places.{Place}
-use Rattle.spl_meaning.specs.References.{Here, Setting, access_of, locate}
-use Rattle.spl_meaning.specs.States.{State, Outcome, done, then_go}
-use Rattle.spl_meaning.specs.Values as run
-use Rattle.spl_meaning.specs.Values.{Callee, small_constant, value, located, index, address_done}
-use Rattle.spl_code.specs.Calls.{Scope}
-use Rattle.spl_code.specs.Code.{Aim, as_value, as_test, closing, code, reference, arguments}
-use Rattle.spl_code.specs.Constants.{double_constant}
-use Rattle.spl_code.specs.Operators.{class_operator, sign_operator, transfer, as_parameter}
-use Rattle.spl_code.specs.Parts.{Part, pieces, nothing, ◌⨟◌}
-use Rattle.spl_follow.specs.Simulating.{Surroundings, Simulates}
-use Rattle.spl_values.specs.Reached.{is_sum, is_word_class, IsWhole}
-use Rattle.spl_values.proofs.VariableLemmas.{both}
-use Rattle.spl_values.proofs.WholeLemmas.{whole_pieces, whole_then, whole_last, whole_behind, same_simulates, last_simulates}
-use Rattle.spl_conditions.proofs.ConditionLemmas.{closed_values}
-use Rattle.spl_doubles.proofs.DoubleLemmas.{constants_give, low_words_give, extensions_give, sums_give}
-use Rattle.spl_doubles.proofs.SignLemmas.{signs_give}
-use Rattle.spl_operators.specs.Laws.{is_word_operand, is_single}
-use Rattle.spl_links.specs.Laws.{HasCode, none, some, ArgumentsCode}
-use Rattle.spl_links.specs.Links.{MayCall}
-use Rattle.spl_word_operators.specs.Operators.{is_covered_operator, is_covered_sign}
-use Rattle.spl_word_operators.proofs.OperatorLemmas.{closing_whole, truths, of_true, of_false, four, either, connective_operand, relation_operand, binary_word, word_wide}
-use Rattle.spl_word_operators.proofs.UnaryLemmas.{sign_word, sign_whole, sign_simulates, shift_whole, shift_simulates, field_whole, field_simulates, transfer_whole, transfer_simulates}
-use Rattle.spl_names.specs.Names.{read_with, is_led_element, is_addressed_element, is_wide_name, is_wide_element, is_wide_led}
-use Rattle.spl_names.proofs.LedLemmas.{single_word, element_case, kind_operand, element_whole, element_simulates}
-use Rattle.spl_names.proofs.NameLemmas.{constant_whole, constant_simulates, text_whole, text_simulates, name_cases, name_whole, name_simulates}
-use Rattle.spl_names.proofs.AddressLemmas as addresses
-use Rattle.spl_names.proofs.WideLedLemmas as leading
-use Rattle.spl_names.proofs.WideLedLemmas.{leading_case, led_of_element}
-use Rattle.spl_names.proofs.WideNameLemmas as doubled
-use Rattle.spl_names.proofs.WideNameLemmas.{wide_case}
-use Rattle.spl_covered.specs.Covered.{is_word_call, is_double_call, is_covered, is_wide, is_covered_variable, is_wide_variable, is_covered_address, is_passed, is_covered_reference, are_covered_arguments}
+use Rattle.spl_byte_tests.specs.spl_tree.declared.expressions.Kind.{Kind}
+use Rattle.spl_byte_tests.specs.spl_tree.declared.expressions.Kind.TheVariants as kind
+use Rattle.spl_byte_tests.specs.spl_tree.declared.names_and_places.At.{At}
+use Rattle.spl_byte_tests.specs.spl_tree.Trees as tree
+use Rattle.spl_byte_tests.specs.spl_tree.Trees.{Tree, Trees, Constant}
+use Rattle.spl_byte_tests.specs.spl_meaning.Names.{Names, Formal, Profile, text_value, truth_word}
+use Rattle.spl_byte_tests.specs.spl_meaning.Kinds.{Operand, of, doubles, is_byte, reference_kind, is_long_text, is_connective, is_relation, positive, negative, named_operand, compares_text, kind_of, operand_width, class_of, callable}
+use Rattle.spl_byte_tests.specs.spl_meaning.Operations.{double_words, by_class, signed_done, transferred}
+use Rattle.spl_byte_tests.specs.spl_meaning.Pending.{by_value, value_words, formal_words, formals_words, result_words, profile_formals, profile_result_words, most, most_of}
+use Rattle.spl_byte_tests.specs.spl_meaning.Places.{Place}
+use Rattle.spl_byte_tests.specs.spl_meaning.References.{Here, Setting, access_of, locate}
+use Rattle.spl_byte_tests.specs.spl_meaning.States.{State, Outcome, done, then_go}
+use Rattle.spl_byte_tests.specs.spl_meaning.Values as run
+use Rattle.spl_byte_tests.specs.spl_meaning.Values.{Who, Callee, small_constant, text_bytes, value, located, index, address_done}
+use Rattle.spl_byte_tests.specs.spl_code.Calls.{Scope}
+use Rattle.spl_byte_tests.specs.spl_code.Code.{Aim, as_value, as_test, closing, code, reference, arguments}
+use Rattle.spl_byte_tests.specs.spl_code.Constants.{double_constant}
+use Rattle.spl_byte_tests.specs.spl_code.Operators.{class_operator, sign_operator, transfer, as_parameter}
+use Rattle.spl_byte_tests.specs.spl_code.Parts.{Part, pieces, nothing, ◌⨟◌}
+use Rattle.spl_byte_tests.specs.spl_follow.Simulating.{Surroundings, Simulates}
+use Rattle.spl_byte_tests.specs.spl_values.Reached.{is_sum, is_word_class, IsWhole}
+use Rattle.spl_byte_tests.proofs.spl_values_proofs.VariableLemmas.{both}
+use Rattle.spl_byte_tests.proofs.spl_values_proofs.WholeLemmas.{whole_pieces, whole_then, whole_last, whole_behind, same_simulates, last_simulates}
+use Rattle.spl_whom.proofs.spl_conditions_proofs.ConditionLemmas.{closed_values}
+use Rattle.spl_byte_tests.proofs.spl_doubles_proofs.DoubleLemmas.{constants_give, low_words_give, extensions_give, sums_give}
+use Rattle.spl_byte_tests.proofs.spl_doubles_proofs.SignLemmas.{signs_give}
+use Rattle.spl_whom.specs.spl_operators.Laws.{is_word_operand, is_single}
+use Rattle.spl_whom.specs.spl_links.Laws.{HasCode, none, some, ArgumentsCode}
+use Rattle.spl_whom.specs.spl_links.Links.{MayCall}
+use Rattle.spl_byte_tests.specs.spl_word_operators.Operators.{is_covered_operator, is_covered_sign}
+use Rattle.spl_byte_tests.proofs.spl_word_operators_proofs.OperatorLemmas.{closing_whole, truths, of_true, of_false, four, either, connective_operand, relation_operand, binary_word, word_wide}
+use Rattle.spl_byte_tests.proofs.spl_word_operators_proofs.UnaryLemmas.{sign_word, sign_whole, sign_simulates, shift_whole, shift_simulates, field_whole, field_simulates, transfer_whole, transfer_simulates}
+use Rattle.spl_byte_tests.specs.spl_names.Names.{read_with, is_led_element, is_addressed_element, is_wide_name, is_wide_element, is_wide_led}
+use Rattle.spl_byte_tests.proofs.spl_names_proofs.LedLemmas.{single_word, element_case, kind_operand, element_whole, element_simulates}
+use Rattle.spl_byte_tests.proofs.spl_names_proofs.NameLemmas.{constant_whole, constant_simulates, text_whole, text_simulates, name_cases, name_whole, name_simulates}
+use Rattle.spl_byte_tests.proofs.spl_names_proofs.AddressLemmas as addresses
+use Rattle.spl_byte_tests.proofs.spl_names_proofs.WideLedLemmas as leading
+use Rattle.spl_byte_tests.proofs.spl_names_proofs.WideLedLemmas.{leading_case, led_of_element}
+use Rattle.spl_byte_tests.proofs.spl_names_proofs.WideNameLemmas as doubled
+use Rattle.spl_byte_tests.proofs.spl_names_proofs.WideNameLemmas.{wide_case}
+use Rattle.spl_whom.specs.Whom.{is_word_call, is_double_call, IsCalled, profile_called}
+use Rattle.spl_covered.specs.Covered.{is_spelled, is_covered, is_wide, is_covered_variable, is_wide_variable, is_covered_address, is_passed, is_covered_reference, are_covered_arguments}
 use Rattle.spl_covered.specs.Laws.{CoveredCodeIsWhole, CoveredTestsAreWhole, CoveredValuesSimulate, CoveredTestsSimulate, WideCodeIsWhole, WideValuesSimulate, ArgumentsAreWhole, ArgumentsSimulate}
-use Rattle.spl_covered.proofs.BinaryLemmas.{IsRelated, related_whole, related_simulates, IsOperator, connective_whole, connective_simulates, operator_whole, operator_simulates, waiting_room, either_room}
-use Rattle.spl_word_operators.proofs.DoubleLemmas as double
-use Rattle.spl_covered.proofs.ArgumentLemmas.{doubled_gives, bare_whole, bare_simulates, behind_both, argument_whole, argument_gives, behind_argument, Given, nothing_given, words_given, first_gives, given_code}
-use Rattle.spl_covered.proofs.CallLemmas.{IsCalled, word_case, double_case, call_word, call_double, call_room, call_whole, call_simulates}
+use Rattle.spl_covered.proofs.BinaryLemmas.{IsRelated, related_whole, related_simulates, IsOperator, connective_whole, connective_simulates, operator_whole, operator_simulates, spelled_whole, spelled_simulates, waiting_room, either_room, left_room}
+use Rattle.spl_byte_tests.specs.spl_moves.Moving.{IsReference}
+use Rattle.spl_byte_tests.specs.spl_scans.Laws.{AreBytes}
+use Rattle.spl_byte_tests.specs.Elements.{is_byte_element}
+use Rattle.spl_byte_tests.proofs.LeadLemmas.{bytes_are}
+use Rattle.spl_byte_tests.proofs.TestLemmas.{bytes_whole, bytes_compared}
+use Rattle.spl_covered.proofs.LeadLemmas.{bytes_lead}
+use Rattle.spl_byte_tests.proofs.spl_word_operators_proofs.DoubleLemmas as double
+use Rattle.spl_covered.proofs.ArgumentLemmas.{doubled_gives, behind_both, argument_whole, argument_gives, behind_argument, Given, nothing_given, words_given, first_gives, given_code}
+use Rattle.spl_whom.proofs.NameLemmas.{word_case, double_case, called_is, call_word, call_double}
+use Rattle.spl_whom.proofs.CallLemmas.{bare_whole, bare_simulates, call_room, call_whole, call_simulates}
 
 -- ---- what is asked of parts
 
-module _ (may : List ℕ → Bool) (c : Scope) (st : Setting) where
+module _ (may : Who → Bool) (c : Scope) (st : Setting) where
   -- of a name: by itself, or of a call
   abbrev asked_arguments : List ℕ → Trees → ℕ → Bool
   asked_arguments x es k =
@@ -104,11 +112,56 @@ module _ (may : List ℕ → Bool) (c : Scope) (st : Setting) where
       let rest = both (is_wide may c st a k) (is_wide may c st b (k + operand_width (kind_of c.names a))) two.1 in
       record { relation = first.0; apart = not-true (compares_text c.names o a b) first.1; left = rest.0; right = rest.1 }
 
-  -- either, where it is neither AND nor OR
+  -- of a comparison with a string, from a reference to bytes on
+  abbrev is_compared : Tree → ℕ → Bool
+  is_compared a k = is_byte_element c st a && is_covered_reference may c st a k
+
+  abbrev is_text_relation : ℕ → Tree → Tree → ℕ → Bool
+  is_text_relation o a b k = compares_text c.names o a b && (is_spelled b && is_compared a k)
+
+  record IsText (o : ℕ) (a b : Tree) (k : ℕ) : Type 0 where
+    compares : compares_text c.names o a b ≡ true
+    relation : is_relation o ≡ true
+    small : AreBytes (text_bytes b)
+    bytes : is_byte_element c st a ≡ true
+    reference' : is_covered_reference may c st a k ≡ true
+
+  text_parts : (o : ℕ) (a b : Tree) (k : ℕ) → is_text_relation o a b k ≡ true → IsText o a b k
+  text_parts o a b k e =
+      let two = both (compares_text c.names o a b) (is_spelled b && is_compared a k) e in
+      let rest = both (is_spelled b) (is_compared a k) two.1 in
+      let last = both (is_byte_element c st a) (is_covered_reference may c st a k) rest.1 in
+      let relates = both (is_relation o && is_byte (reference_kind c.names a)) (is_long_text b) two.0 in
+      record {
+        compares = two.0;
+        relation = (both (is_relation o) (is_byte (reference_kind c.names a)) relates.0).0;
+        small = bytes_are (text_bytes b) rest.0;
+        bytes = last.0;
+        reference' = last.1;
+      }
+
+  -- and of one by a count
+  record AreCounted (a b count : Tree) (k : ℕ) : Type 0 where
+    first : is_byte_element c st a ≡ true
+    first_reference : is_covered_reference may c st a k ≡ true
+    other : is_byte_element c st b ≡ true
+    other_reference : is_covered_reference may c st b (k + 1) ≡ true
+    counts : is_covered may c st count (k + 2) ≡ true
+
+  bytes_parts : (o : ℕ) (a b count : Tree) (at : At) (k : ℕ) → is_covered may c st (tree.Tree.bytes o a b count at) k ≡ true → AreCounted a b count k
+  bytes_parts o a b count at k e =
+      let two = both (is_compared a k) (is_compared b (k + 1) && is_covered may c st count (k + 2)) e in
+      let one = both (is_byte_element c st a) (is_covered_reference may c st a k) two.0 in
+      let rest = both (is_compared b (k + 1)) (is_covered may c st count (k + 2)) two.1 in
+      let next = both (is_byte_element c st b) (is_covered_reference may c st b (k + 1)) rest.0 in
+      record { first = one.0; first_reference = one.1; other = next.0; other_reference = next.1; counts = rest.1 }
+
+  -- any of them, where it is neither AND nor OR
   by_operator : {A : Type 0} (o : ℕ) (a b : Tree) (at : At) (k : ℕ) → is_connective o ≡ false → is_covered may c st (tree.Tree.binary o a b at) k ≡ true
-      → (is_operator o a b k ≡ true → A) → (is_double_relation o a b k ≡ true → A) → A
-  by_operator o a b at k i e one two =
-      ⊎_elim one two (either (is_operator o a b k) (is_double_relation o a b k) (of_false (is_connective o) _ _ i e))
+      → (is_operator o a b k ≡ true → A) → (is_double_relation o a b k ≡ true → A) → (IsText o a b k → A) → A
+  by_operator o a b at k i e one two three =
+      ⊎_elim one (λ other. ⊎_elim two (λ text. three (text_parts o a b k text)) (either (is_double_relation o a b k) (is_text_relation o a b k) other))
+      (either (is_operator o a b k) (is_double_relation o a b k || is_text_relation o a b k) (of_false (is_connective o) _ _ i e))
 
   -- of a sum of DOUBLEs
   sum_parts : (o : ℕ) (a b : Tree) (k : ℕ)
@@ -121,9 +174,9 @@ module _ (may : List ℕ → Bool) (c : Scope) (st : Setting) where
 
   -- the arguments of what a name stands for
   arguments_of : (x : List ℕ) (es : Trees) (k words : ℕ) (r : IsCalled may st x (c.names x) words) → asked_arguments x es k ≡ true
-      → are_covered_arguments may c st r.profile.formals es (k + result_words r.profile) ≡ true
+      → are_covered_arguments may c st (profile_called r).formals es (k + result_words (profile_called r)) ≡ true
   arguments_of x es k words r e =
-      subst (λ o. are_covered_arguments may c st (profile_formals (callable o)) es (k + profile_result_words (callable o)) ≡ true) r.is e
+      subst (λ (o : Option Profile). are_covered_arguments may c st (profile_formals o) es (k + profile_result_words o) ≡ true) (called_is may st x (c.names x) words r) e
 
   -- ---- kinds
 
@@ -164,10 +217,11 @@ module _ (may : List ℕ → Bool) (c : Scope) (st : Setting) where
   covered_word (tree.Tree.binary o a b at) k e =
       ⊎_elim (λ i. connective_operand o (kind_of c.names a) (kind_of c.names b) i)
       (λ i. by_operator o a b at k i e (λ one. binary_word o (kind_of c.names a) (kind_of c.names b) (operator_parts o a b k one).0.class)
-      (λ two. relation_operand o (kind_of c.names a) (kind_of c.names b) (related_parts o a b k two).relation)) (truths (is_connective o))
+      (λ two. relation_operand o (kind_of c.names a) (kind_of c.names b) (related_parts o a b k two).relation)
+      (λ text. relation_operand o (kind_of c.names a) (kind_of c.names b) text.relation)) (truths (is_connective o))
   covered_word (tree.Tree.wide v) k e = absurd (false≢true e)
   covered_word (tree.Tree.address x es at) k e = refl
-  covered_word (tree.Tree.bytes o a b count at) k e = absurd (false≢true e)
+  covered_word (tree.Tree.bytes o a b count at) k e = refl
 
   -- the kind of a wide one is DOUBLE
   wide_kind : (e : Tree) (k : ℕ) → is_wide may c st e k ≡ true → kind_of c.names e ≡ of kind.Double
@@ -215,8 +269,9 @@ module _ (may : List ℕ → Bool) (c : Scope) (st : Setting) where
         ⊎_elim (λ own. variable_whole x es at aim k own)
         (λ other. let two = both (is_word_call may st x (c.names x)) (asked_arguments x es k) other in
         let r = word_case may st x (c.names x) two.0 in
-        call_whole c x es at aim k r.profile r.is (λ a x. closing_whole a aim x)
-        (arguments_code r.profile.formals es (k + result_words r.profile) (arguments_of x es k 1 r two.1)))
+        let p = profile_called r in
+        call_whole may c st x es at aim k 1 r (omega arith) (λ a x. closing_whole a aim x)
+        (arguments_code p.formals es (k + result_words p) (arguments_of x es k 1 r two.1)))
         (either (is_covered_variable may c st x es k) (is_word_call may st x (c.names x) && asked_arguments x es k) e)
     code_whole (tree.Tree.unary o a at) aim k e =
         let two = both (is_covered_sign o) (is_covered may c st a k) e in
@@ -240,11 +295,15 @@ module _ (may : List ℕ → Bool) (c : Scope) (st : Setting) where
         (λ one. let parts = operator_parts o a b k one in
         operator_whole c o a b at aim k i parts.0 (code_whole a as_value k parts.1) (code_whole b as_value (k + operand_width (kind_of c.names a)) parts.2))
         (λ two. let r = related_parts o a b k two in
-        related_whole c o a b at aim k i (relation_of o a b k r) (double_whole a k r.left) (double_whole b (k + operand_width (kind_of c.names a)) r.right)))
+        related_whole c o a b at aim k i (relation_of o a b k r) (double_whole a k r.left) (double_whole b (k + operand_width (kind_of c.names a)) r.right))
+        (λ text. spelled_whole c o a b at aim k i text.compares (reference_whole a k text.reference')))
         (truths (is_connective o))
     code_whole (tree.Tree.address x es at) aim k e = address_whole x es at aim k e
     code_whole (tree.Tree.wide v) aim k e = absurd (false≢true e)
-    code_whole (tree.Tree.bytes o a b count at) aim k e = absurd (false≢true e)
+    code_whole (tree.Tree.bytes o a b count at) aim k e =
+        let parts = bytes_parts o a b count at k e in
+        bytes_whole o aim (reference c a k) (reference c b (k + 1)) (code c count as_value (k + 2)) (reference_whole a k parts.first_reference)
+        (reference_whole b (k + 1) parts.other_reference) (code_whole count as_value (k + 2) parts.counts)
 
     variable_whole : (x : List ℕ) (es : Trees) (at : At) (aim : Aim) (k : ℕ) → is_covered_variable may c st x es k ≡ true
         → IsWhole (code c (tree.Tree.named x es at) aim k)
@@ -271,8 +330,9 @@ module _ (may : List ℕ → Bool) (c : Scope) (st : Setting) where
         ⊎_elim (λ own. double_variable_whole x es at k own)
         (λ other. let two = both (is_double_call may st x (c.names x)) (asked_arguments x es k) other in
         let r = double_case may st x (c.names x) two.0 in
-        call_whole c x es at as_value k r.profile r.is (λ a x. whole_last a x)
-        (arguments_code r.profile.formals es (k + result_words r.profile) (arguments_of x es k 2 r two.1)))
+        let p = profile_called r in
+        call_whole may c st x es at as_value k 2 r (omega arith) (λ a x. whole_last a x)
+        (arguments_code p.formals es (k + result_words p) (arguments_of x es k 2 r two.1)))
         (either (is_wide_variable may c st x es k) (is_double_call may st x (c.names x) && asked_arguments x es k) e)
     double_whole (tree.Tree.transfer kind.Double a at) k e =
         let one = code c a as_value k in
@@ -344,7 +404,7 @@ module _ (may : List ℕ → Bool) (c : Scope) (st : Setting) where
     arguments_code (f ∷ fs) tree.Trees.none k h = absurd (false≢true h)
 
 -- so a covered value is one word wide
-pub covered_width : (may : List ℕ → Bool) (c : Scope) (st : Setting) (e : Tree) (k : ℕ) → is_covered may c st e k ≡ true
+pub covered_width : (may : Who → Bool) (c : Scope) (st : Setting) (e : Tree) (k : ℕ) → is_covered may c st e k ≡ true
     → operand_width (kind_of c.names e) ≡ 1
 covered_width may c st e k covered = word_wide (kind_of c.names e) (covered_word may c st e k covered)
 
@@ -392,20 +452,35 @@ address_room : (c : Scope) (x : List ℕ) (i : Tree) (at : At) (need : ℕ)
     → most c.names (tree.Tree.address x (tree.Trees.and i tree.Trees.none) at) + 8 ≤ need → most c.names i + 8 ≤ need
 address_room c x i at need room = omega (arith, room)
 
+-- the room of both references and the count of a comparison
+bytes_room : (names : Names) (o : ℕ) (a b count : Tree) (at : At) (need : ℕ) → most names (tree.Tree.bytes o a b count at) + 8 ≤ need
+    → (most names a + 8 ≤ need) × (most names b + 8 + 1 ≤ need) × (most names count + 8 + 2 ≤ need)
+bytes_room names o a b count at need room = (omega (arith, room), omega (arith, room), omega (arith, room))
+
 -- what waits in the index of a reference waits in the reference
-index_waits : (may : List ℕ → Bool) (c : Scope) (st : Setting) (x : List ℕ) (es : Trees) (at : At) (k : ℕ) → is_covered_address may c st x es k ≡ true
+index_waits : (may : Who → Bool) (c : Scope) (st : Setting) (x : List ℕ) (es : Trees) (at : At) (k : ℕ) → is_covered_address may c st x es k ≡ true
     → most c.names (tree.Tree.address x es at) ≤ most c.names (tree.Tree.named x es at)
 index_waits may c st x tree.Trees.none at k e = omega arith
 index_waits may c st x (tree.Trees.and i tree.Trees.none) at k e = omega arith
 index_waits may c st x (tree.Trees.and i (tree.Trees.and j js)) at k e = absurd (false≢true e)
 
-module _ (may : List ℕ → Bool) (c : Scope) (results : List ℕ → Option (Kind × Place)) (z : Surroundings) (call : Callee) (d : ℕ)
+module _ (may : Who → Bool) (c : Scope) (results : List ℕ → Option (Kind × Place)) (z : Surroundings) (call : Callee) (d : ℕ)
     (links : MayCall may c z d call) where
   abbrev st : Setting
   st = z.setting
 
   abbrev here : Here
   here = read_with c results z.setting
+
+  -- a reference to bytes that are compared
+  bytes_given : (e : Tree) (k need : ℕ) → is_byte_element c st e ≡ true → is_covered_reference may c st e k ≡ true
+      → Simulates z d as_value 1 k need (reference c e k) (λ s. then_go (located here call e k s) address_done)
+      → IsReference z d k need kind.Byte (reference c e k) (λ s. located here call e k s)
+  bytes_given e k need bytes h sim = record {
+    whole = reference_whole may c st e k h;
+    leads = λ s lies. bytes_lead may c results st call e k s bytes h lies;
+    simulates = sim;
+  }
 
   mutual
     -- Along the tree, each construct over its parts.
@@ -418,9 +493,9 @@ module _ (may : List ℕ → Bool) (c : Scope) (results : List ℕ → Option (K
         ⊎_elim (λ own. variable_gives x es at aim k need own enough)
         (λ other. let two = both (is_word_call may st x (c.names x)) (asked_arguments may c st x es k) other in
         let r = word_case may st x (c.names x) two.0 in
-        let p = r.profile in
+        let p = profile_called r in
         let asked = arguments_of may c st x es k 1 r two.1 in
-        let waits = call_room c x es at p r.is in
+        let waits = call_room may c st x es at 1 r in
         let fs = formals_words p.formals in
         let room : most_of c.names p.formals (result_words p) es + 8 ≤ result_words p + (need - result_words p) = omega (arith, waits, enough) in
         let fits : formals_words p.formals ≤ need - result_words p = omega (arith, waits, enough) in
@@ -478,11 +553,21 @@ module _ (may : List ℕ → Bool) (c : Scope) (results : List ℕ → Option (K
         related_simulates c results z call d o a b at aim k need (most c.names b + 8) i both' room.1 (double_whole may c st a k r.left)
         (double_whole may c st b j r.right) (double_gives a k need r.left room.0)
         (subst (λ (n : ℕ). Simulates z d as_value 2 (k + n) (most c.names b + 8) (code c b as_value j) (λ s. value here call b j s)) two
-        (double_gives b j (most c.names b + 8) r.right (omega arith)))))
+        (double_gives b j (most c.names b + 8) r.right (omega arith))))
+        (λ text. spelled_simulates c results z call d o a b at aim k need i text.compares text.small (omega (arith, enough))
+        (bytes_given a k need text.bytes text.reference' (reference_gives a k need text.reference' (left_room c.names o a b at need enough)))))
         (truths (is_connective o))
     simulated (tree.Tree.address x es at) aim k need e enough = address_gives x es at aim k need e enough
     simulated (tree.Tree.wide v) aim k need e enough = absurd (false≢true e)
-    simulated (tree.Tree.bytes o a b count at) aim k need e enough = absurd (false≢true e)
+    simulated (tree.Tree.bytes o a b count at) aim k need e enough =
+        let parts = bytes_parts may c st o a b count at k e in
+        let room = bytes_room c.names o a b count at need enough in
+        bytes_compared z d k need (most c.names b + 8) (most c.names count + 8) o aim (reference c a k) (reference c b (k + 1)) (code c count as_value (k + 2))
+        (λ s. located here call a k s) (λ s. located here call b (k + 1) s) (λ s. value here call count (k + 2) s)
+        (bytes_given a k need parts.first parts.first_reference (reference_gives a k need parts.first_reference room.0))
+        (bytes_given b (k + 1) (most c.names b + 8) parts.other parts.other_reference
+        (reference_gives b (k + 1) (most c.names b + 8) parts.other_reference (omega arith))) (code_whole may c st count as_value (k + 2) parts.counts)
+        (simulated count as_value (k + 2) (most c.names count + 8) parts.counts (omega arith)) room.1 room.2 (omega (arith, enough))
 
     variable_gives : (x : List ℕ) (es : Trees) (at : At) (aim : Aim) (k need : ℕ) → is_covered_variable may c st x es k ≡ true
         → most c.names (tree.Tree.named x es at) + 8 ≤ need
@@ -514,9 +599,9 @@ module _ (may : List ℕ → Bool) (c : Scope) (results : List ℕ → Option (K
         ⊎_elim (λ own. double_variable_gives x es at k need own enough)
         (λ other. let two = both (is_double_call may st x (c.names x)) (asked_arguments may c st x es k) other in
         let r = double_case may st x (c.names x) two.0 in
-        let p = r.profile in
+        let p = profile_called r in
         let asked = arguments_of may c st x es k 2 r two.1 in
-        let waits = call_room c x es at p r.is in
+        let waits = call_room may c st x es at 2 r in
         let room : most_of c.names p.formals (result_words p) es + 8 ≤ result_words p + (need - result_words p) = omega (arith, waits, enough) in
         let fits : formals_words p.formals ≤ need - result_words p = omega (arith, waits, enough) in
         call_simulates may c results z call d x es at as_value k need 2 links r (omega arith) enough
@@ -666,11 +751,11 @@ arguments_give may c results z call d f fs es k w need links covered enough fits
 -- ---- arguments of a procedure
 
 -- their code, which may be none
-pub arguments_have_code : (may : List ℕ → Bool) (c : Scope) (st : Setting) (fs : List Formal) (es : Trees) (k : ℕ) → are_covered_arguments may c st fs es k ≡ true
+pub arguments_have_code : (may : Who → Bool) (c : Scope) (st : Setting) (fs : List Formal) (es : Trees) (k : ℕ) → are_covered_arguments may c st fs es k ≡ true
     → HasCode (arguments c fs es k)
 arguments_have_code may c st fs es k covered = arguments_code may c st fs es k covered
 
-pub arguments_made : (may : List ℕ → Bool) (c : Scope) (results : List ℕ → Option (Kind × Place)) (z : Surroundings) (call : Callee) (d : ℕ) (p : Profile)
+pub arguments_made : (may : Who → Bool) (c : Scope) (results : List ℕ → Option (Kind × Place)) (z : Surroundings) (call : Callee) (d : ℕ) (p : Profile)
     (es : Trees) (k more : ℕ) → MayCall may c z d call → are_covered_arguments may c z.setting p.formals es (k + result_words p) ≡ true
     → most_of c.names p.formals (result_words p) es + 8 ≤ result_words p + more → formals_words p.formals ≤ more
     → ArgumentsCode p z d k more (arguments c p.formals es (k + result_words p))

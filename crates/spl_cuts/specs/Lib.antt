@@ -9,3 +9,5 @@ pub mod Whole
 pub mod FaultEnds
 pub mod Reading
 pub mod Laws
+-- Passed on from the crates below.
+pub use Rattle.spl_tree.specs as spl_tree

@@ -3,8 +3,8 @@ use Rattle.std.proofs.Common.{◌≡◌, ◌<◌, ◌≤◌, ℕ, ◌+◌, List,
 use Rattle.spl_tree.specs.declared.statements.Stmt.{Stmt}
 use Rattle.spl_tree.specs.Views as view
 use Rattle.spl_tree.specs.StatementTrees.{Statement, Statements, statements, and}
-use Rattle.spl_meaning.specs.Names.{Names}
-use Rattle.spl_meaning.specs.Limits.{Full}
+use Rattle.spl_sorts.specs.spl_meaning.Names.{Names}
+use Rattle.spl_sorts.specs.spl_meaning.Limits.{Full}
 use Rattle.spl_depths.specs.Reach.{Reach}
 use Rattle.spl_depths.specs.Reached.{reached_statement, reached_statements}
 use Rattle.spl_depths.proofs.WordWalks.{onward, onward_end}

@@ -4,10 +4,10 @@ use Rattle.std.specs.Prelude.{if◌then◌else◌, nat_lt}
 use Rattle.std.proofs.lemmas.Bool.{ltb-false}
 use Rattle.spl_tree.specs.declared.expressions.Kind.{Kind}
 use Rattle.spl_tree.specs.declared.expressions.Kind.TheVariants as kind
-use Rattle.spl_meaning.specs.Names.{Formal, profile_of, formals_of}
-use Rattle.spl_meaning.specs.Kinds.{result_width}
-use Rattle.spl_meaning.specs.Pending.{formal_words, formals_words, result_words}
-use Rattle.spl_meaning.specs.Limits.{passing, parameter_sizes, most_parameters}
+use Rattle.spl_sorts.specs.spl_meaning.Names.{Formal, profile_of, formals_of}
+use Rattle.spl_sorts.specs.spl_meaning.Kinds.{result_width}
+use Rattle.spl_sorts.specs.spl_meaning.Pending.{formal_words, formals_words, result_words}
+use Rattle.spl_sorts.specs.spl_meaning.Limits.{passing, parameter_sizes, most_parameters}
 use Rattle.spl_depths.specs.HeadingLaws.{HeadingsHaveFewWords}
 use Rattle.spl_depths.proofs.PassingWalks.{counted}
 

@@ -6,7 +6,7 @@ use Rattle.spl_tree.specs.declared.expressions.Kind.{Kind}
 use Rattle.spl_tree.specs.declared.expressions.Kind.TheVariants as kind
 use Rattle.spl_tree.specs.Trees as tree
 use Rattle.spl_tree.specs.Trees.{Tree}
-use Rattle.spl_meaning.specs.Names.{Formal, Profile, nothing_declared}
+use Rattle.spl_sorts.specs.spl_meaning.Names.{Formal, Profile, nothing_declared}
 use Rattle.spl_depths.specs.Reach.{parameters_below, reach_of}
 use Rattle.spl_depths.specs.Reached.{reached}
 

@@ -8,3 +8,5 @@ pub mod ReachLaws
 pub mod PassingWalks
 pub mod HeadingLaws
 mod KnownReach
+-- Passed on from the crates below.
+pub use Rattle.spl_uses.proofs.spl_found_proofs

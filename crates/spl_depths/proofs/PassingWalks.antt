@@ -3,9 +3,9 @@ use Rattle.std.proofs.Common.{◌≡◌, ◌<◌, ◌≤◌, ℕ, ◌+◌, Bool,
 use Rattle.std.specs.Prelude.{if◌then◌else◌, nat_lt}
 use Rattle.spl_tree.specs.declared.expressions.Kind.{Kind}
 use Rattle.spl_tree.specs.declared.expressions.Kind.TheVariants as kind
-use Rattle.spl_meaning.specs.Names as n
-use Rattle.spl_meaning.specs.Pending.{formal_words, by_value, value_words}
-use Rattle.spl_meaning.specs.Limits.{passing, parameter_sizes}
+use Rattle.spl_sorts.specs.spl_meaning.Names as n
+use Rattle.spl_sorts.specs.spl_meaning.Pending.{formal_words, by_value, value_words}
+use Rattle.spl_sorts.specs.spl_meaning.Limits.{passing, parameter_sizes}
 use Rattle.spl_sorts.specs.declared.profiles.Formal.{Formal}
 use Rattle.spl_sorts.specs.Profiles.{formal_of}
 use Rattle.spl_depths.proofs.WordWalks.{onward, onward_end}

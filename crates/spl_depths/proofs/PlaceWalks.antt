@@ -5,10 +5,10 @@ use Rattle.std.specs.Map.{lookup}
 use lib.Pointwise.{pointwise}
 use Rattle.arrayvec.specs.ArrayVec.{ArrayVec}
 use Rattle.spl_tree.specs.Views.{letters}
-use Rattle.spl_meaning.specs.Names as n
-use Rattle.spl_meaning.specs.Names.{find, or_else, same_name}
-use Rattle.spl_meaning.specs.Pending.{formal_words, formals_words, result_words}
-use Rattle.spl_found.specs.OwnNames.{with_name}
+use Rattle.spl_sorts.specs.spl_meaning.Names as n
+use Rattle.spl_sorts.specs.spl_meaning.Names.{find, or_else, same_name}
+use Rattle.spl_sorts.specs.spl_meaning.Pending.{formal_words, formals_words, result_words}
+use Rattle.spl_uses.specs.spl_found.OwnNames.{with_name}
 use Rattle.spl_sorts.specs.declared.profiles.Formal.{Formal}
 use Rattle.spl_sorts.specs.Profiles.{formal_of}
 use Rattle.spl_depths.specs.declared.reach.Reach as code

@@ -10,12 +10,12 @@ use Rattle.spl_tree.specs.Trees.{Tree, Trees}
 use Rattle.spl_tree.specs.StatementTrees as stat
 use Rattle.spl_tree.specs.StatementTrees.{Statement, Statements, Target, Source, Effect, Test}
 use Rattle.spl_tree.specs.DeclarationTrees.{Heading}
-use Rattle.spl_meaning.specs.Names.{Names, Formal, find, or_else, same_name, profile_of, formals_of}
-use Rattle.spl_meaning.specs.Kinds.{callable}
-use Rattle.spl_meaning.specs.Places.{Place, below_return}
-use Rattle.spl_meaning.specs.Pending.{formal_words, formals_words, result_words, first_formal, other_formals, argument_words, profile_formals, profile_result_words, left_words, waiting, behind_first, behind_second}
-use Rattle.spl_meaning.specs.Bodies.{parameter_places}
-use Rattle.spl_meaning.specs.Limits.{Full, Use, use_of, first_among, sooner_full, joined, reach_by, use_limits, heading_limits, place_used, words_below, uses, uses_among, index_uses, target_uses, effect_uses, test_uses, step_uses, statement_uses, statements_uses}
+use Rattle.spl_sorts.specs.spl_meaning.Names.{Names, Formal, find, or_else, same_name, profile_of, formals_of}
+use Rattle.spl_sorts.specs.spl_meaning.Kinds.{callable}
+use Rattle.spl_sorts.specs.spl_meaning.Places.{Place, below_return}
+use Rattle.spl_sorts.specs.spl_meaning.Pending.{formal_words, formals_words, result_words, first_formal, other_formals, argument_words, profile_formals, profile_result_words, left_words, waiting, behind_first, behind_second}
+use Rattle.spl_sorts.specs.spl_meaning.Bodies.{parameter_places}
+use Rattle.spl_sorts.specs.spl_meaning.Limits.{Full, Use, use_of, first_among, sooner_full, joined, reach_by, use_limits, heading_limits, place_used, words_below, uses, uses_among, index_uses, target_uses, effect_uses, test_uses, step_uses, statement_uses, statements_uses}
 use Rattle.spl_depths.specs.Reach.{Reach, parameters_below, result_below, reach_of, reached_by}
 use Rattle.spl_depths.specs.Reached.{reached, reached_among, reached_index, reached_target, reached_effect, reached_test, reached_step, reached_statement, reached_statements}
 use Rattle.spl_depths.specs.ReachLaws.{FirstUseIsFound, body_limits}

@@ -9,8 +9,8 @@ use Rattle.spl_tree.specs.declared.statements.Stmt.TheFolds.{fold-roll-Stmt}
 use Rattle.spl_tree.specs.Views as view
 use Rattle.spl_tree.specs.StatementTrees as stat
 use Rattle.spl_tree.specs.StatementTrees.{Statement, statements, and, none}
-use Rattle.spl_meaning.specs.Names.{Names}
-use Rattle.spl_meaning.specs.Pending.{statement_most, statements_most}
+use Rattle.spl_sorts.specs.spl_meaning.Names.{Names}
+use Rattle.spl_sorts.specs.spl_meaning.Pending.{statement_most, statements_most}
 use Rattle.spl_depths.proofs.WordWalks.{onward, onward_end}
 
 pub statement_step : (names : Names) (list : List Stmt) (i : ℕ) (s : Stmt) → i < length list → s ≡ get_or list i s

@@ -3,9 +3,9 @@ use Rattle.std.proofs.Common.{◌≡◌, ◌<◌, ◌≤◌, ℕ, ◌+◌, List,
 use Rattle.spl_tree.specs.declared.expressions.Expr.{Expr}
 use Rattle.spl_tree.specs.Views as view
 use Rattle.spl_tree.specs.Trees.{Tree, Trees, trees, and}
-use Rattle.spl_meaning.specs.Names.{Names, Formal}
-use Rattle.spl_meaning.specs.Pending.{first_formal, other_formals, argument_words}
-use Rattle.spl_meaning.specs.Limits.{Full}
+use Rattle.spl_sorts.specs.spl_meaning.Names.{Names, Formal}
+use Rattle.spl_sorts.specs.spl_meaning.Pending.{first_formal, other_formals, argument_words}
+use Rattle.spl_sorts.specs.spl_meaning.Limits.{Full}
 use Rattle.spl_depths.specs.Reach.{Reach}
 use Rattle.spl_depths.specs.Reached.{reached, reached_among}
 use Rattle.spl_depths.proofs.WordWalks.{onward, onward_end}

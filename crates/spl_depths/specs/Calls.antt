@@ -1,9 +1,9 @@
 -- The words of a call, as parts of what waits in an expression.
 use Rattle.std.specs.Prelude.{ℕ, ◌+◌, max, Option}
 use Rattle.spl_tree.specs.Trees.{Trees}
-use Rattle.spl_meaning.specs.Names.{Names, Sort}
-use Rattle.spl_meaning.specs.Kinds.{callable}
-use Rattle.spl_meaning.specs.Pending.{formals_words, profile_formals, profile_result_words, link_words, most_of}
+use Rattle.spl_sorts.specs.spl_meaning.Names.{Names, Sort}
+use Rattle.spl_sorts.specs.spl_meaning.Kinds.{callable}
+use Rattle.spl_sorts.specs.spl_meaning.Pending.{formals_words, profile_formals, profile_result_words, link_words, most_of}
 
 -- the result, the parameters and the link, where a name can be called
 abbrev pub call_words : Option Sort → ℕ

@@ -1,6 +1,6 @@
 -- Limits that are passed, as the meaning of sources has them.
 use Rattle.std.specs.Prelude.{List, [], ◌∷◌, Option, Some, None}
-use Rattle.spl_meaning.specs.Limits as limits
+use Rattle.spl_sorts.specs.spl_meaning.Limits as limits
 use Rattle.spl_depths.specs.declared.full.Full.{Full}
 
 -- a limit, a place and a count

@@ -4,8 +4,8 @@ use Rattle.spl_tree.specs.Trees as tree
 use Rattle.spl_tree.specs.Trees.{Tree, Trees}
 use Rattle.spl_tree.specs.StatementTrees as stat
 use Rattle.spl_tree.specs.StatementTrees.{Statement}
-use Rattle.spl_meaning.specs.Names.{Names}
-use Rattle.spl_meaning.specs.Pending.{most, trees_most, target_most, waiting, effect_most}
+use Rattle.spl_sorts.specs.spl_meaning.Names.{Names}
+use Rattle.spl_sorts.specs.spl_meaning.Pending.{most, trees_most, target_most, waiting, effect_most}
 
 -- the first value, the step and the last value of a FOR
 abbrev pub head_most : Names → Tree → Trees → Tree → ℕ

@@ -2,9 +2,9 @@
 use Rattle.std.specs.Prelude.{ℕ, ◌+◌, List, [], ◌∷◌, map, Option}
 use Rattle.arrayvec.specs.ArrayVec.{ArrayVec}
 use Rattle.spl_tree.specs.Views.{letters}
-use Rattle.spl_meaning.specs.Names.{Formal, Table, find, or_else}
-use Rattle.spl_meaning.specs.Pending.{formal_words, formals_words}
-use Rattle.spl_found.specs.OwnNames.{with_name}
+use Rattle.spl_sorts.specs.spl_meaning.Names.{Formal, Table, find, or_else}
+use Rattle.spl_sorts.specs.spl_meaning.Pending.{formal_words, formals_words}
+use Rattle.spl_uses.specs.spl_found.OwnNames.{with_name}
 use Rattle.spl_depths.specs.declared.reach.Places.{Places}
 use Rattle.spl_depths.specs.declared.reach.Reach as code
 use Rattle.spl_depths.specs.Reach.{Reach, result_below}

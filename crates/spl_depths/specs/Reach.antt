@@ -1,8 +1,8 @@
 -- How far below the return word a subroutine's parameters and result stand, and a use of one that is too far beneath the top.
 use Rattle.std.specs.Prelude.{ℕ, ◌+◌, Bool, true, false, if◌then◌else◌, List, [], ◌∷◌, Option, Some, None}
-use Rattle.spl_meaning.specs.Names.{Formal, Profile, Table, find, or_else, same_name}
-use Rattle.spl_meaning.specs.Pending.{formal_words, formals_words, result_words}
-use Rattle.spl_meaning.specs.Limits.{Full, Use, reach_by, first_among}
+use Rattle.spl_sorts.specs.spl_meaning.Names.{Formal, Profile, Table, find, or_else, same_name}
+use Rattle.spl_sorts.specs.spl_meaning.Pending.{formal_words, formals_words, result_words}
+use Rattle.spl_sorts.specs.spl_meaning.Limits.{Full, Use, reach_by, first_among}
 
 -- how many words below the return word a name stands, where it is assigned or not
 abbrev pub Reach : Type 0

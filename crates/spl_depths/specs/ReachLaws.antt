@@ -2,8 +2,8 @@
 use Rattle.std.specs.Prelude.{ℕ, ◌≡◌, ◌++◌, List, Option}
 use Rattle.spl_tree.specs.StatementTrees.{Statement}
 use Rattle.spl_tree.specs.DeclarationTrees.{Heading}
-use Rattle.spl_meaning.specs.Names.{Names, profile_of}
-use Rattle.spl_meaning.specs.Limits.{Full, first_among, joined, use_limits, statement_uses, heading_limits}
+use Rattle.spl_sorts.specs.spl_meaning.Names.{Names, profile_of}
+use Rattle.spl_sorts.specs.spl_meaning.Limits.{Full, first_among, joined, use_limits, statement_uses, heading_limits}
 use Rattle.spl_depths.specs.Reach.{reach_of}
 use Rattle.spl_depths.specs.Reached.{reached_statement}
 

@@ -6,10 +6,10 @@ use Rattle.spl_tree.specs.Trees as tree
 use Rattle.spl_tree.specs.Trees.{Tree, Trees}
 use Rattle.spl_tree.specs.StatementTrees as stat
 use Rattle.spl_tree.specs.StatementTrees.{Statement, Statements, Target, Source, Effect, Test}
-use Rattle.spl_meaning.specs.Names.{Names, Formal}
-use Rattle.spl_meaning.specs.Kinds.{callable}
-use Rattle.spl_meaning.specs.Pending.{first_formal, other_formals, argument_words, profile_formals, profile_result_words, left_words, waiting, behind_first, behind_second}
-use Rattle.spl_meaning.specs.Limits.{Full, use_of}
+use Rattle.spl_sorts.specs.spl_meaning.Names.{Names, Formal}
+use Rattle.spl_sorts.specs.spl_meaning.Kinds.{callable}
+use Rattle.spl_sorts.specs.spl_meaning.Pending.{first_formal, other_formals, argument_words, profile_formals, profile_result_words, left_words, waiting, behind_first, behind_second}
+use Rattle.spl_sorts.specs.spl_meaning.Limits.{Full, use_of}
 use Rattle.spl_depths.specs.Reach.{Reach, reached_by}
 
 unfoldable mutual

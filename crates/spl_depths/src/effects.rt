@@ -2,7 +2,7 @@
 ghost use Rattle.std.specs.Prelude.{◌≡◌, IfOk};
 ghost use Rattle.spl_tree.specs.Views as view;
 ghost use Rattle.spl_tree.specs.Trees.{trees};
-ghost use Rattle.spl_meaning.specs.Pending as pending;
+ghost use Rattle.spl_sorts.specs.spl_meaning.Pending as pending;
 ghost use Rattle.spl_sorts.specs.Tables.{names_of};
 
 use crate::expressions::{measure, reference};

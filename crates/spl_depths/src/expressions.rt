@@ -4,8 +4,8 @@
 ghost use Rattle.std.specs.Prelude.{◌≡◌, IfOk, map, option_map};
 ghost use Rattle.spl_tree.specs.Views as view;
 ghost use Rattle.spl_tree.specs.Trees.{trees};
-ghost use Rattle.spl_meaning.specs.Kinds as kinds;
-ghost use Rattle.spl_meaning.specs.Pending as pending;
+ghost use Rattle.spl_sorts.specs.spl_meaning.Kinds as kinds;
+ghost use Rattle.spl_sorts.specs.spl_meaning.Pending as pending;
 ghost use Rattle.spl_sorts.specs.Sorts.{sort_of, operand_of};
 ghost use Rattle.spl_sorts.specs.Profiles.{formal_of};
 ghost use Rattle.spl_sorts.specs.Tables.{names_of};

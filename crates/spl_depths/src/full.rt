@@ -1,7 +1,7 @@
 //! The first limit that is passed.
 ghost use Rattle.std.specs.Prelude.{◌≡◌, None, option_map};
-ghost use Rattle.spl_meaning.specs.Faults as faults;
-ghost use Rattle.spl_meaning.specs.Limits as limits;
+ghost use Rattle.spl_sorts.specs.spl_meaning.Faults as faults;
+ghost use Rattle.spl_sorts.specs.spl_meaning.Limits as limits;
 ghost use Rattle.spl_depths.specs.Fulls.{full_of};
 
 use spl_sorts::Fault;
@@ -44,7 +44,7 @@ pub struct FirstFull {
 
 impl Model for FirstFull {
     ghost use Rattle.std.specs.Prelude.{Option, option_map};
-    ghost use Rattle.spl_meaning.specs.Limits as limits;
+    ghost use Rattle.spl_sorts.specs.spl_meaning.Limits as limits;
     ghost use Rattle.spl_depths.specs.Fulls.{full_of};
 
     ghost Value = { Option limits.Full };

@@ -1,8 +1,8 @@
 //! How far below its return word a subroutine's parameters and result stand.
 ghost use Rattle.std.specs.Prelude.{◌≡◌, OnOk, IfOk, map, []};
 ghost use Rattle.spl_tree.specs.Views.{letters};
-ghost use Rattle.spl_meaning.specs.Names.{find};
-ghost use Rattle.spl_found.specs.OwnNames.{with_name};
+ghost use Rattle.spl_sorts.specs.spl_meaning.Names.{find};
+ghost use Rattle.spl_uses.specs.spl_found.OwnNames.{with_name};
 ghost use Rattle.spl_sorts.specs.Profiles.{formal_of, profile_of};
 ghost use Rattle.spl_depths.specs.Reach.{parameters_below, reach_of};
 ghost use Rattle.spl_depths.specs.Places.{places_of, shown};

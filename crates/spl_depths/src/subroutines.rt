@@ -2,9 +2,9 @@
 ghost use Rattle.std.specs.Prelude.{◌≡◌, OnOk, option_map};
 ghost use Rattle.spl_tree.specs.Views as view;
 ghost use Rattle.spl_tree.specs.Spells.{heading_tree};
-ghost use Rattle.spl_meaning.specs.Names as n;
-ghost use Rattle.spl_meaning.specs.Limits as limits;
-ghost use Rattle.spl_meaning.specs.Pending as pending;
+ghost use Rattle.spl_sorts.specs.spl_meaning.Names as n;
+ghost use Rattle.spl_sorts.specs.spl_meaning.Limits as limits;
+ghost use Rattle.spl_sorts.specs.spl_meaning.Pending as pending;
 ghost use Rattle.spl_sorts.specs.Profiles.{profile_of};
 ghost use Rattle.spl_sorts.specs.Tables.{names_of};
 ghost use Rattle.spl_depths.specs.Fulls.{full_of, listed};

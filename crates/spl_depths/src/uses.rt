@@ -5,8 +5,8 @@ ghost use Rattle.std.specs.Prelude.{◌≡◌, OnOk, IfOk, map, [], option_map, 
 ghost use Rattle.spl_tree.specs.Views as view;
 ghost use Rattle.spl_tree.specs.Views.{letters};
 ghost use Rattle.spl_tree.specs.Trees.{trees};
-ghost use Rattle.spl_meaning.specs.Kinds.{kind_of};
-ghost use Rattle.spl_meaning.specs.Limits.{use_of};
+ghost use Rattle.spl_sorts.specs.spl_meaning.Kinds.{kind_of};
+ghost use Rattle.spl_sorts.specs.spl_meaning.Limits.{use_of};
 ghost use Rattle.spl_sorts.specs.Profiles.{formal_of};
 ghost use Rattle.spl_sorts.specs.Sorts.{operand_of};
 ghost use Rattle.spl_sorts.specs.Tables.{names_of};

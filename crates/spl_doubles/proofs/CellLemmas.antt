@@ -3,50 +3,50 @@ use Rattle.std.proofs.Common.{◌≡◌, ℕ, ◌+◌, ◌-◌, ◌<◌, ◌≤�
 use Rattle.std.specs.Prelude.{Option, Some, Ok, Result, slice_index}
 use Rattle.std.proofs.lemmas.List.{append-nil}
 use Rattle.std.proofs.Math.Seq.{take-length}
-use Rattle.hp_word.specs.declared.arithmetic.Code.{Code}
-use Rattle.hp_word.specs.declared.endings.Trap.{Trap}
-use Rattle.hp_word.specs.declared.endings.Trap.TheVariants.{Bounds}
-use Rattle.hp_instr.specs.declared.instruction.Instr.TheVariants as instr
-use Rattle.hp_instr.specs.declared.instruction.Mode.{Mode}
-use Rattle.hp_instr.specs.declared.instruction.Mode.TheVariants.{SMinus}
-use Rattle.hp_instr.specs.Instructions.{op}
-use Rattle.hp_session.specs.State.{Machine}
-use Rattle.hp_memory_rows.specs.MemoryRows.{memory_row}
-use Rattle.hp_flat.specs.Step.{at_left}
-use Rattle.hp_yields.specs.Rows.{Places}
-use Rattle.hp_yields.proofs.MemoryYields as rows
-use Rattle.spl_tree.specs.declared.expressions.Kind.{Kind}
-use Rattle.spl_tree.specs.declared.expressions.Kind.TheVariants as kind
-use Rattle.spl_meaning.specs.Operations.{kept}
-use Rattle.spl_meaning.specs.Places.{Place}
-use Rattle.spl_meaning.specs.References.{Setting, Located, led_located, store_by, store}
-use Rattle.spl_meaning.specs.States.{Data, State, End, Outcome, done, leaves, spent, ends, strays, then_go}
-use Rattle.spl_branch.specs.declared.pieces.Piece.TheVariants.{Do}
-use Rattle.spl_code.specs.Instructions.{LDX, DEL}
-use Rattle.spl_code.specs.Operands.{mode_of}
-use Rattle.spl_follow.specs.Spots.{Spot, pos, on, landed, Ground}
-use Rattle.spl_follow.specs.Leading.{Leads}
-use Rattle.spl_follow.specs.Matching.{outer, Matched, Kept, Coded, IsValue}
-use Rattle.spl_follow.specs.Following.{Rate, tally, Follows, NoExit}
-use Rattle.spl_follow.specs.Doing.{doing}
-use Rattle.spl_follow.specs.Yielding.{Becomes}
-use Rattle.spl_follow.specs.Parts.{Completes}
-use Rattle.spl_follow.proofs.FollowLemmas.{then_follows, tail_follows}
-use Rattle.spl_follow.proofs.KeepLemmas.{kept_same, kept_top, value_word}
-use Rattle.spl_follow.proofs.RowLemmas.{stray_here, row_trap, becomes_goes, becomes_matches}
-use Rattle.spl_values.specs.Reached.{is_reached}
-use Rattle.spl_values.proofs.GiveLemmas.{last_leads}
-use Rattle.spl_operands.specs.Operands.{Finds, Refers}
-use Rattle.spl_operands.proofs.OperandLemmas.{top_based, direct, place_refers, first_element, indexed_element}
-use Rattle.spl_operands.proofs.StoreLemmas.{index_deleted}
-use Rattle.spl_operands.proofs.AssignLemmas.{value_stored, element_stored_by}
+use Rattle.spl_operators.specs.hp_word.declared.arithmetic.Code.{Code}
+use Rattle.spl_operators.specs.hp_word.declared.endings.Trap.{Trap}
+use Rattle.spl_operators.specs.hp_word.declared.endings.Trap.TheVariants.{Bounds}
+use Rattle.spl_operators.specs.hp_instr.declared.instruction.Instr.TheVariants as instr
+use Rattle.spl_operators.specs.hp_instr.declared.instruction.Mode.{Mode}
+use Rattle.spl_operators.specs.hp_instr.declared.instruction.Mode.TheVariants.{SMinus}
+use Rattle.spl_operators.specs.hp_instr.Instructions.{op}
+use Rattle.spl_operators.specs.hp_session.State.{Machine}
+use Rattle.spl_operators.specs.hp_memory_rows.MemoryRows.{memory_row}
+use Rattle.spl_operators.specs.hp_flat.Step.{at_left}
+use Rattle.spl_operators.specs.hp_yields.Rows.{Places}
+use Rattle.spl_operators.proofs.hp_yields_proofs.MemoryYields as rows
+use Rattle.spl_operators.specs.spl_tree.declared.expressions.Kind.{Kind}
+use Rattle.spl_operators.specs.spl_tree.declared.expressions.Kind.TheVariants as kind
+use Rattle.spl_operators.specs.spl_meaning.Operations.{kept}
+use Rattle.spl_operators.specs.spl_meaning.Places.{Place}
+use Rattle.spl_operators.specs.spl_meaning.References.{Setting, Located, led_located, store_by, store}
+use Rattle.spl_operators.specs.spl_meaning.States.{Data, State, End, Outcome, done, leaves, spent, ends, strays, then_go}
+use Rattle.spl_operators.specs.spl_branch.declared.pieces.Piece.TheVariants.{Do}
+use Rattle.spl_operators.specs.spl_code.Instructions.{LDX, DEL}
+use Rattle.spl_operators.specs.spl_code.Operands.{mode_of}
+use Rattle.spl_operators.specs.spl_follow.Spots.{Spot, pos, on, landed, Ground}
+use Rattle.spl_operators.specs.spl_follow.Leading.{Leads}
+use Rattle.spl_operators.specs.spl_follow.Matching.{outer, Matched, Kept, Coded, IsValue}
+use Rattle.spl_operators.specs.spl_follow.Following.{Rate, tally, Follows, NoExit}
+use Rattle.spl_operators.specs.spl_follow.Doing.{doing}
+use Rattle.spl_operators.specs.spl_follow.Yielding.{Becomes}
+use Rattle.spl_operators.specs.spl_follow.Parts.{Completes}
+use Rattle.spl_operators.proofs.spl_follow_proofs.FollowLemmas.{then_follows, tail_follows}
+use Rattle.spl_operators.proofs.spl_follow_proofs.KeepLemmas.{kept_same, kept_top, value_word}
+use Rattle.spl_operators.proofs.spl_follow_proofs.RowLemmas.{stray_here, row_trap, becomes_goes, becomes_matches}
+use Rattle.spl_operators.specs.spl_values.Reached.{is_reached}
+use Rattle.spl_operators.proofs.spl_values_proofs.GiveLemmas.{last_leads}
+use Rattle.spl_variables.specs.spl_operands.Operands.{Finds, Refers}
+use Rattle.spl_variables.proofs.spl_operands_proofs.OperandLemmas.{top_based, direct, place_refers, first_element, indexed_element}
+use Rattle.spl_variables.proofs.spl_operands_proofs.StoreLemmas.{index_deleted}
+use Rattle.spl_variables.proofs.spl_operands_proofs.AssignLemmas.{value_stored, element_stored_by}
 use Rattle.spl_doubles.specs.Laws.{DoubleCellsAssigned, DoubleElementsAssigned}
 use Rattle.spl_doubles.proofs.StoreLemmas.{StoringDouble, value_storing, double_put}
 
 -- ---- where a reference leads
 
 -- STD where its operand is what a reference leads to
-store_follows : (g : Ground) (w : Rate) (p q : Spot) (st : Setting) (mode : Mode) (i x : Bool) (k h l : ℕ) (d0 : Data) (m0 : Machine) (s : State) (m : Machine)
+pub store_follows : (g : Ground) (w : Rate) (p q : Spot) (st : Setting) (mode : Mode) (i x : Bool) (k h l : ℕ) (d0 : Data) (m0 : Machine) (s : State) (m : Machine)
     (o : Outcome Located) → Leads g (on p) q (doing g.segments (instr.Memory 14 true x i mode) q) → StoringDouble st p k d0 m0 h l s m
     → Refers kind.Double mode i x s (at_left m) o
     → Follows g w (pos q - pos p) 0 w.reach (tally s) m (Completes st q k d0 m0) NoExit (then_go o (λ y u. store y (kept y.kind (h ∷ l ∷ [])) u))

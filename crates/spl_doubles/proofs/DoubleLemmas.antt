@@ -4,50 +4,50 @@ use Rattle.std.specs.Prelude.{◌^◌, nat_lt, if◌then◌else◌, bit_and}
 use Rattle.std.proofs.lemmas.Bool.{ltb-true, ltb-false, false≢true}
 use Rattle.std.proofs.lemmas.Nat.{and_mask}
 use Rattle.std.proofs.Math.Logic.{⊎_elim}
-use Rattle.hp_word.specs.declared.arithmetic.Wide.{Wide}
-use Rattle.hp_word.specs.declared.endings.Trap.TheVariants.{IntegerOverflow}
-use Rattle.hp_word.specs.Bits.{shifted}
-use Rattle.hp_word.specs.Bytes.{double, high_word, low_word}
-use Rattle.hp_word.specs.Words.{double_added, double_subtracted, double_result}
-use Rattle.hp_word.proofs.ShiftLemmas.{shifted-Asr, shifted-Asr-negative}
-use Rattle.hp_word.proofs.WordLaws.{double_of-below}
-use Rattle.hp_instr.specs.declared.instruction.Instr.TheVariants as i
-use Rattle.hp_instr.specs.Instructions.{op}
-use Rattle.hp_session.specs.State.{Machine, word}
-use Rattle.hp_stack_rows.specs.StackRows.{operated, lower_double, upper_double}
-use Rattle.hp_word_rows.specs.WordRows.{shift_of, shifting, immediate_row}
-use Rattle.hp_flat.specs.Step.{at_left}
-use Rattle.hp_yields.specs.Rows.{SettlesWide}
-use Rattle.hp_yields.proofs.StackYields as rows
-use Rattle.hp_yields.proofs.WordYields as word_rows
-use Rattle.spl_branch.specs.declared.pieces.Piece.{Piece}
-use Rattle.spl_branch.specs.declared.pieces.Piece.TheVariants.{Do}
-use Rattle.spl_tree.specs.declared.expressions.Kind.TheVariants as kind
-use Rattle.spl_meaning.specs.Kinds.{of, const, unknown, doubles, plus, minus}
-use Rattle.spl_meaning.specs.Operations.{double_words, double_done, by_class, transferred}
-use Rattle.spl_meaning.specs.References.{Setting}
-use Rattle.spl_meaning.specs.States.{Data, State, Outcome, done, ends, trapped, then_go}
-use Rattle.spl_code.specs.Code.{as_value}
-use Rattle.spl_code.specs.Constants.{constant}
-use Rattle.spl_code.specs.Instructions.{ZERO, DELB, DUP, XCH, LDI, LDNI, LSL, ASR, ANDI, ORI}
-use Rattle.spl_code.specs.Operators.{class_operator}
-use Rattle.spl_code.specs.Parts.{Part, pieces, ◌⨟◌}
-use Rattle.spl_follow.specs.Spots.{Spot, pos, on, Ground}
-use Rattle.spl_follow.specs.Leading.{Leads}
-use Rattle.spl_follow.specs.Matching.{IsValue}
-use Rattle.spl_follow.specs.Following.{Rate, tally, tally_with, Follows, NoExit}
-use Rattle.spl_follow.specs.Doing.{doing}
-use Rattle.spl_follow.specs.Standing.{Stands, IsClosed, due_after}
-use Rattle.spl_follow.specs.Yielding.{Yields}
-use Rattle.spl_follow.specs.Simulating.{Surroundings, Simulates}
-use Rattle.spl_follow.proofs.FollowLemmas.{bind_follows}
-use Rattle.spl_follow.proofs.KeepLemmas.{values_join, value_word, value_ready}
-use Rattle.spl_follow.proofs.PartLemmas.{stand_in_order, rows_trap, values_follow}
-use Rattle.spl_follow.proofs.StandLemmas.{closed_last}
-use Rattle.spl_values.specs.Reached.{IsWhole}
-use Rattle.spl_values.proofs.ConstantLemmas.{constants_give as words_give}
-use Rattle.spl_values.proofs.GiveLemmas.{last_leads, value_row}
-use Rattle.spl_values.proofs.SumLemmas.{sum_cases, front_on}
+use Rattle.spl_operators.specs.hp_word.declared.arithmetic.Wide.{Wide}
+use Rattle.spl_operators.specs.hp_word.declared.endings.Trap.TheVariants.{IntegerOverflow}
+use Rattle.spl_operators.specs.hp_word.Bits.{shifted}
+use Rattle.spl_operators.specs.hp_word.Bytes.{double, high_word, low_word}
+use Rattle.spl_operators.specs.hp_word.Words.{double_added, double_subtracted, double_result}
+use Rattle.spl_operators.proofs.hp_word_proofs.ShiftLemmas.{shifted-Asr, shifted-Asr-negative}
+use Rattle.spl_operators.proofs.hp_word_proofs.WordLaws.{double_of-below}
+use Rattle.spl_operators.specs.hp_instr.declared.instruction.Instr.TheVariants as i
+use Rattle.spl_operators.specs.hp_instr.Instructions.{op}
+use Rattle.spl_operators.specs.hp_session.State.{Machine, word}
+use Rattle.spl_operators.specs.hp_stack_rows.StackRows.{operated, lower_double, upper_double}
+use Rattle.spl_operators.specs.hp_word_rows.WordRows.{shift_of, shifting, immediate_row}
+use Rattle.spl_operators.specs.hp_flat.Step.{at_left}
+use Rattle.spl_operators.specs.hp_yields.Rows.{SettlesWide}
+use Rattle.spl_operators.proofs.hp_yields_proofs.StackYields as rows
+use Rattle.spl_operators.proofs.hp_yields_proofs.WordYields as word_rows
+use Rattle.spl_operators.specs.spl_branch.declared.pieces.Piece.{Piece}
+use Rattle.spl_operators.specs.spl_branch.declared.pieces.Piece.TheVariants.{Do}
+use Rattle.spl_operators.specs.spl_tree.declared.expressions.Kind.TheVariants as kind
+use Rattle.spl_operators.specs.spl_meaning.Kinds.{of, const, unknown, doubles, plus, minus}
+use Rattle.spl_operators.specs.spl_meaning.Operations.{double_words, double_done, by_class, transferred}
+use Rattle.spl_operators.specs.spl_meaning.References.{Setting}
+use Rattle.spl_operators.specs.spl_meaning.States.{Data, State, Outcome, done, ends, trapped, then_go}
+use Rattle.spl_operators.specs.spl_code.Code.{as_value}
+use Rattle.spl_operators.specs.spl_code.Constants.{constant}
+use Rattle.spl_operators.specs.spl_code.Instructions.{ZERO, DELB, DUP, XCH, LDI, LDNI, LSL, ASR, ANDI, ORI}
+use Rattle.spl_operators.specs.spl_code.Operators.{class_operator}
+use Rattle.spl_operators.specs.spl_code.Parts.{Part, pieces, ◌⨟◌}
+use Rattle.spl_operators.specs.spl_follow.Spots.{Spot, pos, on, Ground}
+use Rattle.spl_operators.specs.spl_follow.Leading.{Leads}
+use Rattle.spl_operators.specs.spl_follow.Matching.{IsValue}
+use Rattle.spl_operators.specs.spl_follow.Following.{Rate, tally, tally_with, Follows, NoExit}
+use Rattle.spl_operators.specs.spl_follow.Doing.{doing}
+use Rattle.spl_operators.specs.spl_follow.Standing.{Stands, IsClosed, due_after}
+use Rattle.spl_operators.specs.spl_follow.Yielding.{Yields}
+use Rattle.spl_operators.specs.spl_follow.Simulating.{Surroundings, Simulates}
+use Rattle.spl_operators.proofs.spl_follow_proofs.FollowLemmas.{bind_follows}
+use Rattle.spl_operators.proofs.spl_follow_proofs.KeepLemmas.{values_join, value_word, value_ready}
+use Rattle.spl_operators.proofs.spl_follow_proofs.PartLemmas.{stand_in_order, rows_trap, values_follow}
+use Rattle.spl_operators.proofs.spl_follow_proofs.StandLemmas.{closed_last}
+use Rattle.spl_operators.specs.spl_values.Reached.{IsWhole}
+use Rattle.spl_operators.proofs.spl_values_proofs.ConstantLemmas.{constants_give as words_give}
+use Rattle.spl_operators.proofs.spl_values_proofs.GiveLemmas.{last_leads, value_row}
+use Rattle.spl_operators.proofs.spl_values_proofs.SumLemmas.{sum_cases, front_on}
 use Rattle.spl_operators.proofs.RowLemmas.{words_row, row_then, value_there, value_room, yields_beneath, lower_deleted, zero_behind_one, exchanged}
 use Rattle.spl_doubles.specs.Laws.{DoubleConstantsSimulate, DoubleSumsSimulate, LowWordsSimulate, ExtensionsSimulate}
 

@@ -1,45 +1,45 @@
 -- Relations of DOUBLEs: both wait on top, DCMP compares and deletes them, and the code decides where the test leads.
 use Rattle.std.proofs.Common.{◌≡◌, ℕ, ◌+◌, ◌-◌, ◌≤◌, true, false, List, [], ◌∷◌, ◌++◌, length, refl, sym, ap, subst, ◌∙◌, arith}
 use Rattle.std.specs.Prelude.{take, if◌then◌else◌}
-use Rattle.hp_word.specs.declared.arithmetic.Code.{Code}
-use Rattle.hp_word.specs.Bytes.{double}
-use Rattle.hp_word.specs.Words.{doubles_compared}
-use Rattle.hp_instr.specs.declared.instruction.Instr.TheVariants as i
-use Rattle.hp_instr.specs.Instructions.{op}
-use Rattle.hp_session.specs.State.{Machine, word}
-use Rattle.hp_stack_rows.specs.StackRows.{operated, upper_double}
-use Rattle.hp_memory_rows.specs.MemoryRows.{is_named}
-use Rattle.hp_yields.proofs.StackYields as rows
-use Rattle.spl_branch.specs.declared.pieces.Piece.TheVariants.{Do}
-use Rattle.spl_meaning.specs.Kinds.{doubles, is_relation, relation_number}
-use Rattle.spl_meaning.specs.Names.{truth_word}
-use Rattle.spl_meaning.specs.Operations.{is_odd, related, relation_done, by_class}
-use Rattle.spl_meaning.specs.References.{Setting}
-use Rattle.spl_meaning.specs.States.{Data, State, Outcome, then_go}
-use Rattle.spl_code.specs.Code as made
-use Rattle.spl_code.specs.Code.{as_value, as_test}
-use Rattle.spl_code.specs.Instructions.{BCC}
-use Rattle.spl_code.specs.Operators.{comparison, failing_codes}
-use Rattle.spl_code.specs.Parts.{Part, pieces, ◌⨟◌}
-use Rattle.spl_follow.specs.Spots.{Spot, pos, landed, on, Ground}
-use Rattle.spl_follow.specs.Leading.{Leads}
-use Rattle.spl_follow.specs.Matching.{outer, Matches, Kept, Coded, IsValue, Arrives}
-use Rattle.spl_follow.specs.Following.{Rate, tally, tally_with, Goes, Follows, NoExit}
-use Rattle.spl_follow.specs.Doing.{doing, turning}
-use Rattle.spl_follow.specs.Parts.{Tested}
-use Rattle.spl_follow.specs.Simulating.{Surroundings, Simulates}
-use Rattle.spl_follow.proofs.FollowLemmas.{bind_follows, then_follows}
-use Rattle.spl_follow.proofs.KeepLemmas.{kept_top, matched_length, value_word, value_ready, values_join}
-use Rattle.spl_follow.proofs.PartLemmas.{stand_in_order}
-use Rattle.spl_follow.proofs.RowLemmas.{becomes_goes, becomes_matches, yields_matched, yields_kept}
-use Rattle.spl_follow.proofs.StandLemmas.{closed_last}
-use Rattle.spl_values.specs.Reached.{IsWhole}
-use Rattle.spl_values.proofs.GiveLemmas.{last_leads}
-use Rattle.spl_values.proofs.SumLemmas.{front_on}
-use Rattle.spl_values.proofs.WholeLemmas.{whole_then, whole_behind}
-use Rattle.spl_conditions.proofs.BranchLemmas.{branch_leads, code_branches}
-use Rattle.spl_conditions.proofs.ConditionLemmas.{Answers, answers_then, conditions}
-use Rattle.spl_conditions.proofs.RelationLemmas.{fails_where}
+use Rattle.spl_operators.specs.hp_word.declared.arithmetic.Code.{Code}
+use Rattle.spl_operators.specs.hp_word.Bytes.{double}
+use Rattle.spl_operators.specs.hp_word.Words.{doubles_compared}
+use Rattle.spl_operators.specs.hp_instr.declared.instruction.Instr.TheVariants as i
+use Rattle.spl_operators.specs.hp_instr.Instructions.{op}
+use Rattle.spl_operators.specs.hp_session.State.{Machine, word}
+use Rattle.spl_operators.specs.hp_stack_rows.StackRows.{operated, upper_double}
+use Rattle.spl_operators.specs.hp_memory_rows.MemoryRows.{is_named}
+use Rattle.spl_operators.proofs.hp_yields_proofs.StackYields as rows
+use Rattle.spl_operators.specs.spl_branch.declared.pieces.Piece.TheVariants.{Do}
+use Rattle.spl_operators.specs.spl_meaning.Kinds.{doubles, is_relation, relation_number}
+use Rattle.spl_operators.specs.spl_meaning.Names.{truth_word}
+use Rattle.spl_operators.specs.spl_meaning.Operations.{is_odd, related, relation_done, by_class}
+use Rattle.spl_operators.specs.spl_meaning.References.{Setting}
+use Rattle.spl_operators.specs.spl_meaning.States.{Data, State, Outcome, then_go}
+use Rattle.spl_operators.specs.spl_code.Code as made
+use Rattle.spl_operators.specs.spl_code.Code.{as_value, as_test}
+use Rattle.spl_operators.specs.spl_code.Instructions.{BCC}
+use Rattle.spl_operators.specs.spl_code.Operators.{comparison, failing_codes}
+use Rattle.spl_operators.specs.spl_code.Parts.{Part, pieces, ◌⨟◌}
+use Rattle.spl_operators.specs.spl_follow.Spots.{Spot, pos, landed, on, Ground}
+use Rattle.spl_operators.specs.spl_follow.Leading.{Leads}
+use Rattle.spl_operators.specs.spl_follow.Matching.{outer, Matches, Kept, Coded, IsValue, Arrives}
+use Rattle.spl_operators.specs.spl_follow.Following.{Rate, tally, tally_with, Goes, Follows, NoExit}
+use Rattle.spl_operators.specs.spl_follow.Doing.{doing, turning}
+use Rattle.spl_operators.specs.spl_follow.Parts.{Tested}
+use Rattle.spl_operators.specs.spl_follow.Simulating.{Surroundings, Simulates}
+use Rattle.spl_operators.proofs.spl_follow_proofs.FollowLemmas.{bind_follows, then_follows}
+use Rattle.spl_operators.proofs.spl_follow_proofs.KeepLemmas.{kept_top, matched_length, value_word, value_ready, values_join}
+use Rattle.spl_operators.proofs.spl_follow_proofs.PartLemmas.{stand_in_order}
+use Rattle.spl_operators.proofs.spl_follow_proofs.RowLemmas.{becomes_goes, becomes_matches, yields_matched, yields_kept}
+use Rattle.spl_operators.proofs.spl_follow_proofs.StandLemmas.{closed_last}
+use Rattle.spl_operators.specs.spl_values.Reached.{IsWhole}
+use Rattle.spl_operators.proofs.spl_values_proofs.GiveLemmas.{last_leads}
+use Rattle.spl_operators.proofs.spl_values_proofs.SumLemmas.{front_on}
+use Rattle.spl_operators.proofs.spl_values_proofs.WholeLemmas.{whole_then, whole_behind}
+use Rattle.spl_operators.proofs.spl_conditions_proofs.BranchLemmas.{branch_leads, code_branches}
+use Rattle.spl_operators.proofs.spl_conditions_proofs.ConditionLemmas.{Answers, answers_then, conditions}
+use Rattle.spl_operators.proofs.spl_conditions_proofs.RelationLemmas.{fails_where}
 use Rattle.spl_operators.proofs.RowLemmas.{value_there}
 use Rattle.spl_doubles.specs.Laws.{DoubleRelationsSimulate}
 

@@ -3,38 +3,38 @@ use Rattle.std.proofs.Common.{◌≡◌, ℕ, ◌+◌, ◌-◌, ◌<◌, Bool, t
 use Rattle.std.specs.Prelude.{if◌then◌else◌}
 use Rattle.std.proofs.lemmas.List.{append-nil}
 use Rattle.std.proofs.Math.Logic.{⊎_elim}
-use Rattle.hp_word.specs.declared.endings.Trap.TheVariants.{IntegerOverflow}
-use Rattle.hp_word.specs.Bytes.{double, high_word, low_word}
-use Rattle.hp_word.specs.Words.{double_negated, double_result}
-use Rattle.hp_word.proofs.WordLaws.{double_of-below}
-use Rattle.hp_instr.specs.declared.instruction.Instr.TheVariants as i
-use Rattle.hp_instr.specs.Instructions.{op}
-use Rattle.hp_session.specs.State.{Machine, word}
-use Rattle.hp_stack_rows.specs.StackRows.{operated}
-use Rattle.hp_yields.specs.Rows.{SettlesWide}
-use Rattle.hp_yields.proofs.StackYields as rows
-use Rattle.spl_branch.specs.declared.pieces.Piece.{Piece}
-use Rattle.spl_branch.specs.declared.pieces.Piece.TheVariants.{Do}
-use Rattle.spl_tree.specs.declared.expressions.Kind.TheVariants as kind
-use Rattle.spl_meaning.specs.Kinds.{of}
-use Rattle.spl_meaning.specs.Operations.{double_words, double_done, minus_done, signed_done}
-use Rattle.spl_meaning.specs.References.{Setting}
-use Rattle.spl_meaning.specs.States.{Data, State, Outcome, done, ends, trapped, then_go}
-use Rattle.spl_code.specs.Code.{as_value}
-use Rattle.spl_code.specs.Operators.{sign_operator}
-use Rattle.spl_code.specs.Parts.{Part, pieces, ◌⨟◌}
-use Rattle.spl_follow.specs.Spots.{Spot, pos, on, Ground}
-use Rattle.spl_follow.specs.Leading.{Leads}
-use Rattle.spl_follow.specs.Matching.{IsValue}
-use Rattle.spl_follow.specs.Following.{Rate, tally, tally_with, Follows, NoExit}
-use Rattle.spl_follow.specs.Doing.{doing}
-use Rattle.spl_follow.specs.Standing.{Stands}
-use Rattle.spl_follow.specs.Simulating.{Surroundings, Simulates}
-use Rattle.spl_follow.proofs.WayLemmas.{goes_none}
-use Rattle.spl_follow.proofs.FollowLemmas.{bind_follows}
-use Rattle.spl_follow.proofs.KeepLemmas.{value_word}
-use Rattle.spl_follow.proofs.PartLemmas.{rows_trap}
-use Rattle.spl_values.proofs.GiveLemmas.{last_leads}
+use Rattle.spl_operators.specs.hp_word.declared.endings.Trap.TheVariants.{IntegerOverflow}
+use Rattle.spl_operators.specs.hp_word.Bytes.{double, high_word, low_word}
+use Rattle.spl_operators.specs.hp_word.Words.{double_negated, double_result}
+use Rattle.spl_operators.proofs.hp_word_proofs.WordLaws.{double_of-below}
+use Rattle.spl_operators.specs.hp_instr.declared.instruction.Instr.TheVariants as i
+use Rattle.spl_operators.specs.hp_instr.Instructions.{op}
+use Rattle.spl_operators.specs.hp_session.State.{Machine, word}
+use Rattle.spl_operators.specs.hp_stack_rows.StackRows.{operated}
+use Rattle.spl_operators.specs.hp_yields.Rows.{SettlesWide}
+use Rattle.spl_operators.proofs.hp_yields_proofs.StackYields as rows
+use Rattle.spl_operators.specs.spl_branch.declared.pieces.Piece.{Piece}
+use Rattle.spl_operators.specs.spl_branch.declared.pieces.Piece.TheVariants.{Do}
+use Rattle.spl_operators.specs.spl_tree.declared.expressions.Kind.TheVariants as kind
+use Rattle.spl_operators.specs.spl_meaning.Kinds.{of}
+use Rattle.spl_operators.specs.spl_meaning.Operations.{double_words, double_done, minus_done, signed_done}
+use Rattle.spl_operators.specs.spl_meaning.References.{Setting}
+use Rattle.spl_operators.specs.spl_meaning.States.{Data, State, Outcome, done, ends, trapped, then_go}
+use Rattle.spl_operators.specs.spl_code.Code.{as_value}
+use Rattle.spl_operators.specs.spl_code.Operators.{sign_operator}
+use Rattle.spl_operators.specs.spl_code.Parts.{Part, pieces, ◌⨟◌}
+use Rattle.spl_operators.specs.spl_follow.Spots.{Spot, pos, on, Ground}
+use Rattle.spl_operators.specs.spl_follow.Leading.{Leads}
+use Rattle.spl_operators.specs.spl_follow.Matching.{IsValue}
+use Rattle.spl_operators.specs.spl_follow.Following.{Rate, tally, tally_with, Follows, NoExit}
+use Rattle.spl_operators.specs.spl_follow.Doing.{doing}
+use Rattle.spl_operators.specs.spl_follow.Standing.{Stands}
+use Rattle.spl_operators.specs.spl_follow.Simulating.{Surroundings, Simulates}
+use Rattle.spl_operators.proofs.spl_follow_proofs.WayLemmas.{goes_none}
+use Rattle.spl_operators.proofs.spl_follow_proofs.FollowLemmas.{bind_follows}
+use Rattle.spl_operators.proofs.spl_follow_proofs.KeepLemmas.{value_word}
+use Rattle.spl_operators.proofs.spl_follow_proofs.PartLemmas.{rows_trap}
+use Rattle.spl_operators.proofs.spl_values_proofs.GiveLemmas.{last_leads}
 use Rattle.spl_operators.proofs.RowLemmas.{words_row, value_there}
 use Rattle.spl_operators.proofs.SingleLemmas.{sign_cases}
 use Rattle.spl_doubles.specs.Laws.{DoubleSignsSimulate}

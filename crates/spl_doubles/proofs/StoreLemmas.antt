@@ -4,42 +4,42 @@ use Rattle.std.specs.Prelude.{Option, Some, nat_eq, Ok, if◌then◌else◌, sli
 use Rattle.std.proofs.lemmas.List.{append-nil, length-set, get_or-set_same, get_or-set_other}
 use Rattle.std.proofs.lemmas.Option.{none-some}
 use Rattle.std.proofs.Math.Logic.{⊎_elim}
-use Rattle.hp_word.specs.declared.arithmetic.Code.{Code}
-use Rattle.hp_word.specs.declared.endings.Trap.TheVariants.{Bounds}
-use Rattle.hp_instr.specs.declared.instruction.Instr.TheVariants as instr
-use Rattle.hp_instr.specs.declared.instruction.Mode.{Mode}
-use Rattle.hp_session.specs.State.{Machine, Outcome as Row, word, without}
-use Rattle.hp_session.specs.Places.{address, moved}
-use Rattle.hp_memory_rows.specs.MemoryRows.{memory_row}
-use Rattle.hp_flat.specs.Step.{at_left}
-use Rattle.hp_yields.specs.Rows.{held, with_held}
-use Rattle.hp_yields.proofs.MemoryYields as rows
-use Rattle.spl_tree.specs.declared.expressions.Kind.TheVariants as kind
-use Rattle.spl_frames.specs.Words.{AreWords}
-use Rattle.spl_meaning.specs.Places.{Place, put}
-use Rattle.spl_meaning.specs.References.{Setting, address_of, word_at, placed_word, variable_located, store_by, store}
-use Rattle.spl_meaning.specs.States.{Data, State, Outcome, done, then_go, stopping}
-use Rattle.spl_code.specs.Operands.{mode_of}
-use Rattle.spl_code.specs.Parts.{pieces, piece, nothing, ◌⨟◌}
-use Rattle.spl_code.specs.Stores.{own_stored}
-use Rattle.spl_branch.specs.declared.pieces.Piece.TheVariants.{Do, Begin}
-use Rattle.spl_follow.specs.Spots.{Spot, spot, pos, on, landed, Ground}
-use Rattle.spl_follow.specs.Leading.{Leads}
-use Rattle.spl_follow.specs.Matching.{Outer, outer, Matches, Matched, Kept, Coded, IsValue}
-use Rattle.spl_follow.specs.Following.{Rate, tally, Follows, NoExit}
-use Rattle.spl_follow.specs.Doing.{doing}
-use Rattle.spl_follow.specs.Yielding.{Becomes}
-use Rattle.spl_follow.specs.Parts.{Completes}
-use Rattle.spl_follow.specs.Simulating.{Performs}
-use Rattle.spl_follow.proofs.KeepLemmas.{kept_top, value_word}
-use Rattle.spl_follow.proofs.RowLemmas.{stray_here, row_trap, becomes_goes, becomes_matches, yields_matched, yields_kept, put_cases, put_none}
-use Rattle.spl_values.specs.Reached.{is_reached}
-use Rattle.spl_values.proofs.GiveLemmas.{last_leads}
-use Rattle.spl_operands.specs.Operands.{Finds, Seen}
-use Rattle.spl_operands.proofs.SeeLemmas.{see}
-use Rattle.spl_operands.proofs.OperandLemmas.{place_based, moved_address, moved_side}
-use Rattle.spl_operands.proofs.LoadLemmas.{seen_read, past_read}
-use Rattle.spl_operands.proofs.AssignLemmas.{value_stored}
+use Rattle.spl_operators.specs.hp_word.declared.arithmetic.Code.{Code}
+use Rattle.spl_operators.specs.hp_word.declared.endings.Trap.TheVariants.{Bounds}
+use Rattle.spl_operators.specs.hp_instr.declared.instruction.Instr.TheVariants as instr
+use Rattle.spl_operators.specs.hp_instr.declared.instruction.Mode.{Mode}
+use Rattle.spl_operators.specs.hp_session.State.{Machine, Outcome as Row, word, without}
+use Rattle.spl_operators.specs.hp_session.Places.{address, moved}
+use Rattle.spl_operators.specs.hp_memory_rows.MemoryRows.{memory_row}
+use Rattle.spl_operators.specs.hp_flat.Step.{at_left}
+use Rattle.spl_operators.specs.hp_yields.Rows.{held, with_held}
+use Rattle.spl_operators.proofs.hp_yields_proofs.MemoryYields as rows
+use Rattle.spl_operators.specs.spl_tree.declared.expressions.Kind.TheVariants as kind
+use Rattle.spl_operators.specs.spl_frames.Words.{AreWords}
+use Rattle.spl_operators.specs.spl_meaning.Places.{Place, put}
+use Rattle.spl_operators.specs.spl_meaning.References.{Setting, address_of, word_at, placed_word, variable_located, store_by, store}
+use Rattle.spl_operators.specs.spl_meaning.States.{Data, State, Outcome, done, then_go, stopping}
+use Rattle.spl_operators.specs.spl_code.Operands.{mode_of}
+use Rattle.spl_operators.specs.spl_code.Parts.{pieces, piece, nothing, ◌⨟◌}
+use Rattle.spl_operators.specs.spl_code.Stores.{own_stored}
+use Rattle.spl_operators.specs.spl_branch.declared.pieces.Piece.TheVariants.{Do, Begin}
+use Rattle.spl_operators.specs.spl_follow.Spots.{Spot, spot, pos, on, landed, Ground}
+use Rattle.spl_operators.specs.spl_follow.Leading.{Leads}
+use Rattle.spl_operators.specs.spl_follow.Matching.{Outer, outer, Matches, Matched, Kept, Coded, IsValue}
+use Rattle.spl_operators.specs.spl_follow.Following.{Rate, tally, Follows, NoExit}
+use Rattle.spl_operators.specs.spl_follow.Doing.{doing}
+use Rattle.spl_operators.specs.spl_follow.Yielding.{Becomes}
+use Rattle.spl_operators.specs.spl_follow.Parts.{Completes}
+use Rattle.spl_operators.specs.spl_follow.Simulating.{Performs}
+use Rattle.spl_operators.proofs.spl_follow_proofs.KeepLemmas.{kept_top, value_word}
+use Rattle.spl_operators.proofs.spl_follow_proofs.RowLemmas.{stray_here, row_trap, becomes_goes, becomes_matches, yields_matched, yields_kept, put_cases, put_none}
+use Rattle.spl_operators.specs.spl_values.Reached.{is_reached}
+use Rattle.spl_operators.proofs.spl_values_proofs.GiveLemmas.{last_leads}
+use Rattle.spl_variables.specs.spl_operands.Operands.{Finds, Seen}
+use Rattle.spl_variables.proofs.spl_operands_proofs.SeeLemmas.{see}
+use Rattle.spl_variables.proofs.spl_operands_proofs.OperandLemmas.{place_based, moved_address, moved_side}
+use Rattle.spl_variables.proofs.spl_operands_proofs.LoadLemmas.{seen_read, past_read}
+use Rattle.spl_variables.proofs.spl_operands_proofs.AssignLemmas.{value_stored}
 use Rattle.spl_variables.proofs.OwnLemmas.{place_low, own_finds, not_from_top}
 use Rattle.spl_doubles.specs.Laws.{DoubleVariablesAssigned}
 

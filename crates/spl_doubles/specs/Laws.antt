@@ -1,25 +1,25 @@
 -- The laws of this crate: DOUBLE constants, sums, relations, signs, transfers and stores, each over its parts as variables. The high word of a
 -- DOUBLE is the lower one.
 use Rattle.std.specs.Prelude.{◌≡◌, ℕ, ◌+◌, ◌≤◌, ◌<◌, ◌*◌, ◌/◌, ◌==◌, ◌||◌, Bool, true, false, List, Some}
-use Rattle.spl_tree.specs.declared.expressions.Kind.{Kind}
-use Rattle.spl_tree.specs.declared.expressions.Kind.TheVariants as kind
-use Rattle.spl_tree.specs.declared.names_and_places.At.{At}
-use Rattle.spl_branch.specs.declared.pieces.Piece.TheVariants.{Begin}
-use Rattle.spl_meaning.specs.Kinds.{Operand, of, doubles, positive, negative, is_relation, relation_number}
-use Rattle.spl_meaning.specs.Operations.{double_words, by_class, signed_done, transferred, kept}
-use Rattle.spl_meaning.specs.Places.{Place}
-use Rattle.spl_meaning.specs.References.{its_own, address_of, variable_located, led_located, index_or_zero, store}
-use Rattle.spl_meaning.specs.States.{State, Outcome, done, then_go, stopping}
-use Rattle.spl_meaning.specs.Values.{as_index}
-use Rattle.spl_code.specs.Code as made
-use Rattle.spl_code.specs.Code.{Aim, as_value}
-use Rattle.spl_code.specs.Constants.{double_constant}
-use Rattle.spl_code.specs.Operands.{mode_of}
-use Rattle.spl_code.specs.Operators.{class_operator, sign_operator, transfer}
-use Rattle.spl_code.specs.Parts.{Part, pieces, piece, nothing, ◌⨟◌}
-use Rattle.spl_code.specs.Stores.{stored, cell_stored, element_stored}
-use Rattle.spl_follow.specs.Simulating.{Surroundings, Simulates, Performs}
-use Rattle.spl_values.specs.Reached.{is_sum, is_reached, IsWhole}
+use Rattle.spl_operators.specs.spl_tree.declared.expressions.Kind.{Kind}
+use Rattle.spl_operators.specs.spl_tree.declared.expressions.Kind.TheVariants as kind
+use Rattle.spl_operators.specs.spl_tree.declared.names_and_places.At.{At}
+use Rattle.spl_operators.specs.spl_branch.declared.pieces.Piece.TheVariants.{Begin}
+use Rattle.spl_operators.specs.spl_meaning.Kinds.{Operand, of, doubles, positive, negative, is_relation, relation_number}
+use Rattle.spl_operators.specs.spl_meaning.Operations.{double_words, by_class, signed_done, transferred, kept}
+use Rattle.spl_operators.specs.spl_meaning.Places.{Place}
+use Rattle.spl_operators.specs.spl_meaning.References.{its_own, address_of, variable_located, led_located, index_or_zero, store}
+use Rattle.spl_operators.specs.spl_meaning.States.{State, Outcome, done, then_go, stopping}
+use Rattle.spl_operators.specs.spl_meaning.Values.{as_index}
+use Rattle.spl_operators.specs.spl_code.Code as made
+use Rattle.spl_operators.specs.spl_code.Code.{Aim, as_value}
+use Rattle.spl_operators.specs.spl_code.Constants.{double_constant}
+use Rattle.spl_operators.specs.spl_code.Operands.{mode_of}
+use Rattle.spl_operators.specs.spl_code.Operators.{class_operator, sign_operator, transfer}
+use Rattle.spl_operators.specs.spl_code.Parts.{Part, pieces, piece, nothing, ◌⨟◌}
+use Rattle.spl_operators.specs.spl_code.Stores.{stored, cell_stored, element_stored}
+use Rattle.spl_operators.specs.spl_follow.Simulating.{Surroundings, Simulates, Performs}
+use Rattle.spl_operators.specs.spl_values.Reached.{is_sum, is_reached, IsWhole}
 use Rattle.spl_operators.specs.Laws.{is_word_operand, is_single}
 
 -- a double that is pushed, its high word and then its low one

@@ -3,24 +3,24 @@ use Rattle.std.proofs.Common.{◌≡◌, ℕ, ◌+◌, ◌-◌, ◌≤◌, Bool,
 use Rattle.std.specs.Prelude.{Ok, Err, drop, slice_index, nat_le, not, if◌then◌else◌}
 use Rattle.std.proofs.lemmas.Bool.{le-leb}
 use Rattle.std.proofs.lemmas.List.{append-nil, get_or-drop}
-use Rattle.hp_word.specs.Words.{signed}
-use Rattle.hp_word.specs.declared.endings.Ending.{Ending}
-use Rattle.hp_word.specs.declared.endings.Ending.TheVariants.{Running, Terminated, Quit}
-use Rattle.hp_word.specs.declared.endings.Trap.TheVariants.{Mode, OutputLimit}
-use Rattle.hp_word.specs.declared.intrinsics.Intrinsic.{Intrinsic}
-use Rattle.hp_word.specs.declared.intrinsics.Intrinsic.TheVariants as gate
-use Rattle.hp_word.specs.Intrinsics as calls
-use Rattle.hp_word.specs.Intrinsics.{Effect, terminate_call, quit_call, is_in_bounds, has_room, taken_words}
-use Rattle.hp_instr.specs.declared.instruction.Instr.TheVariants as i
-use Rattle.hp_session.specs.State.{Machine, Outcome as Row, then_with}
-use Rattle.hp_call_rows.specs.GateRows.{effect, ending_or, after_call, served}
-use Rattle.hp_flat.specs.Step.{at_left, ended}
+use Rattle.hp_call_yields.specs.hp_word.Words.{signed}
+use Rattle.hp_call_yields.specs.hp_word.declared.endings.Ending.{Ending}
+use Rattle.hp_call_yields.specs.hp_word.declared.endings.Ending.TheVariants.{Running, Terminated, Quit}
+use Rattle.hp_call_yields.specs.hp_word.declared.endings.Trap.TheVariants.{Mode, OutputLimit}
+use Rattle.hp_call_yields.specs.hp_word.declared.intrinsics.Intrinsic.{Intrinsic}
+use Rattle.hp_call_yields.specs.hp_word.declared.intrinsics.Intrinsic.TheVariants as gate
+use Rattle.hp_call_yields.specs.hp_word.Intrinsics as calls
+use Rattle.hp_call_yields.specs.hp_word.Intrinsics.{Effect, terminate_call, quit_call, is_in_bounds, has_room, taken_words}
+use Rattle.hp_call_yields.specs.hp_instr.declared.instruction.Instr.TheVariants as i
+use Rattle.hp_call_yields.specs.hp_session.State.{Machine, Outcome as Row, then_with}
+use Rattle.hp_call_yields.specs.hp_call_rows.GateRows.{effect, ending_or, after_call, served}
+use Rattle.hp_call_yields.specs.hp_flat.Step.{at_left, ended}
 use Rattle.hp_call_yields.proofs.GateYields.{intrinsic_done}
-use Rattle.spl_meaning.specs.Serving as run
-use Rattle.spl_meaning.specs.Serving.{effected, carried_out, answered}
-use Rattle.spl_meaning.specs.States.{State, terminated, quit, trapped, ends, stepping, printed_size}
-use Rattle.spl_follow.specs.Spots.{Spot, landed}
-use Rattle.spl_follow.specs.Doing.{Way, calling, procedure_called}
+use Rattle.hp_call_yields.specs.spl_meaning.Serving as run
+use Rattle.hp_call_yields.specs.spl_meaning.Serving.{effected, carried_out, answered}
+use Rattle.hp_call_yields.specs.spl_meaning.States.{State, terminated, quit, trapped, ends, stepping, printed_size}
+use Rattle.hp_call_yields.specs.spl_follow.Spots.{Spot, landed}
+use Rattle.hp_call_yields.specs.spl_follow.Doing.{Way, calling, procedure_called}
 use Rattle.spl_endings.specs.Gates.{Served}
 use Rattle.spl_endings.specs.Laws.{LastCallsEnd}
 

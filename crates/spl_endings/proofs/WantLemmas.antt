@@ -7,8 +7,8 @@ use lib.Pointwise.{bytes_decides}
 use Rattle.std.proofs.lemmas.Bool.{and_parts, false≢true}
 use Rattle.std.proofs.lemmas.List.{append-nil}
 use Rattle.std.proofs.lemmas.List.Quantifiers.{position-Some}
-use Rattle.spl_meaning.specs.Laws.{IsFront}
-use Rattle.spl_code.specs.Parts.{Wanted, is_wanted, wanted_place, with_wanted}
+use Rattle.hp_call_yields.specs.spl_meaning.Laws.{IsFront}
+use Rattle.hp_call_yields.specs.spl_code.Parts.{Wanted, is_wanted, wanted_place, with_wanted}
 
 -- ---- lists
 

@@ -1,11 +1,11 @@
 -- Where the names of intrinsics lead that a module wants.
 use Rattle.std.specs.Prelude.{◌≡◌, ℕ, true, List, Some, slice_get}
-use Rattle.hp_word.specs.declared.intrinsics.Intrinsic.{Intrinsic}
-use Rattle.hp_call_rows.specs.GateRows.{intrinsic}
-use Rattle.spl_meaning.specs.Names.{intrinsic_named}
-use Rattle.spl_code.specs.Parts.{Wanted}
-use Rattle.spl_follow.specs.Doing.{Way, gate}
-use Rattle.spl_follow.specs.Standing.{Sites}
+use Rattle.hp_call_yields.specs.hp_word.declared.intrinsics.Intrinsic.{Intrinsic}
+use Rattle.hp_call_yields.specs.hp_call_rows.GateRows.{intrinsic}
+use Rattle.hp_call_yields.specs.spl_meaning.Names.{intrinsic_named}
+use Rattle.hp_call_yields.specs.spl_code.Parts.{Wanted}
+use Rattle.hp_call_yields.specs.spl_follow.Doing.{Way, gate}
+use Rattle.hp_call_yields.specs.spl_follow.Standing.{Sites}
 
 -- a way leads to the entry of the gate at which an intrinsic is served
 pub record Served (way : Way) (i : Intrinsic) : Type 0 where

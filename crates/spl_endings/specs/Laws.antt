@@ -1,24 +1,24 @@
 -- The laws of this crate.
 use Rattle.std.specs.Prelude.{◌≡◌, ℕ, ◌≤◌, false, true, List, [], Some}
-use Rattle.hp_word.specs.declared.endings.Ending.TheVariants.{Running, Terminated}
-use Rattle.hp_word.specs.declared.intrinsics.Intrinsic.{Intrinsic}
-use Rattle.hp_word.specs.declared.intrinsics.Intrinsic.TheVariants as gate
-use Rattle.hp_instr.specs.declared.instruction.Instr.TheVariants as i
-use Rattle.hp_session.specs.State.{Machine}
-use Rattle.spl_tree.specs.declared.names_and_places.At.{At}
-use Rattle.spl_tree.specs.declared.expressions.Kind.TheVariants as kind
-use Rattle.spl_branch.specs.declared.pieces.Piece.TheVariants.{Begin}
-use Rattle.spl_meaning.specs.Names.{intrinsic_named, intrinsic_profile}
-use Rattle.spl_meaning.specs.Operations.{passed}
-use Rattle.spl_meaning.specs.Serving.{served}
-use Rattle.spl_meaning.specs.States.{State, Outcome, then_go, stopping}
-use Rattle.spl_meaning.specs.Statements.{value_dropped}
-use Rattle.spl_code.specs.Code as code
-use Rattle.spl_code.specs.Code.{as_value}
-use Rattle.spl_code.specs.Parts.{Part, pieces, piece, nothing, ◌⨟◌, call_wanted}
-use Rattle.spl_follow.specs.Spots.{Spot}
-use Rattle.spl_follow.specs.Doing.{Way, calling}
-use Rattle.spl_follow.specs.Simulating.{Surroundings, Simulates, Performs}
+use Rattle.hp_call_yields.specs.hp_word.declared.endings.Ending.TheVariants.{Running, Terminated}
+use Rattle.hp_call_yields.specs.hp_word.declared.intrinsics.Intrinsic.{Intrinsic}
+use Rattle.hp_call_yields.specs.hp_word.declared.intrinsics.Intrinsic.TheVariants as gate
+use Rattle.hp_call_yields.specs.hp_instr.declared.instruction.Instr.TheVariants as i
+use Rattle.hp_call_yields.specs.hp_session.State.{Machine}
+use Rattle.hp_call_yields.specs.spl_tree.declared.names_and_places.At.{At}
+use Rattle.hp_call_yields.specs.spl_tree.declared.expressions.Kind.TheVariants as kind
+use Rattle.hp_call_yields.specs.spl_branch.declared.pieces.Piece.TheVariants.{Begin}
+use Rattle.hp_call_yields.specs.spl_meaning.Names.{intrinsic_named, intrinsic_profile}
+use Rattle.hp_call_yields.specs.spl_meaning.Operations.{passed}
+use Rattle.hp_call_yields.specs.spl_meaning.Serving.{served}
+use Rattle.hp_call_yields.specs.spl_meaning.States.{State, Outcome, then_go, stopping}
+use Rattle.hp_call_yields.specs.spl_meaning.Statements.{value_dropped}
+use Rattle.hp_call_yields.specs.spl_code.Code as code
+use Rattle.hp_call_yields.specs.spl_code.Code.{as_value}
+use Rattle.hp_call_yields.specs.spl_code.Parts.{Part, pieces, piece, nothing, ◌⨟◌, call_wanted}
+use Rattle.hp_call_yields.specs.spl_follow.Spots.{Spot}
+use Rattle.hp_call_yields.specs.spl_follow.Doing.{Way, calling}
+use Rattle.hp_call_yields.specs.spl_follow.Simulating.{Surroundings, Simulates, Performs}
 use Rattle.spl_values.specs.Reached.{IsWhole}
 use Rattle.spl_endings.specs.Gates.{Served, GatesLead}
 

@@ -5,18 +5,18 @@ use Rattle.spl_tree.specs.declared.declarations.Decl.{Decl}
 use Rattle.spl_tree.specs.declared.units.SplUnit.{SplUnit}
 use Rattle.spl_tree.specs.DeclarationTrees.{declarations}
 use Rattle.spl_tree.specs.Spells.{declaration}
-use Rattle.spl_meaning.specs.Names.{Names, nothing_declared}
-use Rattle.spl_meaning.specs.Pending.{formal_words, formals_words}
+use Rattle.spl_sorts.specs.spl_meaning.Names.{Names, nothing_declared}
+use Rattle.spl_sorts.specs.spl_meaning.Pending.{formal_words, formals_words}
 use Rattle.spl_sorts.specs.declared.profiles.Formal.{Formal}
 use Rattle.spl_sorts.specs.Profiles.{formal_of}
-use Rattle.spl_found.specs.OwnNames.{behind_declaration}
-use Rattle.spl_lists.proofs.NameWalks.{onward, onward_end}
-use Rattle.spl_sound.specs.Spelled.{source_of}
-use Rattle.spl_places.specs.declared.data.Datum as code
-use Rattle.spl_places.specs.declared.places.Starts.{Starts}
-use Rattle.spl_places.specs.ListedData.{datum_of}
-use Rattle.spl_places.specs.Spots.{behind_item}
-use Rattle.spl_places.proofs.DataWalks as lists
+use Rattle.spl_formals.specs.spl_found.OwnNames.{behind_declaration}
+use Rattle.spl_formals.proofs.spl_lists_proofs.NameWalks.{onward, onward_end}
+use Rattle.spl_globals.specs.spl_sound.Spelled.{source_of}
+use Rattle.spl_globals.specs.spl_places.declared.data.Datum as code
+use Rattle.spl_globals.specs.spl_places.declared.places.Starts.{Starts}
+use Rattle.spl_globals.specs.spl_places.ListedData.{datum_of}
+use Rattle.spl_globals.specs.spl_places.Spots.{behind_item}
+use Rattle.spl_globals.proofs.spl_places_proofs.DataWalks as lists
 use Rattle.spl_globals.specs.declared.areas.Areas.{Areas}
 use Rattle.spl_entries.specs.declared.place_type.Place.{Place}
 use Rattle.spl_entries.specs.Entries.{parameter_entry, parameter_entries, item_entry, item_entries, inner_entries, subroutines_entries, entries_in, areas_behind, entries_among, areas_among, units_entries}

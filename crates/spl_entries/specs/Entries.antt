@@ -1,20 +1,20 @@
 -- The places of items and parameters in source order, each with the sum of the words before it.
 use Rattle.std.specs.Prelude.{ℕ, ◌+◌, pos, neg_ℤ, Bool, true, false, if◌then◌else◌, List, [], ◌∷◌, ◌++◌, Option, Some, None}
-use Rattle.hp_word.specs.Words.{word_of}
+use Rattle.spl_sorts.specs.hp_word.Words.{word_of}
 use Rattle.spl_tree.specs.declared.names_and_places.At.{At}
 use Rattle.spl_tree.specs.DeclarationTrees as decl
 use Rattle.spl_tree.specs.DeclarationTrees.{Heading, Declaration, Declarations, declarations}
-use Rattle.spl_meaning.specs.Names as n
-use Rattle.spl_meaning.specs.Names.{Names, Sort, Formal, nothing_declared, formals_of}
-use Rattle.spl_meaning.specs.Tables.{Source}
-use Rattle.spl_meaning.specs.Places.{is_own}
-use Rattle.spl_meaning.specs.Pending.{formal_words, formals_words}
-use Rattle.spl_meaning.specs.Bodies.{marker_gap}
-use Rattle.spl_found.specs.OwnNames.{behind_declaration}
-use Rattle.spl_places.specs.declared.places.Starts.{Starts}
-use Rattle.spl_places.specs.ListedData.{Datum, items_data}
-use Rattle.spl_places.specs.Spots.{behind_item, frame_starts}
-use Rattle.spl_areas.specs.Gathered.{items_under}
+use Rattle.spl_sorts.specs.spl_meaning.Names as n
+use Rattle.spl_sorts.specs.spl_meaning.Names.{Names, Sort, Formal, nothing_declared, formals_of}
+use Rattle.spl_sorts.specs.spl_meaning.Tables.{Source}
+use Rattle.spl_sorts.specs.spl_meaning.Places.{is_own}
+use Rattle.spl_sorts.specs.spl_meaning.Pending.{formal_words, formals_words}
+use Rattle.spl_sorts.specs.spl_meaning.Bodies.{marker_gap}
+use Rattle.spl_formals.specs.spl_found.OwnNames.{behind_declaration}
+use Rattle.spl_globals.specs.spl_places.declared.places.Starts.{Starts}
+use Rattle.spl_globals.specs.spl_places.ListedData.{Datum, items_data}
+use Rattle.spl_globals.specs.spl_places.Spots.{behind_item, frame_starts}
+use Rattle.spl_globals.specs.spl_areas.Gathered.{items_under}
 use Rattle.spl_globals.specs.declared.areas.Areas.{Areas}
 use Rattle.spl_globals.specs.Stored.{first_areas, global_starts, behind_owns, behind_globals}
 use Rattle.spl_entries.specs.declared.place_type.Place.{Place}

@@ -1,14 +1,14 @@
 //! The places of items.
 ghost use Rattle.std.specs.Prelude.{◌≡◌, ◌++◌, OnOk, IfOk, map};
 ghost use Rattle.spl_sorts.specs.Sorts.{sort_of};
-ghost use Rattle.spl_places.specs.ListedData.{datum_of};
-ghost use Rattle.spl_places.specs.Spots.{behind_item};
+ghost use Rattle.spl_globals.specs.spl_places.ListedData.{datum_of};
+ghost use Rattle.spl_globals.specs.spl_places.Spots.{behind_item};
 ghost use Rattle.spl_entries.specs.Entries as entries;
 
 use crate::place_type::Place;
-use spl_depths::plus;
 use spl_formals::above;
-use spl_places::{Datum, Starts, array_words, is_own, item_words};
+use spl_formals::spl_depths::plus;
+use spl_globals::spl_places::{Datum, Starts, array_words, is_own, item_words};
 use spl_sorts::Sort;
 use std::alloc::AllocError;
 

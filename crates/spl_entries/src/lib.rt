@@ -8,4 +8,5 @@ mod procedures;
 mod units;
 
 pub use place_type::Place;
+pub use spl_globals;
 pub use units::places;

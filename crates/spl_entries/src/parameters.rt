@@ -1,14 +1,14 @@
 //! The places of parameters.
 ghost use Rattle.std.specs.Prelude.{◌≡◌, ◌++◌, OnOk, map};
 ghost use Rattle.spl_tree.specs.Spells.{heading_tree};
-ghost use Rattle.spl_meaning.specs.Names.{formals_of};
+ghost use Rattle.spl_sorts.specs.spl_meaning.Names.{formals_of};
 ghost use Rattle.spl_sorts.specs.Profiles.{formal_of};
 ghost use Rattle.spl_entries.specs.Entries as entries;
 
 use crate::place_type::Place;
-use spl_depths::plus;
+use spl_formals::spl_depths::plus;
+use spl_formals::spl_lists::formals;
 use spl_formals::{below, formal_words, formals_words};
-use spl_lists::formals;
 use spl_sorts::Formal;
 use spl_tree::Heading;
 use std::alloc::{AllocError, Global};

@@ -1,7 +1,7 @@
 //! The public calls: an expression or a condition that begins at some token.
 ghost use Rattle.std.specs.Prelude.{◌≡◌, ◌<◌, ◌≤◌, false, true, map, vec_len};
 ghost use Rattle.spl_tree.specs.Symbols.{lexeme_of};
-ghost use Rattle.spl_grammar.specs.Ends.{Ended};
+ghost use Rattle.spl_verdicts.specs.spl_grammar.Ends.{Ended};
 ghost use Rattle.spl_expr.specs.Answers.{Answers, Exact, answer_at};
 
 use spl_levels::{condition_within, expression_within};

@@ -1,11 +1,11 @@
 -- An expression has as many tokens as calls at least: each name is one.
 use Rattle.std.proofs.Common.{◌≤◌, ℕ, ◌+◌, Bool, List, length, Option, arith}
-use Rattle.spl_tree.specs.declared.names_and_places.At.{At}
-use Rattle.spl_tree.specs.Symbols.{Lexeme}
-use Rattle.spl_tree.specs.Operators.{Form, bytes_of}
-use Rattle.spl_tree.specs.Trees as tree
-use Rattle.spl_tree.specs.Trees.{Tree, Trees, trees}
-use Rattle.spl_tree.specs.Expressions as g
+use Rattle.spl_sound.specs.spl_tree.declared.names_and_places.At.{At}
+use Rattle.spl_sound.specs.spl_tree.Symbols.{Lexeme}
+use Rattle.spl_sound.specs.spl_tree.Operators.{Form, bytes_of}
+use Rattle.spl_sound.specs.spl_tree.Trees as tree
+use Rattle.spl_sound.specs.spl_tree.Trees.{Tree, Trees, trees}
+use Rattle.spl_sound.specs.spl_tree.Expressions as g
 use Rattle.spl_few_calls.specs.Calls.{calls, calls_among}
 
 -- a constant has a token

@@ -1,10 +1,10 @@
 -- A statement has as many tokens as calls at least.
 use Rattle.std.proofs.Common.{◌≤◌, ◌+◌, List, length, arith}
-use Rattle.spl_tree.specs.Symbols.{Lexeme}
-use Rattle.spl_tree.specs.Trees.{Tree, trees}
-use Rattle.spl_tree.specs.StatementTrees as stat
-use Rattle.spl_tree.specs.StatementTrees.{statements}
-use Rattle.spl_tree.specs.Statements as st
+use Rattle.spl_sound.specs.spl_tree.Symbols.{Lexeme}
+use Rattle.spl_sound.specs.spl_tree.Trees.{Tree, trees}
+use Rattle.spl_sound.specs.spl_tree.StatementTrees as stat
+use Rattle.spl_sound.specs.spl_tree.StatementTrees.{statements}
+use Rattle.spl_sound.specs.spl_tree.Statements as st
 use Rattle.spl_few_calls.specs.Calls.{calls, calls_among, target_calls, source_calls, effect_calls, test_calls, calls_in, calls_within}
 use Rattle.spl_few_calls.proofs.Expressions.{constant_eats, level_eats, arguments_eat}
 

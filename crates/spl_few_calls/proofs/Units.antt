@@ -3,19 +3,19 @@ use Rattle.std.proofs.Common.{◌≤◌, ℕ, suc, ◌+◌, Bool, List, length, 
 use Rattle.std.proofs.Math.Logic.{∥∥₁_elim}
 use Rattle.std.proofs.Math.Bridge.{le_prop}
 use Rattle.std.proofs.lemmas.List.{length-map}
-use Rattle.spl_tree.specs.declared.expressions.Kind.{Kind}
-use Rattle.spl_tree.specs.Symbols.{Lexeme}
-use Rattle.spl_tree.specs.StatementTrees as stat
-use Rattle.spl_tree.specs.StatementTrees.{statements}
-use Rattle.spl_tree.specs.Trees as tree
-use Rattle.spl_tree.specs.Expressions as g
-use Rattle.spl_tree.specs.DeclarationTrees as decl
-use Rattle.spl_tree.specs.DeclarationTrees.{Placed, declarations}
-use Rattle.spl_tree.specs.Declarations as dl
-use Rattle.spl_tree.specs.Units as un
-use Rattle.spl_tree.specs.Units.{Unit_of}
-use Rattle.spl_cuts.specs.Lexemes.{lexeme, lexemes}
-use Rattle.spl_grammar.specs.Verdicts.{spelled}
+use Rattle.spl_sound.specs.spl_tree.declared.expressions.Kind.{Kind}
+use Rattle.spl_sound.specs.spl_tree.Symbols.{Lexeme}
+use Rattle.spl_sound.specs.spl_tree.StatementTrees as stat
+use Rattle.spl_sound.specs.spl_tree.StatementTrees.{statements}
+use Rattle.spl_sound.specs.spl_tree.Trees as tree
+use Rattle.spl_sound.specs.spl_tree.Expressions as g
+use Rattle.spl_sound.specs.spl_tree.DeclarationTrees as decl
+use Rattle.spl_sound.specs.spl_tree.DeclarationTrees.{Placed, declarations}
+use Rattle.spl_sound.specs.spl_tree.Declarations as dl
+use Rattle.spl_sound.specs.spl_tree.Units as un
+use Rattle.spl_sound.specs.spl_tree.Units.{Unit_of}
+use Rattle.spl_sound.specs.spl_cuts.Lexemes.{lexeme, lexemes}
+use Rattle.spl_sound.specs.spl_grammar.Verdicts.{spelled}
 use Rattle.spl_sound.specs.Spelled.{Spelled, most_tokens}
 use Rattle.spl_few_calls.specs.Calls.{calls_within, declared_calls, all_declared_calls, unit_calls}
 use Rattle.spl_few_calls.specs.Laws.{FewCalls, FewCallsInUnits}

@@ -1,12 +1,12 @@
 -- How often the code of a unit calls at most, and how many entries it has: each name in an expression may call, each statement that calls does,
 -- and each procedure and each subroutine is an entry.
 use Rattle.std.specs.Prelude.{ℕ, suc, ◌+◌}
-use Rattle.spl_tree.specs.Trees as tree
-use Rattle.spl_tree.specs.Trees.{Tree, Trees}
-use Rattle.spl_tree.specs.StatementTrees as stat
-use Rattle.spl_tree.specs.StatementTrees.{Statement, Statements, Target, Source, Effect, Test, statements}
-use Rattle.spl_tree.specs.DeclarationTrees as decl
-use Rattle.spl_tree.specs.DeclarationTrees.{Declaration, Declarations, UnitTree, declarations}
+use Rattle.spl_sound.specs.spl_tree.Trees as tree
+use Rattle.spl_sound.specs.spl_tree.Trees.{Tree, Trees}
+use Rattle.spl_sound.specs.spl_tree.StatementTrees as stat
+use Rattle.spl_sound.specs.spl_tree.StatementTrees.{Statement, Statements, Target, Source, Effect, Test, statements}
+use Rattle.spl_sound.specs.spl_tree.DeclarationTrees as decl
+use Rattle.spl_sound.specs.spl_tree.DeclarationTrees.{Declaration, Declarations, UnitTree, declarations}
 
 abbrev mutual
   -- in an expression

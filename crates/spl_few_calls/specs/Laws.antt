@@ -1,10 +1,10 @@
 -- There are no more calls and entries in a unit than tokens that spell it.
 use Rattle.std.specs.Prelude.{ℕ, ◌≡◌, ◌≤◌, ◌+◌, List, [], slice_get, Some, length}
-use Rattle.spl_tree.specs.Symbols.{Lexeme}
-use Rattle.spl_tree.specs.DeclarationTrees.{UnitTree}
-use Rattle.spl_reading.specs.Readers.{Got}
-use Rattle.spl_grammar.specs.Verdicts.{Verdict}
-use Rattle.spl_meaning.specs.Tables.{Source}
+use Rattle.spl_sound.specs.spl_tree.Symbols.{Lexeme}
+use Rattle.spl_sound.specs.spl_tree.DeclarationTrees.{UnitTree}
+use Rattle.spl_sound.specs.spl_reading.Readers.{Got}
+use Rattle.spl_sound.specs.spl_grammar.Verdicts.{Verdict}
+use Rattle.spl_sound.specs.spl_meaning.Tables.{Source}
 use Rattle.spl_sound.specs.Spelled.{AreSpelled, most_tokens}
 use Rattle.spl_few_calls.specs.Calls.{unit_calls}
 

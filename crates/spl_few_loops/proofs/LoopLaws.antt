@@ -2,15 +2,15 @@
 use Rattle.std.proofs.Common.{ℕ, suc, ◌≡◌, ◌≤◌, ◌+◌, max, List, [], ◌∷◌, ◌++◌, Some, refl, ap, ◌∙◌, arith}
 use Rattle.std.proofs.Math.Nat.{le-max_left, le-max_right}
 use Rattle.std.specs.List.{slice_get}
-use Rattle.spl_tree.specs.DeclarationTrees as decl
-use Rattle.spl_tree.specs.DeclarationTrees.{Declaration, Declarations, declarations}
-use Rattle.spl_tree.specs.StatementTrees as stat
-use Rattle.spl_tree.specs.StatementTrees.{Statement, Statements, statements}
-use Rattle.spl_meaning.specs.Names.{Sort, Table, nothing_declared}
-use Rattle.spl_meaning.specs.Tables.{Source, with_declaration, routine_in, routines_among, routines_of, subroutine_in, subroutines_among}
-use Rattle.spl_meaning.specs.Bodies.{all_routines}
-use Rattle.spl_meaning.specs.Stops.{declaration_stops}
-use Rattle.spl_sound.specs.Spelled.{AreSpelled}
+use Rattle.spl_statement_code.specs.spl_tree.DeclarationTrees as decl
+use Rattle.spl_statement_code.specs.spl_tree.DeclarationTrees.{Declaration, Declarations, declarations}
+use Rattle.spl_statement_code.specs.spl_tree.StatementTrees as stat
+use Rattle.spl_statement_code.specs.spl_tree.StatementTrees.{Statement, Statements, statements}
+use Rattle.spl_statement_code.specs.spl_meaning.Names.{Sort, Table, nothing_declared}
+use Rattle.spl_statement_code.specs.spl_meaning.Tables.{Source, with_declaration, routine_in, routines_among, routines_of, subroutine_in, subroutines_among}
+use Rattle.spl_statement_code.specs.spl_meaning.Bodies.{all_routines}
+use Rattle.spl_statement_code.specs.spl_meaning.Stops.{declaration_stops}
+use Rattle.spl_nesting.specs.spl_sound.Spelled.{AreSpelled}
 use Rattle.spl_nesting.specs.Nesting.{fors, fors_among, most_in, most_in_all, most_in_unit}
 use Rattle.spl_nesting.proofs.NestingLaws.{units_nest}
 use Rattle.spl_statement_code.specs.FewWords.{nested_loops, nested_among}

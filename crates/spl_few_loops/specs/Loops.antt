@@ -1,10 +1,10 @@
 -- Bodies in which at most 255 words wait for loops: those of all units, of their procedures and of the subroutines of both.
 use Rattle.std.specs.Prelude.{◌≡◌, ◌*◌, ◌≤◌, List}
-use Rattle.spl_tree.specs.StatementTrees as stat
-use Rattle.spl_tree.specs.StatementTrees.{Statements, statements}
-use Rattle.spl_meaning.specs.Tables.{Source, Routine, Subroutine, routine_subroutines, unit_subroutines}
-use Rattle.spl_meaning.specs.Bodies.{all_routines}
-use Rattle.spl_sound.specs.Spelled.{AreSpelled}
+use Rattle.spl_statement_code.specs.spl_tree.StatementTrees as stat
+use Rattle.spl_statement_code.specs.spl_tree.StatementTrees.{Statements, statements}
+use Rattle.spl_statement_code.specs.spl_meaning.Tables.{Source, Routine, Subroutine, routine_subroutines, unit_subroutines}
+use Rattle.spl_statement_code.specs.spl_meaning.Bodies.{all_routines}
+use Rattle.spl_nesting.specs.spl_sound.Spelled.{AreSpelled}
 use Rattle.spl_nesting.specs.Nesting.{fors_among}
 use Rattle.spl_statement_code.specs.FewWords.{nested_among}
 use Rattle.spl_places.specs.Programs.{Each}

@@ -2,46 +2,46 @@
 -- index serves both.
 use Rattle.std.proofs.Common.{◌≡◌, ℕ, ◌+◌, ◌-◌, ◌*◌, ◌%◌, ◌<◌, ◌≤◌, Bool, true, false, List, [], ◌∷◌, ◌++◌, length, take, refl, sym, ap, subst, ◌∙◌, arith}
 use Rattle.std.specs.Prelude.{Option, Some, None, Ok, Err, nat_lt, if◌then◌else◌, slice_index}
-use Rattle.hp_word.specs.declared.endings.Trap.TheVariants.{Bounds}
-use Rattle.hp_word.specs.Bits.{with_field}
-use Rattle.hp_word.proofs.FieldLemmas.{with_field-below}
-use Rattle.hp_instr.specs.declared.instruction.Instr.TheVariants as instr
-use Rattle.hp_instr.specs.declared.instruction.Mode.{Mode}
-use Rattle.hp_instr.specs.Bits.{bits}
-use Rattle.hp_instr.specs.Fields.{field_length}
-use Rattle.hp_instr.specs.Instructions.{op}
-use Rattle.hp_session.specs.State.{Machine, Outcome as Row, word}
-use Rattle.hp_session.specs.Results.{coded}
-use Rattle.hp_session.specs.Places.{operand}
-use Rattle.hp_stack_rows.specs.StackRows.{operated}
-use Rattle.hp_word_rows.specs.WordRows.{immediate_row, field_put}
-use Rattle.hp_memory_rows.specs.MemoryRows.{memory_row}
-use Rattle.hp_flat.specs.Step.{at_left}
-use Rattle.hp_yields.specs.Rows.{Places}
-use Rattle.hp_yields.proofs.YieldForms.{taken}
-use Rattle.hp_yields.proofs.MemoryYields as rows
-use Rattle.hp_yields.proofs.StackYields as stack_rows
-use Rattle.spl_tree.specs.declared.expressions.Kind.{Kind}
-use Rattle.spl_frames.specs.Words.{AreWords}
-use Rattle.spl_meaning.specs.References.{Setting, Located, data_word_read, word_at, placed_word, word_stored, store_field}
-use Rattle.spl_meaning.specs.States.{Data, State, Outcome, done, ends, trapped, then_go}
-use Rattle.spl_follow.specs.Spots.{Spot, spot, pos, on, landed, Ground}
-use Rattle.spl_follow.specs.Leading.{Leads}
-use Rattle.spl_follow.specs.Matching.{Outer, outer, Matches, Matched, Kept, Stand, IsValue}
-use Rattle.spl_follow.specs.Following.{Rate, tally, Follows, NoExit}
-use Rattle.spl_follow.specs.Doing.{going, doing}
-use Rattle.spl_follow.specs.Yielding.{Yields}
-use Rattle.spl_follow.specs.Parts.{Completes}
-use Rattle.spl_follow.proofs.FollowLemmas.{widen, then_follows}
-use Rattle.spl_follow.proofs.KeepLemmas.{kept_same, kept_top, matched_length, value_word, values_join}
-use Rattle.spl_follow.proofs.RowLemmas.{stray_here, row_trap, becomes_goes, becomes_matches, yields_matched, yields_kept}
-use Rattle.spl_follow.proofs.StackLemmas.{stand_behind}
-use Rattle.spl_values.specs.Reached.{is_word_kind}
-use Rattle.spl_operands.specs.Operands.{Finds}
-use Rattle.spl_operands.proofs.SeeLemmas.{see}
-use Rattle.spl_operands.proofs.LoadLemmas.{seen_read, past_read, word_is_found}
-use Rattle.spl_operands.proofs.StoreLemmas.{word_put}
-use Rattle.spl_operands.proofs.AssignLemmas.{value_storing}
+use Rattle.spl_operators.specs.hp_word.declared.endings.Trap.TheVariants.{Bounds}
+use Rattle.spl_operators.specs.hp_word.Bits.{with_field}
+use Rattle.spl_operators.proofs.hp_word_proofs.FieldLemmas.{with_field-below}
+use Rattle.spl_operators.specs.hp_instr.declared.instruction.Instr.TheVariants as instr
+use Rattle.spl_operators.specs.hp_instr.declared.instruction.Mode.{Mode}
+use Rattle.spl_operators.specs.hp_instr.Bits.{bits}
+use Rattle.spl_operators.specs.hp_instr.Fields.{field_length}
+use Rattle.spl_operators.specs.hp_instr.Instructions.{op}
+use Rattle.spl_operators.specs.hp_session.State.{Machine, Outcome as Row, word}
+use Rattle.spl_operators.specs.hp_session.Results.{coded}
+use Rattle.spl_operators.specs.hp_session.Places.{operand}
+use Rattle.spl_operators.specs.hp_stack_rows.StackRows.{operated}
+use Rattle.spl_operators.specs.hp_word_rows.WordRows.{immediate_row, field_put}
+use Rattle.spl_operators.specs.hp_memory_rows.MemoryRows.{memory_row}
+use Rattle.spl_operators.specs.hp_flat.Step.{at_left}
+use Rattle.spl_operators.specs.hp_yields.Rows.{Places}
+use Rattle.spl_operators.proofs.hp_yields_proofs.YieldForms.{taken}
+use Rattle.spl_operators.proofs.hp_yields_proofs.MemoryYields as rows
+use Rattle.spl_operators.proofs.hp_yields_proofs.StackYields as stack_rows
+use Rattle.spl_operators.specs.spl_tree.declared.expressions.Kind.{Kind}
+use Rattle.spl_operators.specs.spl_frames.Words.{AreWords}
+use Rattle.spl_operators.specs.spl_meaning.References.{Setting, Located, data_word_read, word_at, placed_word, word_stored, store_field}
+use Rattle.spl_operators.specs.spl_meaning.States.{Data, State, Outcome, done, ends, trapped, then_go}
+use Rattle.spl_operators.specs.spl_follow.Spots.{Spot, spot, pos, on, landed, Ground}
+use Rattle.spl_operators.specs.spl_follow.Leading.{Leads}
+use Rattle.spl_operators.specs.spl_follow.Matching.{Outer, outer, Matches, Matched, Kept, Stand, IsValue}
+use Rattle.spl_operators.specs.spl_follow.Following.{Rate, tally, Follows, NoExit}
+use Rattle.spl_operators.specs.spl_follow.Doing.{going, doing}
+use Rattle.spl_operators.specs.spl_follow.Yielding.{Yields}
+use Rattle.spl_operators.specs.spl_follow.Parts.{Completes}
+use Rattle.spl_operators.proofs.spl_follow_proofs.FollowLemmas.{widen, then_follows}
+use Rattle.spl_operators.proofs.spl_follow_proofs.KeepLemmas.{kept_same, kept_top, matched_length, value_word, values_join}
+use Rattle.spl_operators.proofs.spl_follow_proofs.RowLemmas.{stray_here, row_trap, becomes_goes, becomes_matches, yields_matched, yields_kept}
+use Rattle.spl_operators.proofs.spl_follow_proofs.StackLemmas.{stand_behind}
+use Rattle.spl_operators.specs.spl_values.Reached.{is_word_kind}
+use Rattle.spl_variables.specs.spl_operands.Operands.{Finds}
+use Rattle.spl_variables.proofs.spl_operands_proofs.SeeLemmas.{see}
+use Rattle.spl_variables.proofs.spl_operands_proofs.LoadLemmas.{seen_read, past_read, word_is_found}
+use Rattle.spl_variables.proofs.spl_operands_proofs.StoreLemmas.{word_put}
+use Rattle.spl_variables.proofs.spl_operands_proofs.AssignLemmas.{value_storing}
 use Rattle.spl_operators.proofs.SingleLemmas.{field_first, field_long}
 
 -- ---- rows that leave X
@@ -148,7 +148,8 @@ field_is start size v old m b a some within under top =
 deposit_joined : (g : Ground) (w : Rate) (p q : Spot) (st : Setting) (t : Kind) (mode : Mode) (i x far : Bool) (a k v old start size : ℕ) (d0 : Data) (m0 : Machine)
     (s : State) (m : Machine) (l : Deposits g p q start size mode i x) → is_word_kind t ≡ true → 1 ≤ size → start + size ≤ 16
     → IsValue st l.first 2 k d0 m0 (v ∷ old ∷ []) s m → s.now.top + (k + 1 + 1) ≤ s.now.stack
-    → ((m1 : Machine) → m1.regs.x ≡ m.regs.x → Matched st s.now m1 (k + 1) → Finds t mode i x far a (at_left m1))
+    → ((m1 : Machine) → m1.regs.x ≡ m.regs.x → Kept (d0.top + k) d0 m0.stack s.now m1.stack → Matched st s.now m1 (k + 1)
+    → Finds t mode i x far a (at_left m1))
     → Follows g w (pos q - pos l.first) 0 w.reach (tally s) m (Completes st q k d0 m0) NoExit (word_stored far a (with_field old start size v ∷ []) s)
 deposit_joined g w p q st t mode i x far a k v old start size d0 m0 s m l one some within y room finds =
     let there : 2 ≤ length m.stack = let words = y.matches.words in omega (arith, words) in
@@ -180,7 +181,7 @@ deposit_joined g w p q st t mode i x far a k v old start size d0 m0 s m l one so
     (Completes st q k d0 m0) NoExit (word_stored far a (with_field old start size v ∷ []) s) h.1
     (word_put g w l.third q st t mode i x far a k (with_field old start size v) d0 m0 s h.0 one l.stores
     (value_storing st l.third k (with_field old start size v) d0 m0 s h.0 h.2.0 least)
-    (finds h.0 (h.2.1 ∙ f.2.1) h.2.0.matches))
+    (finds h.0 (h.2.1 ∙ f.2.1) h.2.0.kept h.2.0.matches))
     (omega (arith, two_more, last)) (omega (arith, many)) (omega (arith, many)))
     (omega (arith, one_more, two_more, last)) (omega (arith, many)) (omega (arith, many))
 
@@ -202,10 +203,11 @@ not_loaded g w p q st mode i x k v start size d0 m0 s m l z lost =
 pub deposit_follows : (g : Ground) (w : Rate) (p q : Spot) (st : Setting) (t : Kind) (mode : Mode) (i x : Bool) (k v start size : ℕ) (d0 : Data) (m0 : Machine)
     (s : State) (m : Machine) (y : Located) → Deposits g p q start size mode i x → is_word_kind t ≡ true → 1 ≤ size → start + size ≤ 16
     → IsValue st p 1 k d0 m0 (v ∷ []) s m → s.now.top + (k + 1 + 1) ≤ s.now.stack
-    → ((m1 : Machine) → m1.regs.x ≡ m.regs.x → Matched st s.now m1 (k + 1) → Finds t mode i x y.far y.address (at_left m1))
+    → ((m1 : Machine) → m1.regs.x ≡ m.regs.x → Kept (d0.top + k) d0 m0.stack s.now m1.stack → Matched st s.now m1 (k + 1)
+    → Finds t mode i x y.far y.address (at_left m1))
     → Follows g w (pos q - pos p) 0 w.reach (tally s) m (Completes st q k d0 m0) NoExit (store_field y start size (v ∷ []) s)
 deposit_follows g w p q st t mode i x k v start size d0 m0 s m y l one some within z room finds =
-    let f = finds m refl z.matches in
+    let f = finds m refl z.kept z.matches in
     let words = z.matches.words in
     let limit : m.stack_limit ≡ s.now.stack = ap (λ (u : Outer). u.limit) z.matches.outer in
     let free : length m.stack < m.stack_limit = omega (arith, words, room, limit) in
@@ -231,7 +233,7 @@ deposit_follows g w p q st t mode i x k v start size d0 m0 s m y l one some with
     then_follows g w (pos l.first - pos p) 0 w.reach (pos q - pos l.first) 0 w.reach (pos q - pos p) 0 w.reach (tally s) m (tally s) n.0
     (Completes st q k d0 m0) NoExit (word_stored y.far y.address (with_field old start size v ∷ []) s) n.1
     (deposit_joined g w p q st t mode i x y.far y.address k v old start size d0 m0 s n.0 l one some within both room
-    (λ m1 same matches. finds m1 (same ∙ n.2.1) matches))
+    (λ m1 same kept matches. finds m1 (same ∙ n.2.1) kept matches))
     (omega (arith, first, next, third, last)) (omega (arith, many)) (omega (arith, many)))
     (stray_here g w (pos q - pos p) 0 w.reach st (on p) (k + 1) s s.begun m (Completes st q k d0 m0) NoExit l.loads.start z.at refl z.matches)
     (λ past. not_loaded g w p q st mode i x k v start size d0 m0 s m l z

@@ -2,80 +2,82 @@
 use Rattle.std.proofs.Common.{◌≡◌, ℕ, ◌+◌, ◌-◌, ◌*◌, ◌%◌, ◌≤◌, Bool, true, false, List, [], ◌∷◌, ◌++◌, length, refl, sym, ap, subst, ◌∙◌, arith}
 use Rattle.std.specs.Prelude.{Some, None, nat_le, slice_index}
 use Rattle.std.proofs.lemmas.Bool.{leb-true}
-use Rattle.hp_word.specs.declared.endings.Trap.TheVariants.{Bounds}
-use Rattle.hp_instr.specs.declared.instruction.Instr.TheVariants as instr
-use Rattle.hp_instr.specs.declared.instruction.Mode.{Mode}
-use Rattle.hp_instr.specs.declared.instruction.Mode.TheVariants.{SMinus}
-use Rattle.hp_instr.specs.Instructions.{op}
-use Rattle.hp_session.specs.State.{Machine, word}
-use Rattle.hp_session.specs.Places.{operand, index}
-use Rattle.hp_memory_rows.specs.MemoryRows.{memory_row}
-use Rattle.hp_flat.specs.Step.{at_left}
-use Rattle.hp_yields.proofs.MemoryYields as rows
-use Rattle.spl_tree.specs.declared.expressions.Kind.{Kind}
-use Rattle.spl_tree.specs.declared.names_and_places.At.{At}
-use Rattle.spl_branch.specs.declared.pieces.Piece.{Piece}
-use Rattle.spl_branch.specs.declared.pieces.Piece.TheVariants.{Do, Begin}
-use Rattle.spl_meaning.specs.Places.{Place}
-use Rattle.spl_meaning.specs.References.{Setting, Located, address_of, variable_located, own_located, led_located, store_field}
-use Rattle.spl_meaning.specs.States.{Data, State, End, Outcome, done, leaves, spent, ends, strays, trapped, then_go, stopping}
-use Rattle.spl_code.specs.Code.{as_value}
-use Rattle.spl_code.specs.Instructions.{LDX, DEL}
-use Rattle.spl_code.specs.Operands.{mode_of}
-use Rattle.spl_code.specs.Parts.{Part, pieces, piece, nothing, ◌⨟◌}
-use Rattle.spl_code.specs.Stores.{deposited, own_field}
-use Rattle.spl_follow.specs.Spots.{Spot, pos, on, Ground}
-use Rattle.spl_follow.specs.Leading.{Leads}
-use Rattle.spl_follow.specs.Matching.{Matched, IsValue}
-use Rattle.spl_follow.specs.Following.{Rate, tally, Follows, NoExit}
-use Rattle.spl_follow.specs.Doing.{doing}
-use Rattle.spl_follow.specs.Standing.{Sites, Stands}
-use Rattle.spl_follow.specs.Parts.{Completes}
-use Rattle.spl_follow.specs.Simulating.{Surroundings, Simulates, Performs}
-use Rattle.spl_follow.proofs.FollowLemmas.{then_follows, tail_follows}
-use Rattle.spl_follow.proofs.RowLemmas.{stray_here}
-use Rattle.spl_values.specs.Reached.{is_word_kind, is_reached, IsWhole}
-use Rattle.spl_values.proofs.GiveLemmas.{last_leads}
-use Rattle.spl_values.proofs.VariableLemmas.{both}
-use Rattle.spl_operands.specs.Operands.{counted_by, finding, Refers, Storing}
-use Rattle.spl_operands.proofs.OperandLemmas.{place_refers, first_element, indexed_element}
-use Rattle.spl_operands.proofs.LoadLemmas.{word_is_found}
-use Rattle.spl_operands.proofs.StoreLemmas.{index_taken, index_deleted}
-use Rattle.spl_operands.proofs.AssignLemmas.{value_stored, element_stored_by}
+use Rattle.spl_operators.specs.hp_word.declared.endings.Trap.TheVariants.{Bounds}
+use Rattle.spl_operators.specs.hp_instr.declared.instruction.Instr.TheVariants as instr
+use Rattle.spl_operators.specs.hp_instr.declared.instruction.Mode.{Mode}
+use Rattle.spl_operators.specs.hp_instr.declared.instruction.Mode.TheVariants.{SMinus}
+use Rattle.spl_operators.specs.hp_instr.Instructions.{op}
+use Rattle.spl_operators.specs.hp_session.State.{Machine, word}
+use Rattle.spl_operators.specs.hp_session.Places.{operand, index}
+use Rattle.spl_operators.specs.hp_memory_rows.MemoryRows.{memory_row}
+use Rattle.spl_operators.specs.hp_flat.Step.{at_left}
+use Rattle.spl_operators.proofs.hp_yields_proofs.MemoryYields as rows
+use Rattle.spl_operators.specs.spl_tree.declared.expressions.Kind.{Kind}
+use Rattle.spl_operators.specs.spl_tree.declared.names_and_places.At.{At}
+use Rattle.spl_operators.specs.spl_branch.declared.pieces.Piece.{Piece}
+use Rattle.spl_operators.specs.spl_branch.declared.pieces.Piece.TheVariants.{Do, Begin}
+use Rattle.spl_operators.specs.spl_meaning.Places.{Place}
+use Rattle.spl_operators.specs.spl_meaning.References.{Setting, Located, address_of, variable_located, own_located, led_located, store_field}
+use Rattle.spl_operators.specs.spl_meaning.States.{Data, State, End, Outcome, done, leaves, spent, ends, strays, trapped, then_go, stopping}
+use Rattle.spl_operators.specs.spl_code.Code.{as_value}
+use Rattle.spl_operators.specs.spl_code.Instructions.{operate, LDX, DEL}
+use Rattle.spl_operators.specs.spl_code.Operands.{mode_of}
+use Rattle.spl_operators.specs.spl_code.Parts.{Part, pieces, piece, nothing, ◌⨟◌}
+use Rattle.spl_operators.specs.spl_code.Stores.{deposited, own_field}
+use Rattle.spl_operators.specs.spl_follow.Spots.{Spot, pos, on, Ground}
+use Rattle.spl_operators.specs.spl_follow.Leading.{Leads}
+use Rattle.spl_operators.specs.spl_follow.Matching.{Matched, Kept, IsValue}
+use Rattle.spl_operators.specs.spl_follow.Following.{Rate, tally, Follows, NoExit}
+use Rattle.spl_operators.specs.spl_follow.Doing.{doing}
+use Rattle.spl_operators.specs.spl_follow.Standing.{Sites, Stands}
+use Rattle.spl_operators.specs.spl_follow.Parts.{Completes}
+use Rattle.spl_operators.specs.spl_follow.Simulating.{Surroundings, Simulates, Performs}
+use Rattle.spl_operators.proofs.spl_follow_proofs.FollowLemmas.{then_follows, tail_follows}
+use Rattle.spl_operators.proofs.spl_follow_proofs.RowLemmas.{stray_here}
+use Rattle.spl_operators.specs.spl_values.Reached.{is_word_kind, is_reached, IsWhole}
+use Rattle.spl_operators.proofs.spl_values_proofs.GiveLemmas.{last_leads}
+use Rattle.spl_operators.proofs.spl_values_proofs.VariableLemmas.{both}
+use Rattle.spl_variables.specs.spl_operands.Operands.{counted_by, finding, Refers, Storing}
+use Rattle.spl_variables.proofs.spl_operands_proofs.OperandLemmas.{place_refers, first_element, indexed_element}
+use Rattle.spl_variables.proofs.spl_operands_proofs.LoadLemmas.{word_is_found}
+use Rattle.spl_variables.proofs.spl_operands_proofs.StoreLemmas.{index_taken, index_deleted}
+use Rattle.spl_variables.proofs.spl_operands_proofs.AssignLemmas.{value_stored, element_stored_by}
 use Rattle.spl_variables.proofs.OwnLemmas.{not_from_top, own_refers}
 use Rattle.spl_field_stores.specs.Laws.{is_within, FieldsOfVariablesAssigned, FieldsOfCellsAssigned, FieldsOfElementsAssigned}
 use Rattle.spl_field_stores.proofs.DepositLemmas.{Deposits, not_loaded, deposit_follows}
 
 -- ---- what a reference leads to
 
--- where the operand is what a reference leads to, at each machine with this X
+-- where the operand is what a reference leads to, at each machine with this X that keeps what stands beneath
 field_follows : (g : Ground) (w : Rate) (p q : Spot) (st : Setting) (t : Kind) (mode : Mode) (i x : Bool) (k v start size : ℕ) (d0 : Data) (m0 : Machine)
     (s : State) (m : Machine) (o : Outcome Located) → Deposits g p q start size mode i x → is_word_kind t ≡ true → 1 ≤ size → start + size ≤ 16
     → IsValue st p 1 k d0 m0 (v ∷ []) s m → s.now.top + (k + 1 + 1) ≤ s.now.stack
-    → ((m1 : Machine) → m1.regs.x ≡ m.regs.x → Matched st s.now m1 (k + 1) → Refers t mode i x s (at_left m1) o)
+    → ((m1 : Machine) → m1.regs.x ≡ m.regs.x → Kept (d0.top + k) d0 m0.stack s.now m1.stack → Matched st s.now m1 (k + 1)
+    → Refers t mode i x s (at_left m1) o)
     → Follows g w (pos q - pos p) 0 w.reach (tally s) m (Completes st q k d0 m0) NoExit (then_go o (λ y u. store_field y start size (v ∷ []) u))
 field_follows g w p q st t mode i x k v start size d0 m0 s m (done y u) l one some within z room refers =
-    let r = refers m refl z.matches in
+    let r = refers m refl z.kept z.matches in
     subst (λ (e : State). Follows g w (pos q - pos p) 0 w.reach (tally s) m (Completes st q k d0 m0) NoExit (store_field y start size (v ∷ []) e)) (sym r.0)
-    (deposit_follows g w p q st t mode i x k v start size d0 m0 s m y l one some within z room (λ m1 same matches. (refers m1 same matches).2))
-field_follows g w p q st t mode i x k v start size d0 m0 s m (leaves e u) l one some within z room refers = absurd (refers m refl z.matches)
-field_follows g w p q st t mode i x k v start size d0 m0 s m (spent u) l one some within z room refers = absurd (refers m refl z.matches)
+    (deposit_follows g w p q st t mode i x k v start size d0 m0 s m y l one some within z room (λ m1 same kept matches. (refers m1 same kept matches).2))
+field_follows g w p q st t mode i x k v start size d0 m0 s m (leaves e u) l one some within z room refers = absurd (refers m refl z.kept z.matches)
+field_follows g w p q st t mode i x k v start size d0 m0 s m (spent u) l one some within z room refers = absurd (refers m refl z.kept z.matches)
 field_follows g w p q st t mode i x k v start size d0 m0 s m (ends e u) l one some within z room refers =
-    let r = refers m refl z.matches in
+    let r = refers m refl z.kept z.matches in
     subst (λ (c : State). Follows g w (pos q - pos p) 0 w.reach (tally s) m (Completes st q k d0 m0) NoExit (ends e c)) (sym r.0)
     (subst (λ (c : End). Follows g w (pos q - pos p) 0 w.reach (tally s) m (Completes st q k d0 m0) NoExit (ends c s)) (sym r.1)
     (not_loaded g w p q st mode i x k v start size d0 m0 s m l z
     (rows.word_not_found mode i x Bounds (at_left m) (sym (word_is_found t mode i x (at_left m) one) ∙ r.2))))
 field_follows g w p q st t mode i x k v start size d0 m0 s m (strays u) l one some within z room refers =
-    let r = refers m refl z.matches in
+    let r = refers m refl z.kept z.matches in
     subst (λ (c : State). Follows g w (pos q - pos p) 0 w.reach (tally s) m (Completes st q k d0 m0) NoExit (strays c)) (sym r)
     (stray_here g w (pos q - pos p) 0 w.reach st (on p) (k + 1) s s.begun m (Completes st q k d0 m0) NoExit l.loads.start z.at refl z.matches)
 
 -- a value by its words, of which there is one
-field_by : (g : Ground) (w : Rate) (p q : Spot) (st : Setting) (t : Kind) (mode : Mode) (i x : Bool) (k : ℕ) (vs : List ℕ) (start size : ℕ) (d0 : Data) (m0 : Machine)
-    (s : State) (m : Machine) (o : Outcome Located) → Deposits g p q start size mode i x → is_word_kind t ≡ true → 1 ≤ size → start + size ≤ 16
+pub field_by : (g : Ground) (w : Rate) (p q : Spot) (st : Setting) (t : Kind) (mode : Mode) (i x : Bool) (k : ℕ) (vs : List ℕ) (start size : ℕ) (d0 : Data)
+    (m0 : Machine) (s : State) (m : Machine) (o : Outcome Located) → Deposits g p q start size mode i x → is_word_kind t ≡ true → 1 ≤ size → start + size ≤ 16
     → IsValue st p 1 k d0 m0 vs s m → s.now.top + (k + 1 + 1) ≤ s.now.stack
-    → ((m1 : Machine) → m1.regs.x ≡ m.regs.x → Matched st s.now m1 (k + 1) → Refers t mode i x s (at_left m1) o)
+    → ((m1 : Machine) → m1.regs.x ≡ m.regs.x → Kept (d0.top + k) d0 m0.stack s.now m1.stack → Matched st s.now m1 (k + 1)
+    → Refers t mode i x s (at_left m1) o)
     → Follows g w (pos q - pos p) 0 w.reach (tally s) m (Completes st q k d0 m0) NoExit (then_go o (λ y u. store_field y start size vs u))
 field_by g w p q st t mode i x k (v ∷ []) start size d0 m0 s m o l one some within z room refers =
     field_follows g w p q st t mode i x k v start size d0 m0 s m o l one some within z room refers
@@ -85,7 +87,7 @@ field_by g w p q st t mode i x k (v ∷ u ∷ vs) start size d0 m0 s m o l one s
 -- ---- without an index
 
 -- the four instructions, one after the other
-in_order : (g : Ground) (sites : Sites) (p q : Spot) (start size : ℕ) (i x : Bool) (mode : Mode) → Stands g sites (on p) (deposited start size i x mode) q
+pub in_order : (g : Ground) (sites : Sites) (p q : Spot) (start size : ℕ) (i x : Bool) (mode : Mode) → Stands g sites (on p) (deposited start size i x mode) q
     → Deposits g p q start size mode i x
 in_order g sites p q start size i x mode stands = record {
   first = stands.0;
@@ -109,7 +111,7 @@ field_assigned z d k need number start size at t mode i a value o within one eno
     (λ p q vs s m d0 m0 stands is room.
     let free : s.now.top + (k + 1) ≤ s.now.stack = omega (arith, room, enough) in
     field_by z.ground z.rate p q z.setting t mode i false k vs start size d0 m0 s m (o s) (in_order z.ground z.sites p q start size i false mode stands) one
-    (leb-true 1 size two.0) (leb-true (start + size) 16 two.1) is (omega (arith, room, enough)) (λ m1 same matches. refers s (at_left m1) matches free))
+    (leb-true 1 size two.0) (leb-true (start + size) 16 two.1) is (omega (arith, room, enough)) (λ m1 same kept matches. refers s (at_left m1) matches free))
 
 pub variables_assigned : FieldsOfVariablesAssigned
 variables_assigned z d k need number start size at t place a value within one reached enough whole sim =
@@ -165,7 +167,7 @@ element_put g w p r1 r2 q st t far place k u v start size d0 m0 s m one reached 
     (Completes st q k d0 m0) NoExit o
     (field_follows g w r1 r2 st t (mode_of k place) true true (k + 1) v start size s.now f.0 s f.0 (led_located far t (Some place) u s) puts one some within
     (storing_value st r1 (k + 1) s.now f.0 v s f.0 f.2.stores refl x.silent) room
-    (λ m1 same matches. place_refers st t far true u k (k + 1 + 1) place s (at_left m1) reached side matches (omega (arith, room))
+    (λ m1 same kept matches. place_refers st t far true u k (k + 1 + 1) place s (at_left m1) reached side matches (omega (arith, room))
     (λ cell. indexed_element t cell u (at_left m1) (same ∙ f.2.index))))
     (λ e s1 m1 b fewer. index_deleted g w r2 q st k d0 m0 s.now f.0 s1 m1 deletes f.2.kept b)
     (omega (arith, a1, a2, a3, a4, end)) (omega arith) (omega (arith, many)) (omega (arith, many)))
@@ -184,10 +186,11 @@ element_by g w p r1 r2 q st t far place k u (v ∷ []) start size d0 m0 s m one 
 element_by g w p r1 r2 q st t far place k u [] start size d0 m0 s m one reached side some within takes puts deletes wide x room = absurd (omega (arith, wide))
 element_by g w p r1 r2 q st t far place k u (v ∷ v' ∷ vs) start size d0 m0 s m one reached side some within takes puts deletes wide x room = absurd (omega (arith, wide))
 
--- the four instructions, with DEL behind them
-in_order_before : (g : Ground) (sites : Sites) (p q : Spot) (start size : ℕ) (mode : Mode) → Stands g sites (on p) (deposited start size true true mode ++ DEL ∷ []) q
-    → (r : Spot) × Deposits g p r start size mode true true × Leads g (on r) q (doing g.segments (instr.Pair (op 0o40) (op 0)) q)
-in_order_before g sites p q start size mode stands = (
+-- the four instructions, with a stack operation behind them
+pub in_order_before : (g : Ground) (sites : Sites) (p q : Spot) (start size : ℕ) (x : Bool) (n : ℕ) (mode : Mode)
+    → Stands g sites (on p) (deposited start size true x mode ++ operate n ∷ []) q
+    → (r : Spot) × Deposits g p r start size mode true x × Leads g (on r) q (doing g.segments (instr.Pair (op n) (op 0)) q)
+in_order_before g sites p q start size x n mode stands = (
   stands.2.2.2.0,
   record {
     first = stands.0;
@@ -198,7 +201,7 @@ in_order_before g sites p q start size mode stands = (
     puts = stands.2.2.1;
     stores = stands.2.2.2.1;
   },
-  last_leads g sites (on stands.2.2.2.0) (instr.Pair (op 0o40) (op 0)) q stands.2.2.2.2,
+  last_leads g sites (on stands.2.2.2.0) (instr.Pair (op n) (op 0)) q stands.2.2.2.2,
 )
 
 pub elements_assigned : FieldsOfElementsAssigned
@@ -207,6 +210,6 @@ elements_assigned z d k need more number start size at far t place a b index val
     element_stored_by z d k need more 1 number at a b (LDX (SMinus 1) ∷ deposited start size true true (mode_of k place) ++ DEL ∷ []) index value
     (λ i vs w. then_go (led_located far t (Some place) i w) (λ p x. store_field p start size vs x)) fits wa wb sa sb
     (λ p q u vs s m d0 m0 stands wide is room.
-    let cut = in_order_before z.ground z.sites stands.0 q start size (mode_of k place) stands.2 in
+    let cut = in_order_before z.ground z.sites stands.0 q start size true 0o40 (mode_of k place) stands.2 in
     element_by z.ground z.rate p stands.0 cut.0 q z.setting t far place k u vs start size d0 m0 s m one reached side (leb-true 1 size two.0)
     (leb-true (start + size) 16 two.1) stands.1 cut.1 cut.2 wide is (omega (arith, room, enough)))

@@ -1,3 +1,9 @@
 -- In reading order.
 pub mod DepositLemmas
 pub mod FieldLemmas
+-- Passed on from the crates below.
+pub use Rattle.spl_operators.proofs.hp_yields_proofs
+pub use Rattle.spl_operators.proofs.spl_follow_proofs
+pub use Rattle.spl_variables.proofs.spl_operands_proofs
+pub use Rattle.spl_operators.proofs.spl_values_proofs
+pub use Rattle.spl_variables.proofs as spl_variables_proofs

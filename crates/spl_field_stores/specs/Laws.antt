@@ -1,18 +1,18 @@
 -- The laws of this crate: a value that is stored in a bit field, of a variable, of what the word of a name leads to, and of an element.
 use Rattle.std.specs.Prelude.{◌≡◌, ℕ, ◌+◌, ◌≤◌, ◌&&◌, nat_le, Bool, true, false, List, Some}
-use Rattle.spl_tree.specs.declared.expressions.Kind.{Kind}
-use Rattle.spl_tree.specs.declared.names_and_places.At.{At}
-use Rattle.spl_branch.specs.declared.pieces.Piece.TheVariants.{Begin}
-use Rattle.spl_meaning.specs.Places.{Place}
-use Rattle.spl_meaning.specs.References.{its_own, address_of, variable_located, led_located, index_or_zero, store_field}
-use Rattle.spl_meaning.specs.States.{State, Outcome, then_go, stopping}
-use Rattle.spl_meaning.specs.Values.{as_index}
-use Rattle.spl_code.specs.Code.{as_value}
-use Rattle.spl_code.specs.Operands.{mode_of}
-use Rattle.spl_code.specs.Parts.{Part, pieces, piece, nothing, ◌⨟◌}
-use Rattle.spl_code.specs.Stores.{field_stored, cell_field, element_field}
-use Rattle.spl_follow.specs.Simulating.{Surroundings, Simulates, Performs}
-use Rattle.spl_values.specs.Reached.{is_word_kind, is_reached, IsWhole}
+use Rattle.spl_operators.specs.spl_tree.declared.expressions.Kind.{Kind}
+use Rattle.spl_operators.specs.spl_tree.declared.names_and_places.At.{At}
+use Rattle.spl_operators.specs.spl_branch.declared.pieces.Piece.TheVariants.{Begin}
+use Rattle.spl_operators.specs.spl_meaning.Places.{Place}
+use Rattle.spl_operators.specs.spl_meaning.References.{its_own, address_of, variable_located, led_located, index_or_zero, store_field}
+use Rattle.spl_operators.specs.spl_meaning.States.{State, Outcome, then_go, stopping}
+use Rattle.spl_operators.specs.spl_meaning.Values.{as_index}
+use Rattle.spl_operators.specs.spl_code.Code.{as_value}
+use Rattle.spl_operators.specs.spl_code.Operands.{mode_of}
+use Rattle.spl_operators.specs.spl_code.Parts.{Part, pieces, piece, nothing, ◌⨟◌}
+use Rattle.spl_operators.specs.spl_code.Stores.{field_stored, cell_field, element_field}
+use Rattle.spl_operators.specs.spl_follow.Simulating.{Surroundings, Simulates, Performs}
+use Rattle.spl_operators.specs.spl_values.Reached.{is_word_kind, is_reached, IsWhole}
 
 -- a field of so many bits from a first one on lies within a word
 abbrev pub is_within : ℕ → ℕ → Bool

@@ -1,13 +1,13 @@
 -- Sums of words within their limits.
 use Rattle.std.specs.Prelude.{◌≡◌, ◌≤◌, ℕ, ◌+◌, false, List, Some, None}
-use Rattle.spl_meaning.specs.Names.{find, formals_of, profile_of}
-use Rattle.spl_meaning.specs.Tables.{Source, Routine, routine_table}
-use Rattle.spl_meaning.specs.Places.{item_words, list_words, list_array_words}
-use Rattle.spl_meaning.specs.Pending.{formals_words, result_words}
-use Rattle.spl_meaning.specs.Bodies.{all_routines, primary_words, data_words}
-use Rattle.spl_meaning.specs.Limits.{first_full, most_primary, most_locals, most_parameters, most_data}
-use Rattle.spl_places.specs.Programs.{Each, NewInAll}
-use Rattle.spl_places.specs.Apart.{Spot, spots_from}
+use Rattle.spl_globals.specs.spl_meaning.Names.{find, formals_of, profile_of}
+use Rattle.spl_globals.specs.spl_meaning.Tables.{Source, Routine, routine_table}
+use Rattle.spl_globals.specs.spl_meaning.Places.{item_words, list_words, list_array_words}
+use Rattle.spl_globals.specs.spl_meaning.Pending.{formals_words, result_words}
+use Rattle.spl_globals.specs.spl_meaning.Bodies.{all_routines, primary_words, data_words}
+use Rattle.spl_globals.specs.spl_meaning.Limits.{first_full, most_primary, most_locals, most_parameters, most_data}
+use Rattle.spl_globals.specs.spl_places.Programs.{Each, NewInAll}
+use Rattle.spl_globals.specs.spl_places.Apart.{Spot, spots_from}
 
 -- a procedure: its local items, these with the data of their arrays, and its result and parameters
 pub record RoutineFits (r : Routine) : Type 0 where

@@ -1,11 +1,11 @@
 -- OWN items stand behind all globals.
 use Rattle.std.specs.Prelude.{◌≡◌, ◌≤◌, ℕ, ◌+◌, true, false, List, [], ◌∷◌, Some}
-use Rattle.spl_meaning.specs.Names.{find}
-use Rattle.spl_meaning.specs.Tables.{Source, Routine, routine_table}
-use Rattle.spl_meaning.specs.Places.{item_words, list_words}
-use Rattle.spl_meaning.specs.Bodies.{Reached, reached_behind, own_table, global_words}
-use Rattle.spl_places.specs.Programs.{Each}
-use Rattle.spl_places.specs.Apart.{Spot, spots_from}
+use Rattle.spl_globals.specs.spl_meaning.Names.{find}
+use Rattle.spl_globals.specs.spl_meaning.Tables.{Source, Routine, routine_table}
+use Rattle.spl_globals.specs.spl_meaning.Places.{item_words, list_words}
+use Rattle.spl_globals.specs.spl_meaning.Bodies.{Reached, reached_behind, own_table, global_words}
+use Rattle.spl_globals.specs.spl_places.Programs.{Each}
+use Rattle.spl_globals.specs.spl_places.Apart.{Spot, spots_from}
 
 -- units with where their data begin
 abbrev pub units_from : Reached → List Source → List (Reached × Source)

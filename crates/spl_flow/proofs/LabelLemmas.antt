@@ -12,14 +12,14 @@ use Rattle.spl_tree.specs.declared.names_and_places.At.{At}
 use Rattle.spl_tree.specs.Views as view
 use Rattle.spl_tree.specs.StatementTrees.{Statement, Statements, statements}
 use Rattle.spl_tree.specs.DeclarationTrees.{Placed}
-use Rattle.spl_meaning.specs.Names as n
-use Rattle.spl_meaning.specs.Names.{same_name, find}
-use Rattle.spl_meaning.specs.Tables.{declared}
-use Rattle.spl_meaning.specs.Faults.{Fault, unless, first_fault}
-use Rattle.spl_meaning.specs.StatementRules as rules
+use Rattle.spl_sorts.specs.spl_meaning.Names as n
+use Rattle.spl_sorts.specs.spl_meaning.Names.{same_name, find}
+use Rattle.spl_sorts.specs.spl_meaning.Tables.{declared}
+use Rattle.spl_sorts.specs.spl_meaning.Faults.{Fault, unless, first_fault}
+use Rattle.spl_sorts.specs.spl_meaning.StatementRules as rules
 use Rattle.spl_found.specs.FoundStatements.{with_list, found_statement, found_statements, found_arms}
 use Rattle.spl_found.proofs.Order.{first_then}
-use Rattle.spl_meaning.specs.ExpressionRules.{Scope}
+use Rattle.spl_sorts.specs.spl_meaning.ExpressionRules.{Scope}
 use Rattle.spl_sorts.specs.declared.tables.Table.{Table}
 use Rattle.spl_sorts.specs.Tables.{table_of}
 use Rattle.spl_flow.proofs.ViewLemmas.{if_else_tree}

@@ -4,9 +4,9 @@ use Rattle.std.proofs.lemmas.List.{drop_all}
 use Rattle.spl_tree.specs.declared.statements.Stmt.{Stmt}
 use Rattle.spl_tree.specs.Views as view
 use Rattle.spl_tree.specs.StatementTrees.{Statement, Statements, statements, and}
-use Rattle.spl_meaning.specs.Faults.{Fault}
-use Rattle.spl_meaning.specs.ExpressionRules.{Scope}
-use Rattle.spl_meaning.specs.StatementRules.{sets_code}
+use Rattle.spl_sorts.specs.spl_meaning.Faults.{Fault}
+use Rattle.spl_sorts.specs.spl_meaning.ExpressionRules.{Scope}
+use Rattle.spl_sorts.specs.spl_meaning.StatementRules.{sets_code}
 use Rattle.spl_found.specs.FoundStatements.{found_statement, found_statements, found_arms}
 use Rattle.spl_flow.proofs.LabelLemmas.{front}
 

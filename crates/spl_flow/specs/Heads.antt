@@ -4,9 +4,9 @@ use Rattle.spl_tree.specs.declared.names_and_places.At.{At}
 use Rattle.spl_tree.specs.Trees.{Tree, Trees}
 use Rattle.spl_tree.specs.StatementTrees as stat
 use Rattle.spl_tree.specs.StatementTrees.{Statement}
-use Rattle.spl_meaning.specs.Faults.{Fault, unless, first_fault}
-use Rattle.spl_meaning.specs.ExpressionRules.{Scope}
-use Rattle.spl_meaning.specs.StatementRules.{counter_by}
+use Rattle.spl_sorts.specs.spl_meaning.Faults.{Fault, unless, first_fault}
+use Rattle.spl_sorts.specs.spl_meaning.ExpressionRules.{Scope}
+use Rattle.spl_sorts.specs.spl_meaning.StatementRules.{counter_by}
 use Rattle.spl_found.specs.FoundStatements.{found_single, found_step, found_assign, found_effect, found_assign_effect, found_call}
 
 -- the counter of a FOR, its first value, its step and its last value

@@ -2,10 +2,10 @@
 use Rattle.std.specs.Prelude.{ℕ, not, Bool, List, [], ◌∷◌, Option, is_some}
 use Rattle.std.specs.List.{list_any}
 use Rattle.spl_tree.specs.DeclarationTrees.{Placed}
-use Rattle.spl_meaning.specs.Names as n
-use Rattle.spl_meaning.specs.Names.{find}
-use Rattle.spl_meaning.specs.Tables.{declared}
-use Rattle.spl_meaning.specs.Faults.{Fault, unless, first_fault}
+use Rattle.spl_sorts.specs.spl_meaning.Names as n
+use Rattle.spl_sorts.specs.spl_meaning.Names.{find}
+use Rattle.spl_sorts.specs.spl_meaning.Tables.{declared}
+use Rattle.spl_sorts.specs.spl_meaning.Faults.{Fault, unless, first_fault}
 use Rattle.spl_sorts.specs.declared.tables.Table.{Table}
 use Rattle.spl_sorts.specs.Tables.{table_of}
 

@@ -2,8 +2,8 @@
 use Rattle.std.specs.Prelude.{Option}
 use Rattle.spl_tree.specs.Trees as tree
 use Rattle.spl_tree.specs.Trees.{Tree}
-use Rattle.spl_meaning.specs.Faults.{Fault}
-use Rattle.spl_meaning.specs.ExpressionRules.{Scope}
+use Rattle.spl_sorts.specs.spl_meaning.Faults.{Fault}
+use Rattle.spl_sorts.specs.spl_meaning.ExpressionRules.{Scope}
 use Rattle.spl_found.specs.FoundExpressions.{found_indices}
 
 -- what is found along its index

@@ -1,8 +1,8 @@
 //! Which statements set the condition code.
 ghost use Rattle.std.specs.Prelude.{◌≡◌, option_map};
 ghost use Rattle.spl_tree.specs.Views as view;
-ghost use Rattle.spl_meaning.specs.Statements as meaning;
-ghost use Rattle.spl_meaning.specs.StatementRules as rules;
+ghost use Rattle.spl_sorts.specs.spl_meaning.Statements as meaning;
+ghost use Rattle.spl_sorts.specs.spl_meaning.StatementRules as rules;
 ghost use Rattle.spl_sorts.specs.Sorts.{sort_of};
 ghost use Rattle.spl_sorts.specs.Tables.{names_of};
 

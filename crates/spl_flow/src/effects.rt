@@ -1,9 +1,9 @@
 //! MOVE and SCAN, and where their answers go.
 ghost use Rattle.std.specs.Prelude.{◌≡◌};
 ghost use Rattle.spl_tree.specs.Views as view;
-ghost use Rattle.spl_meaning.specs.Kinds as kinds;
-ghost use Rattle.spl_meaning.specs.ExpressionRules as expressions;
-ghost use Rattle.spl_meaning.specs.StatementRules as rules;
+ghost use Rattle.spl_sorts.specs.spl_meaning.Kinds as kinds;
+ghost use Rattle.spl_sorts.specs.spl_meaning.ExpressionRules as expressions;
+ghost use Rattle.spl_sorts.specs.spl_meaning.StatementRules as rules;
 ghost use Rattle.spl_found.specs.FoundExpressions.{found_far};
 ghost use Rattle.spl_found.specs.FoundStatements as found;
 ghost use Rattle.spl_sorts.specs.Tables.{names_of};

@@ -3,8 +3,8 @@ ghost use Rattle.std.specs.Prelude.{◌≡◌, map, OnOk, IfOk, []};
 ghost use Rattle.spl_tree.specs.Views as view;
 ghost use Rattle.spl_tree.specs.Views.{letters};
 ghost use Rattle.spl_tree.specs.StatementTrees.{statements};
-ghost use Rattle.spl_meaning.specs.Faults.{first_fault};
-ghost use Rattle.spl_meaning.specs.StatementRules as rules;
+ghost use Rattle.spl_sorts.specs.spl_meaning.Faults.{first_fault};
+ghost use Rattle.spl_sorts.specs.spl_meaning.StatementRules as rules;
 ghost use Rattle.spl_sorts.specs.Tables.{table_of};
 ghost use Rattle.spl_flow.specs.Labels.{shown, with_labels, seen, seen_all};
 

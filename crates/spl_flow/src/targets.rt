@@ -2,8 +2,8 @@
 ghost use Rattle.std.specs.Prelude.{◌≡◌, [], option_map};
 ghost use Rattle.spl_tree.specs.Views as view;
 ghost use Rattle.spl_tree.specs.Views.{letters};
-ghost use Rattle.spl_meaning.specs.Faults.{first_fault};
-ghost use Rattle.spl_meaning.specs.StatementRules as rules;
+ghost use Rattle.spl_sorts.specs.spl_meaning.Faults.{first_fault};
+ghost use Rattle.spl_sorts.specs.spl_meaning.StatementRules as rules;
 ghost use Rattle.spl_found.specs.FoundStatements as found;
 ghost use Rattle.spl_sorts.specs.Profiles.{profile_of};
 ghost use Rattle.spl_sorts.specs.Sorts.{sort_of, operand_of};

@@ -1,11 +1,11 @@
 -- One part after another: each lemma once, for every outcome.
 use Rattle.std.proofs.Common.{◌≡◌, ℕ, zero, suc, ◌+◌, ◌*◌, ◌≤◌, refl, sym, ap, subst, ◌∙◌, arith, inl}
 use Rattle.std.specs.Prelude.{List, ◌++◌}
-use Rattle.hp_word.specs.declared.endings.Ending.TheVariants.{Running}
-use Rattle.hp_session.specs.State.{Machine}
-use Rattle.spl_meaning.specs.References.{Setting}
-use Rattle.spl_meaning.specs.Runs.{returned}
-use Rattle.spl_meaning.specs.States.{Data, State, Begun, Exit, Outcome, done, leaves, spent, ends, strays, to_label, back, then_go, step_of, stepping, without_code, code_dropped}
+use Rattle.hp_flat.specs.hp_word.declared.endings.Ending.TheVariants.{Running}
+use Rattle.hp_flat.specs.hp_session.State.{Machine}
+use Rattle.spl_code.specs.spl_meaning.References.{Setting}
+use Rattle.spl_code.specs.spl_meaning.Runs.{returned}
+use Rattle.spl_code.specs.spl_meaning.States.{Data, State, Begun, Exit, Outcome, done, leaves, spent, ends, strays, to_label, back, then_go, step_of, stepping, without_code, code_dropped}
 use Rattle.spl_follow.specs.Spots.{Spot, Ground, visits, prints}
 use Rattle.spl_follow.specs.Matching.{Shows}
 use Rattle.spl_follow.specs.Following.{Logged, Rate, Tally, tally, tally_with, Goes, Behind, Follows, NoExit}

@@ -2,9 +2,9 @@
 use Rattle.std.proofs.Common.{◌≡◌, ℕ, ◌+◌, ◌-◌, ◌≤◌, ◌<◌, List, [], ◌∷◌, ◌++◌, length, refl, ap, subst, ◌∙◌, arith}
 use Rattle.std.specs.Prelude.{Option, Some, None, slice_index}
 use Rattle.std.proofs.lemmas.List.{length-append}
-use Rattle.hp_session.specs.State.{Machine, word}
-use Rattle.spl_meaning.specs.References.{Setting}
-use Rattle.spl_meaning.specs.States.{Data, State, Begun}
+use Rattle.hp_flat.specs.hp_session.State.{Machine, word}
+use Rattle.spl_code.specs.spl_meaning.References.{Setting}
+use Rattle.spl_code.specs.spl_meaning.States.{Data, State, Begun}
 use Rattle.spl_frames.specs.Words.{AreWords}
 use Rattle.spl_follow.specs.Spots.{Spot, Point, on}
 use Rattle.spl_follow.specs.Matching.{Footing, Matched, Kept, Stand, IsValue, Arrives}

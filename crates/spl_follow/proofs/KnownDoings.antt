@@ -1,15 +1,15 @@
 -- What pieces do, worked by hand on one machine, and what it means that some stand.
 use Rattle.std.specs.Prelude.{◌≡◌, true, false, [], ◌∷◌}
 use Rattle.std.proofs.Common.{refl}
-use Rattle.hp_word.specs.declared.endings.Ending.TheVariants.{Trapped}
-use Rattle.hp_word.specs.declared.endings.Trap.TheVariants.{StackUnderflow, Mode}
-use Rattle.hp_instr.specs.declared.instruction.Instr.TheVariants as i
-use Rattle.hp_instr.specs.Instructions.{op}
-use Rattle.hp_session.specs.State.{Machine, opened, deleted}
-use Rattle.hp_word_rows.specs.WordRows.{count_row}
-use Rattle.hp_stack_rows.specs.StackRows.{operated}
-use Rattle.spl_branch.specs.declared.pieces.Piece.{Piece}
-use Rattle.spl_branch.specs.declared.pieces.Piece.TheVariants.{Do, Mark, Begin}
+use Rattle.hp_flat.specs.hp_word.declared.endings.Ending.TheVariants.{Trapped}
+use Rattle.hp_flat.specs.hp_word.declared.endings.Trap.TheVariants.{StackUnderflow, Mode}
+use Rattle.hp_flat.specs.hp_instr.declared.instruction.Instr.TheVariants as i
+use Rattle.hp_flat.specs.hp_instr.Instructions.{op}
+use Rattle.hp_flat.specs.hp_session.State.{Machine, opened, deleted}
+use Rattle.hp_flat.specs.hp_word_rows.WordRows.{count_row}
+use Rattle.hp_flat.specs.hp_stack_rows.StackRows.{operated}
+use Rattle.spl_code.specs.spl_branch.declared.pieces.Piece.{Piece}
+use Rattle.spl_code.specs.spl_branch.declared.pieces.Piece.TheVariants.{Do, Mark, Begin}
 use Rattle.spl_follow.specs.Spots.{Spot, spot, landed}
 use Rattle.spl_follow.specs.Matching.{Stand}
 use Rattle.spl_follow.specs.Doing.{doing, turning, calling, body}

@@ -3,16 +3,16 @@ use Rattle.std.specs.Prelude.{◌≡◌, ℕ, suc, true, false, if◌then◌else
 use Rattle.std.specs.Prelude.{zero, ◌<◌}
 use Rattle.std.proofs.Common.{refl, arith}
 use Rattle.std.proofs.lemmas.Option.{none-some}
-use Rattle.hp_word.specs.declared.endings.Ending.TheVariants.{Terminated}
-use Rattle.hp_instr.specs.Instructions.{instruction, immediate, pair}
-use Rattle.hp_instr.specs.Fields.{is_immediate, is_op}
-use Rattle.hp_program.specs.Programs.{code_word}
-use Rattle.hp_session.specs.State.{Machine, opened, deleted}
-use Rattle.hp_word_rows.specs.WordRows.{immediate_row}
-use Rattle.hp_stack_rows.specs.StackRows.{operated}
+use Rattle.hp_flat.specs.hp_word.declared.endings.Ending.TheVariants.{Terminated}
+use Rattle.hp_flat.specs.hp_instr.Instructions.{instruction, immediate, pair}
+use Rattle.hp_flat.specs.hp_instr.Fields.{is_immediate, is_op}
+use Rattle.hp_flat.specs.hp_program.Programs.{code_word}
+use Rattle.hp_flat.specs.hp_session.State.{Machine, opened, deleted}
+use Rattle.hp_flat.specs.hp_word_rows.WordRows.{immediate_row}
+use Rattle.hp_flat.specs.hp_stack_rows.StackRows.{operated}
 use Rattle.hp_flat.specs.Step.{step, outcome, row, word_row, pair_row}
-use Rattle.spl_tree.specs.declared.names_and_places.At.{At}
-use Rattle.spl_branch.specs.declared.pieces.Piece.TheVariants.{Literal, Mark}
+use Rattle.spl_code.specs.spl_tree.declared.names_and_places.At.{At}
+use Rattle.spl_code.specs.spl_branch.declared.pieces.Piece.TheVariants.{Literal, Mark}
 use Rattle.spl_follow.specs.Spots.{Spot, spot, next_word, pos, on, Ground, start_at, Visit, visits, print_between, prints}
 use Rattle.spl_follow.specs.Following.{Logged}
 use Rattle.spl_follow.specs.Doing.{gate}

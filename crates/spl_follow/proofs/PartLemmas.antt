@@ -1,9 +1,9 @@
 -- Parts of expressions and statements, put together.
 use Rattle.std.proofs.Common.{ℕ, ◌+◌, ◌-◌, List, ◌++◌, refl, arith, inl, [], ◌∷◌, ap, subst, sym, ◌≡◌}
 use Rattle.std.specs.Prelude.{min, Option}
-use Rattle.hp_word.specs.declared.arithmetic.Code.{Code}
-use Rattle.hp_session.specs.State.{Machine}
-use Rattle.spl_meaning.specs.States.{State, done, then_go, without_code, noted, leaves, spent, ends, strays}
+use Rattle.hp_flat.specs.hp_word.declared.arithmetic.Code.{Code}
+use Rattle.hp_flat.specs.hp_session.State.{Machine}
+use Rattle.spl_code.specs.spl_meaning.States.{State, done, then_go, without_code, noted, leaves, spent, ends, strays}
 use Rattle.spl_code.specs.Code.{as_value}
 use Rattle.spl_follow.specs.Spots.{pos, on, Spot, Point}
 use Rattle.spl_follow.specs.Matching.{IsValue, Coded}

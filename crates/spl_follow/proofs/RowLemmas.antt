@@ -7,19 +7,19 @@ use Rattle.std.proofs.lemmas.List.{append-nil}
 use Rattle.std.proofs.lemmas.Option.{none-some}
 use Rattle.std.proofs.Math.Logic.{⊎_elim}
 use Rattle.std.proofs.Math.Nat.{mod-lt}
-use Rattle.hp_word.specs.declared.arithmetic.Code.{Code}
-use Rattle.hp_word.specs.declared.endings.Ending.TheVariants.{Running, Trapped}
-use Rattle.hp_word.specs.declared.endings.Trap.{Trap}
-use Rattle.hp_word.specs.declared.endings.Trap.TheVariants.{StackUnderflow}
-use Rattle.hp_instr.specs.declared.instruction.Instr.TheVariants as i
-use Rattle.hp_session.specs.State.{Machine, Outcome as Row, word, without, deleted}
-use Rattle.hp_word_rows.specs.WordRows.{count_row}
+use Rattle.hp_flat.specs.hp_word.declared.arithmetic.Code.{Code}
+use Rattle.hp_flat.specs.hp_word.declared.endings.Ending.TheVariants.{Running, Trapped}
+use Rattle.hp_flat.specs.hp_word.declared.endings.Trap.{Trap}
+use Rattle.hp_flat.specs.hp_word.declared.endings.Trap.TheVariants.{StackUnderflow}
+use Rattle.hp_flat.specs.hp_instr.declared.instruction.Instr.TheVariants as i
+use Rattle.hp_flat.specs.hp_session.State.{Machine, Outcome as Row, word, without, deleted}
+use Rattle.hp_flat.specs.hp_word_rows.WordRows.{count_row}
 use Rattle.hp_flat.specs.Step.{step, is_running, at_left, ended}
-use Rattle.spl_tree.specs.declared.names_and_places.At.{At}
-use Rattle.spl_meaning.specs.Operations.{is_odd}
-use Rattle.spl_meaning.specs.Places.{put}
-use Rattle.spl_meaning.specs.References.{Setting, placed_word}
-use Rattle.spl_meaning.specs.States.{Data, State, Begun, Exit, done, ends, spent, strays, trapped}
+use Rattle.spl_code.specs.spl_tree.declared.names_and_places.At.{At}
+use Rattle.spl_code.specs.spl_meaning.Operations.{is_odd}
+use Rattle.spl_code.specs.spl_meaning.Places.{put}
+use Rattle.spl_code.specs.spl_meaning.References.{Setting, placed_word}
+use Rattle.spl_code.specs.spl_meaning.States.{Data, State, Begun, Exit, done, ends, spent, strays, trapped}
 use Rattle.spl_frames.specs.Words.{AreWords}
 use Rattle.spl_follow.specs.Spots.{Spot, spot, pos, landed, Point, on, Ground, start_at, Visit, visit_of, met, visits, as_print, print_between}
 use Rattle.spl_follow.specs.Leading.{Leads}

@@ -2,12 +2,12 @@
 use Rattle.std.proofs.Common.{◌≡◌, ℕ, zero, suc, ◌+◌, ◌-◌, ◌≤◌, ◌<◌, Bool, true, false, List, [], ◌∷◌, ◌++◌, length, refl, sym, ap, subst, ◌∙◌, arith}
 use Rattle.std.specs.Prelude.{Option, Some, None, if◌then◌else◌, drop}
 use Rattle.std.proofs.lemmas.List.{append-nil, append_assoc, take-append-drop}
-use Rattle.hp_word.specs.declared.endings.Ending.TheVariants.{Running}
-use Rattle.spl_tree.specs.declared.names_and_places.At.{At}
-use Rattle.hp_session.specs.State.{Machine}
+use Rattle.hp_flat.specs.hp_word.declared.endings.Ending.TheVariants.{Running}
+use Rattle.spl_code.specs.spl_tree.declared.names_and_places.At.{At}
+use Rattle.hp_flat.specs.hp_session.State.{Machine}
 use Rattle.hp_flat.specs.Step.{step, after, is_running}
 use Rattle.hp_flat.proofs.RunLaws.{after-add}
-use Rattle.spl_meaning.specs.States.{State, Begun, all_printed}
+use Rattle.spl_code.specs.spl_meaning.States.{State, Begun, all_printed}
 use Rattle.spl_follow.specs.Spots.{Spot, spot, pos, Point, Ground, start_at, Visit, visit_of, met, visits, as_print, print_between, prints, OnlyAdds}
 use Rattle.spl_follow.specs.Leading.{Reaches, Leads}
 use Rattle.spl_follow.specs.Following.{Logged, Owes, Rate, Tally, tally, tally_with, Goes}

@@ -1,15 +1,15 @@
 -- What it means that calls do in the machine what they do in the run. The callee is a parameter: what a call means for so many calls one
 -- within another.
 use Rattle.std.specs.Prelude.{◌≡◌, ℕ, ◌+◌, ◌-◌, ◌≤◌, ◌<◌, Bool, List, ◌++◌, length, replicate, Option, None, Some}
-use Rattle.hp_instr.specs.declared.instruction.Instr.{Instr}
-use Rattle.hp_session.specs.State.{Machine}
-use Rattle.spl_tree.specs.declared.expressions.Kind.{Kind}
-use Rattle.spl_meaning.specs.Names.{Profile}
-use Rattle.spl_meaning.specs.Operations.{result_value}
-use Rattle.spl_meaning.specs.Pending.{result_words, formals_words, marker_words}
-use Rattle.spl_meaning.specs.References.{Setting}
-use Rattle.spl_meaning.specs.States.{Data, State, Begun}
-use Rattle.spl_meaning.specs.Values.{Who, Callee}
+use Rattle.hp_flat.specs.hp_instr.declared.instruction.Instr.{Instr}
+use Rattle.hp_flat.specs.hp_session.State.{Machine}
+use Rattle.spl_code.specs.spl_tree.declared.expressions.Kind.{Kind}
+use Rattle.spl_code.specs.spl_meaning.Names.{Profile}
+use Rattle.spl_code.specs.spl_meaning.Operations.{result_value}
+use Rattle.spl_code.specs.spl_meaning.Pending.{result_words, formals_words, marker_words}
+use Rattle.spl_code.specs.spl_meaning.References.{Setting}
+use Rattle.spl_code.specs.spl_meaning.States.{Data, State, Begun}
+use Rattle.spl_code.specs.spl_meaning.Values.{Who, Callee}
 use Rattle.spl_frames.specs.Words.{AreWords}
 use Rattle.spl_follow.specs.Spots.{Spot, spot, next_word, pos, Point, Ground, Real}
 use Rattle.spl_follow.specs.Leading.{Leads}

@@ -1,18 +1,18 @@
 -- What each piece of code does to the machine, wherever its words stand: the rows of its instruction, told with the places at which they go on.
 use Rattle.std.specs.Prelude.{ℕ, ◌+◌, ◌%◌, ◌==◌, ◌&&◌, Bool, not, nat_le, if◌then◌else◌, List, Ok, Err}
-use Rattle.hp_word.specs.Words.{added}
-use Rattle.hp_word.specs.declared.endings.Trap.TheVariants.{Illegal, BadEntry, Mode}
-use Rattle.hp_instr.specs.declared.instruction.Instr.{Instr}
-use Rattle.hp_instr.specs.declared.instruction.Instr.TheVariants as i
-use Rattle.hp_session.specs.declared.places.Place.TheVariants.{Stack}
-use Rattle.hp_session.specs.State.{Machine, Outcome, then_with, word, taking, without, instead, pushing, with_x, with_code, wrapped}
-use Rattle.hp_session.specs.Places.{read_at}
-use Rattle.hp_stack_rows.specs.StackRows.{operated}
-use Rattle.hp_word_rows.specs.WordRows.{shifting, range_code, is_equal, immediate_row, count_row}
-use Rattle.hp_memory_rows.specs.MemoryRows.{settled_at, memory_row, code_loaded, is_named, goes_on}
-use Rattle.hp_memory_rows.specs.MoveRows.{move_row}
-use Rattle.hp_call_rows.specs.CallRows.{entered}
-use Rattle.hp_call_rows.specs.GateRows.{served}
+use Rattle.hp_flat.specs.hp_word.Words.{added}
+use Rattle.hp_flat.specs.hp_word.declared.endings.Trap.TheVariants.{Illegal, BadEntry, Mode}
+use Rattle.hp_flat.specs.hp_instr.declared.instruction.Instr.{Instr}
+use Rattle.hp_flat.specs.hp_instr.declared.instruction.Instr.TheVariants as i
+use Rattle.hp_flat.specs.hp_session.declared.places.Place.TheVariants.{Stack}
+use Rattle.hp_flat.specs.hp_session.State.{Machine, Outcome, then_with, word, taking, without, instead, pushing, with_x, with_code, wrapped}
+use Rattle.hp_flat.specs.hp_session.Places.{read_at}
+use Rattle.hp_flat.specs.hp_stack_rows.StackRows.{operated}
+use Rattle.hp_flat.specs.hp_word_rows.WordRows.{shifting, range_code, is_equal, immediate_row, count_row}
+use Rattle.hp_flat.specs.hp_memory_rows.MemoryRows.{settled_at, memory_row, code_loaded, is_named, goes_on}
+use Rattle.hp_flat.specs.hp_memory_rows.MoveRows.{move_row}
+use Rattle.hp_flat.specs.hp_call_rows.CallRows.{entered}
+use Rattle.hp_flat.specs.hp_call_rows.GateRows.{served}
 use Rattle.hp_flat.specs.Step.{at_left, control_row, ended}
 use Rattle.spl_follow.specs.Spots.{Spot, spot, landed}
 

@@ -1,13 +1,13 @@
 -- What it means that the machine follows a part of a run: for each outcome of the part there is a machine that it comes to, with the steps
 -- that it takes, the starts that it meets and the prints that it makes on the way.
 use Rattle.std.specs.Prelude.{◌≡◌, ◌⊎◌, ℕ, ◌+◌, ◌*◌, ◌≤◌, List, [], ◌∷◌, ◌++◌, Option, None, Some}
-use Rattle.hp_word.specs.declared.endings.Ending.TheVariants.{Running}
-use Rattle.hp_session.specs.State.{Machine}
+use Rattle.hp_flat.specs.hp_word.declared.endings.Ending.TheVariants.{Running}
+use Rattle.hp_flat.specs.hp_session.State.{Machine}
 use Rattle.hp_flat.specs.Step.{after}
-use Rattle.spl_tree.specs.declared.names_and_places.At.{At}
-use Rattle.spl_meaning.specs.References.{Setting}
-use Rattle.spl_meaning.specs.States.{State, Begun, Exit, Outcome, done, leaves, spent, ends, strays}
-use Rattle.spl_meaning.specs.Runs.{ending_of}
+use Rattle.spl_code.specs.spl_tree.declared.names_and_places.At.{At}
+use Rattle.spl_code.specs.spl_meaning.References.{Setting}
+use Rattle.spl_code.specs.spl_meaning.States.{State, Begun, Exit, Outcome, done, leaves, spent, ends, strays}
+use Rattle.spl_code.specs.spl_meaning.Runs.{ending_of}
 use Rattle.spl_follow.specs.Spots.{Ground, Visit, visits, prints}
 use Rattle.spl_follow.specs.Matching.{Matched, Coded, Shows}
 

@@ -1,17 +1,17 @@
 -- The laws by which what is followed is put together, each for every outcome of a part.
 use Rattle.std.specs.Prelude.{◌≡◌, ℕ, ◌+◌, ◌-◌, ◌≤◌, ◌<◌, Bool, true, false, List, [], ◌++◌, length, None, Some, Err, ◌∷◌}
-use Rattle.hp_word.specs.declared.endings.Trap.{Trap}
-use Rattle.hp_word.specs.declared.endings.Ending.TheVariants.{Running}
-use Rattle.hp_instr.specs.declared.instruction.Instr.TheVariants as i
-use Rattle.hp_session.specs.State.{Machine, Outcome as Row}
+use Rattle.hp_flat.specs.hp_word.declared.endings.Trap.{Trap}
+use Rattle.hp_flat.specs.hp_word.declared.endings.Ending.TheVariants.{Running}
+use Rattle.hp_flat.specs.hp_instr.declared.instruction.Instr.TheVariants as i
+use Rattle.hp_flat.specs.hp_session.State.{Machine, Outcome as Row}
 use Rattle.hp_flat.specs.Step.{after}
-use Rattle.spl_tree.specs.declared.names_and_places.At.{At}
-use Rattle.spl_branch.specs.declared.pieces.Piece.{Piece}
-use Rattle.spl_branch.specs.declared.pieces.Piece.TheVariants.{Do}
-use Rattle.spl_meaning.specs.Operations.{is_odd}
-use Rattle.spl_meaning.specs.Elements.{with_one}
-use Rattle.spl_meaning.specs.References.{Setting, placed_word}
-use Rattle.spl_meaning.specs.States.{Data, State, Begun, Outcome, done, ends, trapped, then_go, beginning, stopping, all_printed}
+use Rattle.spl_code.specs.spl_tree.declared.names_and_places.At.{At}
+use Rattle.spl_code.specs.spl_branch.declared.pieces.Piece.{Piece}
+use Rattle.spl_code.specs.spl_branch.declared.pieces.Piece.TheVariants.{Do}
+use Rattle.spl_code.specs.spl_meaning.Operations.{is_odd}
+use Rattle.spl_code.specs.spl_meaning.Elements.{with_one}
+use Rattle.spl_code.specs.spl_meaning.References.{Setting, placed_word}
+use Rattle.spl_code.specs.spl_meaning.States.{Data, State, Begun, Outcome, done, ends, trapped, then_go, beginning, stopping, all_printed}
 use Rattle.spl_code.specs.Code.{as_value, as_test}
 use Rattle.spl_frames.specs.Words.{AreWords}
 use Rattle.spl_follow.specs.Spots.{Spot, spot, pos, Point, on, Ground, visits, print_between, prints, OnlyAdds}

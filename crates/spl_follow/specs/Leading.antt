@@ -1,7 +1,7 @@
 -- What it means that the words from one place to another do something to the machine.
 use Rattle.std.specs.Prelude.{◌≡◌, ℕ, suc, ◌-◌, ◌<◌, []}
-use Rattle.hp_word.specs.declared.endings.Ending.TheVariants.{Running}
-use Rattle.hp_session.specs.State.{Machine}
+use Rattle.hp_flat.specs.hp_word.declared.endings.Ending.TheVariants.{Running}
+use Rattle.hp_flat.specs.hp_session.State.{Machine}
 use Rattle.hp_flat.specs.Step.{step, after}
 use Rattle.spl_follow.specs.Spots.{Spot, spot, pos, Point, Ground, start_at, visits, print_between, prints}
 

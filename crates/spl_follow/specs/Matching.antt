@@ -1,12 +1,12 @@
 -- What it means that the machine matches a run, and what a part of the code leaves. The stack and the rest of the machine are told apart, so
 -- that the place of the next step, the index register, the flags and the code may change where nothing else does.
 use Rattle.std.specs.Prelude.{◌≡◌, ℕ, suc, ◌+◌, ◌<◌, ◌≤◌, Bool, true, List, [], ◌∷◌, length, slice_index, Option, None, Some}
-use Rattle.hp_word.specs.declared.arithmetic.Code.{Code}
-use Rattle.hp_word.specs.declared.endings.Ending.{Ending}
-use Rattle.hp_word.specs.declared.endings.Ending.TheVariants.{Running}
-use Rattle.hp_session.specs.State.{Machine}
-use Rattle.spl_meaning.specs.References.{Setting}
-use Rattle.spl_meaning.specs.States.{Data, State, all_printed}
+use Rattle.hp_flat.specs.hp_word.declared.arithmetic.Code.{Code}
+use Rattle.hp_flat.specs.hp_word.declared.endings.Ending.{Ending}
+use Rattle.hp_flat.specs.hp_word.declared.endings.Ending.TheVariants.{Running}
+use Rattle.hp_flat.specs.hp_session.State.{Machine}
+use Rattle.spl_code.specs.spl_meaning.References.{Setting}
+use Rattle.spl_code.specs.spl_meaning.States.{Data, State, all_printed}
 use Rattle.spl_frames.specs.Words.{AreWords, IsOfWords}
 use Rattle.spl_follow.specs.Spots.{Spot, spot}
 

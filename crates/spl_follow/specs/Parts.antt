@@ -1,10 +1,10 @@
 -- What the code of expressions and of statements starts from, and what it promises for each outcome.
 use Rattle.std.specs.Prelude.{◌≡◌, ℕ, ◌+◌, ◌-◌, ◌≤◌, Bool, min, if◌then◌else◌, List, [], ◌∷◌, None}
-use Rattle.hp_word.specs.declared.endings.Ending.TheVariants.{Running}
-use Rattle.hp_session.specs.State.{Machine}
-use Rattle.spl_meaning.specs.Operations.{is_odd}
-use Rattle.spl_meaning.specs.References.{Setting}
-use Rattle.spl_meaning.specs.States.{Data, State, Begun, Exit, to_label, back, Outcome}
+use Rattle.hp_flat.specs.hp_word.declared.endings.Ending.TheVariants.{Running}
+use Rattle.hp_flat.specs.hp_session.State.{Machine}
+use Rattle.spl_code.specs.spl_meaning.Operations.{is_odd}
+use Rattle.spl_code.specs.spl_meaning.References.{Setting}
+use Rattle.spl_code.specs.spl_meaning.States.{Data, State, Begun, Exit, to_label, back, Outcome}
 use Rattle.spl_code.specs.Code.{Aim, as_value, as_test}
 use Rattle.spl_follow.specs.Spots.{Spot, spot, pos, Point, Ground}
 use Rattle.spl_follow.specs.Matching.{Matched, Coded, Shows, IsValue, Arrives}

@@ -1,10 +1,10 @@
 -- What it means that the machine follows a program's run alone.
 use Rattle.std.specs.Prelude.{ℕ, List}
-use Rattle.hp_session.specs.State.{Machine}
-use Rattle.spl_meaning.specs.Tables.{Source}
-use Rattle.spl_meaning.specs.Bodies.{program_of}
-use Rattle.spl_meaning.specs.Runs.{Seat, opening, run_of}
-use Rattle.spl_meaning.specs.States.{State}
+use Rattle.hp_flat.specs.hp_session.State.{Machine}
+use Rattle.spl_code.specs.spl_meaning.Tables.{Source}
+use Rattle.spl_code.specs.spl_meaning.Bodies.{program_of}
+use Rattle.spl_code.specs.spl_meaning.Runs.{Seat, opening, run_of}
+use Rattle.spl_code.specs.spl_meaning.States.{State}
 use Rattle.spl_follow.specs.Spots.{Ground}
 use Rattle.spl_follow.specs.Following.{Rate, tally, Follows, NoExit}
 

@@ -1,8 +1,8 @@
 -- What it means that the code at the entry of a body tests its room.
 use Rattle.std.specs.Prelude.{◌≡◌, ℕ, ◌+◌, ◌-◌, ◌≤◌, ◌<◌, length}
-use Rattle.hp_word.specs.declared.endings.Ending.TheVariants.{Running, Trapped}
-use Rattle.hp_word.specs.declared.endings.Trap.TheVariants.{StackOverflow}
-use Rattle.hp_session.specs.State.{Machine}
+use Rattle.hp_flat.specs.hp_word.declared.endings.Ending.TheVariants.{Running, Trapped}
+use Rattle.hp_flat.specs.hp_word.declared.endings.Trap.TheVariants.{StackOverflow}
+use Rattle.hp_flat.specs.hp_session.State.{Machine}
 use Rattle.spl_follow.specs.Spots.{Spot, spot, pos, Ground}
 use Rattle.spl_follow.specs.Matching.{outer}
 use Rattle.spl_follow.specs.Following.{Rate, Tally, Goes}

@@ -1,9 +1,9 @@
 -- What it means that a part of code simulates a part of the source, wherever it stands.
 use Rattle.std.specs.Prelude.{ℕ, ◌≤◌, List}
-use Rattle.hp_session.specs.State.{Machine}
-use Rattle.spl_meaning.specs.References.{Setting}
-use Rattle.spl_meaning.specs.States.{State, Begun, Outcome}
-use Rattle.spl_meaning.specs.Laws.{IsFront}
+use Rattle.hp_flat.specs.hp_session.State.{Machine}
+use Rattle.spl_code.specs.spl_meaning.References.{Setting}
+use Rattle.spl_code.specs.spl_meaning.States.{State, Begun, Outcome}
+use Rattle.spl_code.specs.spl_meaning.Laws.{IsFront}
 use Rattle.spl_code.specs.Parts.{Part, Wanted}
 use Rattle.spl_code.specs.Code.{Aim}
 use Rattle.spl_follow.specs.Spots.{Spot, pos, Point, on, Ground}

@@ -1,8 +1,8 @@
 -- Places in a program's segments, what a program says of them, and what the machine meets and prints on its way.
 use Rattle.std.specs.Prelude.{◌≡◌, ℕ, zero, suc, ◌+◌, ◌*◌, ◌<◌, Bool, false, if◌then◌else◌, List, [], ◌∷◌, ◌++◌, length, take, drop, Option, None, Some}
-use Rattle.spl_tree.specs.declared.names_and_places.At.{At}
-use Rattle.hp_program.specs.Programs.{code_word}
-use Rattle.hp_session.specs.State.{Machine}
+use Rattle.spl_code.specs.spl_tree.declared.names_and_places.At.{At}
+use Rattle.hp_flat.specs.hp_program.Programs.{code_word}
+use Rattle.hp_flat.specs.hp_session.State.{Machine}
 use Rattle.hp_flat.specs.Step.{step, is_running}
 
 -- ---- places

@@ -1,8 +1,8 @@
 -- What it means that the words of a program stand for pieces of code, from one place to another, by what the machine does there.
 use Rattle.std.specs.Prelude.{◌≡◌, ℕ, Bool, true, false, List, [], ◌∷◌, None, Some}
-use Rattle.hp_program.specs.Programs.{code_word}
-use Rattle.spl_branch.specs.declared.pieces.Piece.{Piece}
-use Rattle.spl_branch.specs.declared.pieces.Piece.TheVariants.{Do, Literal, Place, Branch, Mark, Call, Begin}
+use Rattle.hp_flat.specs.hp_program.Programs.{code_word}
+use Rattle.spl_code.specs.spl_branch.declared.pieces.Piece.{Piece}
+use Rattle.spl_code.specs.spl_branch.declared.pieces.Piece.TheVariants.{Do, Literal, Place, Branch, Mark, Call, Begin}
 use Rattle.spl_follow.specs.Spots.{Spot, next_word, Point, on, Ground, Real}
 use Rattle.spl_follow.specs.Leading.{Leads}
 use Rattle.spl_follow.specs.Doing.{doing, turning, Way, calling}

@@ -1,6 +1,6 @@
 -- What a row of the machine leaves, told of its stack and of the rest of it. So it is the same wherever the row's instruction stands.
 use Rattle.std.specs.Prelude.{◌≡◌, ℕ, ◌-◌, List, ◌++◌, length, take, slice_set, Ok}
-use Rattle.hp_session.specs.State.{Machine, Outcome}
+use Rattle.hp_flat.specs.hp_session.State.{Machine, Outcome}
 use Rattle.spl_follow.specs.Matching.{Outer, outer}
 
 -- a row does not trap, and leaves this stack and this rest

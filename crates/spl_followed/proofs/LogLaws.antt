@@ -2,15 +2,15 @@
 use Rattle.std.proofs.Common.{◌≡◌, ◌⊎◌, inl, inr, ℕ, zero, suc, ◌+◌, ◌-◌, ◌*◌, ◌≤◌, ◌<◌, false, List, [], ◌∷◌, ◌++◌, length, refl, sym, ap, subst, ◌∙◌, arith}
 use Rattle.std.proofs.lemmas.Bool.{cases_lt}
 use Rattle.std.proofs.lemmas.List.{append-nil, length-append}
-use Rattle.hp_program.specs.declared.program.Program.{Program}
-use Rattle.hp_session.specs.State.{Machine}
-use Rattle.hp_flat.specs.Step.{after, is_running}
-use Rattle.spl_meaning.specs.Tables.{Source}
-use Rattle.spl_meaning.specs.Bodies.{program_of}
-use Rattle.spl_meaning.specs.Runs.{Seat, opening, point_of, begun_of, run_of}
-use Rattle.spl_meaning.specs.States.{State, Begun, Outcome, done, leaves, spent, ends, strays}
-use Rattle.spl_meaning.specs.Laws.{Onward, Beyond, GoesOnAs}
-use Rattle.spl_meaning.proofs.RunLaws.{steps_go_on}
+use Rattle.spl_carries.specs.hp_program.declared.program.Program.{Program}
+use Rattle.spl_carries.specs.hp_session.State.{Machine}
+use Rattle.spl_carries.specs.hp_flat.Step.{after, is_running}
+use Rattle.spl_carries.specs.spl_meaning.Tables.{Source}
+use Rattle.spl_carries.specs.spl_meaning.Bodies.{program_of}
+use Rattle.spl_carries.specs.spl_meaning.Runs.{Seat, opening, point_of, begun_of, run_of}
+use Rattle.spl_carries.specs.spl_meaning.States.{State, Begun, Outcome, done, leaves, spent, ends, strays}
+use Rattle.spl_carries.specs.spl_meaning.Laws.{Onward, Beyond, GoesOnAs}
+use Rattle.spl_carries.proofs.spl_meaning_proofs.RunLaws.{steps_go_on}
 use Rattle.spl_follow.specs.Spots.{Visit, visits}
 use Rattle.spl_follow.specs.Following.{Logged, Behind, tally, Follows, NoExit}
 use Rattle.spl_follow.specs.Programs.{NoValue}

@@ -2,15 +2,15 @@
 use Rattle.std.proofs.Common.{◌≡◌, inl, ℕ, ◌+◌, ◌-◌, ◌≤◌, ◌<◌, Bool, true, false, List, [], refl, sym, ap, subst, ◌∙◌, arith}
 use Rattle.std.specs.Prelude.{Option, None, nat_lt, if◌then◌else◌}
 use Rattle.std.proofs.lemmas.Bool.{ltb-true, ltb-false}
-use Rattle.hp_word.specs.declared.arithmetic.Code.{Code}
-use Rattle.hp_word.specs.declared.endings.Ending.TheVariants.{Running}
-use Rattle.hp_word.specs.declared.endings.Trap.TheVariants.{StackOverflow}
-use Rattle.hp_session.specs.State.{Machine}
-use Rattle.spl_meaning.specs.Tables.{Source}
-use Rattle.spl_meaning.specs.Bodies.{Body, program_of}
-use Rattle.spl_meaning.specs.Statements.{run_body}
-use Rattle.spl_meaning.specs.Runs.{calls, opening, returned, run_program}
-use Rattle.spl_meaning.specs.States.{Data, State, terminated, trapped, Outcome, ends, then_go, stepping}
+use Rattle.spl_carries.specs.hp_word.declared.arithmetic.Code.{Code}
+use Rattle.spl_carries.specs.hp_word.declared.endings.Ending.TheVariants.{Running}
+use Rattle.spl_carries.specs.hp_word.declared.endings.Trap.TheVariants.{StackOverflow}
+use Rattle.spl_carries.specs.hp_session.State.{Machine}
+use Rattle.spl_carries.specs.spl_meaning.Tables.{Source}
+use Rattle.spl_carries.specs.spl_meaning.Bodies.{Body, program_of}
+use Rattle.spl_carries.specs.spl_meaning.Statements.{run_body}
+use Rattle.spl_carries.specs.spl_meaning.Runs.{calls, opening, returned, run_program}
+use Rattle.spl_carries.specs.spl_meaning.States.{Data, State, terminated, trapped, Outcome, ends, then_go, stepping}
 use Rattle.spl_follow.specs.Spots.{Spot, spot, pos, on, Ground}
 use Rattle.spl_follow.specs.Matching.{Outer, outer, Matches, Matched, Shows, Arrives, Coded}
 use Rattle.spl_follow.specs.Following.{Rate, tally, Follows, NoExit}

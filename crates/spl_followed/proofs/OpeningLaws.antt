@@ -3,12 +3,12 @@ use Rattle.std.proofs.Common.{◌≡◌, ℕ, zero, suc, ◌+◌, ◌-◌, ◌<�
 use Rattle.std.specs.Prelude.{Option, Some, is_some, nat_lt, replicate, slice_index}
 use Rattle.std.proofs.lemmas.Bool.{false≢true, ltb-true}
 use Rattle.std.proofs.lemmas.List.{length-append, get_or_append_left}
-use Rattle.spl_meaning.specs.Tables.{Source}
-use Rattle.spl_meaning.specs.Places.{word_or_zero}
-use Rattle.spl_meaning.specs.Bodies.{Reached, reached_behind, program_from, program_of, data_words}
-use Rattle.spl_meaning.specs.Runs.{Seat, opening}
+use Rattle.spl_carries.specs.spl_meaning.Tables.{Source}
+use Rattle.spl_carries.specs.spl_meaning.Places.{word_or_zero}
+use Rattle.spl_carries.specs.spl_meaning.Bodies.{Reached, reached_behind, program_from, program_of, data_words}
+use Rattle.spl_carries.specs.spl_meaning.Runs.{Seat, opening}
 use Rattle.spl_carries.specs.Segments.{words_from, initial_words}
-use Rattle.spl_frames.specs.Laws.{WordsStayWords, OpeningsHaveTheirWords}
+use Rattle.spl_follow.specs.spl_frames.Laws.{WordsStayWords, OpeningsHaveTheirWords}
 use Rattle.spl_follow.specs.Matching.{outer}
 use Rattle.spl_followed.specs.Followed.{start}
 use Rattle.spl_followed.specs.Mains.{SessionsOpenAsRuns}

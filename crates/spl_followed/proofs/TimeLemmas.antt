@@ -2,11 +2,11 @@
 use Rattle.std.proofs.Common.{◌≡◌, ◌⊎◌, inl, inr, ℕ, ◌+◌, ◌-◌, ◌≤◌, Bool, true, false, List, [], ◌∷◌, ◌++◌, length, refl, sym, ap, ◌∙◌, arith}
 use Rattle.std.proofs.lemmas.Bool.{false≢true}
 use Rattle.std.proofs.lemmas.List.{length-append}
-use Rattle.hp_word.specs.declared.endings.Ending.{Ending}
-use Rattle.hp_word.specs.declared.endings.Ending.TheVariants as ending
-use Rattle.hp_session.specs.State.{Machine}
-use Rattle.hp_flat.specs.Step.{after, is_running}
-use Rattle.hp_flat.proofs.RunLaws.{after_ended, after-add}
+use Rattle.spl_carries.specs.hp_word.declared.endings.Ending.{Ending}
+use Rattle.spl_carries.specs.hp_word.declared.endings.Ending.TheVariants as ending
+use Rattle.spl_carries.specs.hp_session.State.{Machine}
+use Rattle.spl_carries.specs.hp_flat.Step.{after, is_running}
+use Rattle.spl_carries.proofs.hp_flat_proofs.RunLaws.{after_ended, after-add}
 use Rattle.spl_follow.specs.Spots.{Ground, visits, prints}
 use Rattle.spl_follow.proofs.WayLemmas.{visits_add, prints_add}
 

@@ -3,20 +3,20 @@ use Rattle.std.proofs.Common.{◌≡◌, ◌⊎◌, inl, inr, ℕ, zero, suc, �
 use Rattle.std.specs.Prelude.{Option, Some, None}
 use Rattle.std.proofs.lemmas.Bool.{false≢true, cases_lt}
 use Rattle.std.proofs.lemmas.List.{append-nil, append_assoc, length-append}
-use Rattle.hp_word.specs.declared.endings.Ending.{Ending}
-use Rattle.hp_word.specs.declared.endings.Ending.TheVariants.{Running}
-use Rattle.hp_program.specs.declared.program.Program.{Program}
-use Rattle.hp_program.specs.Programs.{segments_of}
-use Rattle.hp_program.proofs.ValidLaws.{program_labels_lead}
-use Rattle.hp_session.specs.State.{Machine}
-use Rattle.hp_flat.specs.Step.{after, step, is_running}
-use Rattle.hp_flat.proofs.StepKeeping.{step-continues}
-use Rattle.spl_meaning.specs.Tables.{Source}
-use Rattle.spl_meaning.specs.Bodies.{Body, program_of}
-use Rattle.spl_meaning.specs.Runs.{Seat, opening, point_of, at_state, ending_of, run_program, run_of, alone, stands, stray}
-use Rattle.spl_meaning.specs.States.{State, Begun, End, terminated, quit, trapped, Outcome, done, leaves, spent, ends, strays, all_printed}
-use Rattle.spl_meaning.specs.Laws.{Onward, Beyond, GoesOnAs}
-use Rattle.spl_meaning.proofs.RunLaws.{steps_go_on}
+use Rattle.spl_carries.specs.hp_word.declared.endings.Ending.{Ending}
+use Rattle.spl_carries.specs.hp_word.declared.endings.Ending.TheVariants.{Running}
+use Rattle.spl_carries.specs.hp_program.declared.program.Program.{Program}
+use Rattle.spl_carries.specs.hp_program.Programs.{segments_of}
+use Rattle.spl_carries.proofs.hp_program_proofs.ValidLaws.{program_labels_lead}
+use Rattle.spl_carries.specs.hp_session.State.{Machine}
+use Rattle.spl_carries.specs.hp_flat.Step.{after, step, is_running}
+use Rattle.spl_carries.proofs.hp_flat_proofs.StepKeeping.{step-continues}
+use Rattle.spl_carries.specs.spl_meaning.Tables.{Source}
+use Rattle.spl_carries.specs.spl_meaning.Bodies.{Body, program_of}
+use Rattle.spl_carries.specs.spl_meaning.Runs.{Seat, opening, point_of, at_state, ending_of, run_program, run_of, alone, stands, stray}
+use Rattle.spl_carries.specs.spl_meaning.States.{State, Begun, End, terminated, quit, trapped, Outcome, done, leaves, spent, ends, strays, all_printed}
+use Rattle.spl_carries.specs.spl_meaning.Laws.{Onward, Beyond, GoesOnAs}
+use Rattle.spl_carries.proofs.spl_meaning_proofs.RunLaws.{steps_go_on}
 use Rattle.spl_carries.specs.Carries.{weight, flat_point, flat, Forth, follows, strayed, Back}
 use Rattle.spl_follow.specs.Spots.{prints, OnlyAdds}
 use Rattle.spl_follow.specs.Matching.{Shows}

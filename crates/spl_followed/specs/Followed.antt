@@ -1,11 +1,11 @@
 -- A program whose session follows the run of its units, and what is said of what the session meets.
 use Rattle.std.specs.Prelude.{◌≡◌, ℕ, ◌+◌, ◌≤◌, List, []}
-use Rattle.hp_program.specs.declared.program.Program.{Program}
-use Rattle.hp_program.specs.Programs.{segments_of}
-use Rattle.hp_session.specs.State.{Machine, opened}
-use Rattle.hp_flat.specs.Views.{start_of}
-use Rattle.spl_meaning.specs.Tables.{Source}
-use Rattle.spl_meaning.specs.Runs.{Seat, alone, begins, stray}
+use Rattle.spl_carries.specs.hp_program.declared.program.Program.{Program}
+use Rattle.spl_carries.specs.hp_program.Programs.{segments_of}
+use Rattle.spl_carries.specs.hp_session.State.{Machine, opened}
+use Rattle.spl_carries.specs.hp_flat.Views.{start_of}
+use Rattle.spl_carries.specs.spl_meaning.Tables.{Source}
+use Rattle.spl_carries.specs.spl_meaning.Runs.{Seat, alone, begins, stray}
 use Rattle.spl_carries.specs.Carries.{weight}
 use Rattle.spl_follow.specs.Spots.{Ground, visits}
 use Rattle.spl_follow.specs.Following.{Rate, Logged}

@@ -1,8 +1,8 @@
 -- What follows for a program whose session follows the run of its units.
 use Rattle.std.specs.Prelude.{◌≡◌, ℕ, List}
-use Rattle.hp_program.specs.declared.program.Program.{Program}
-use Rattle.spl_meaning.specs.Tables.{Source}
-use Rattle.spl_meaning.specs.Runs.{Seat, alone, stray}
+use Rattle.spl_carries.specs.hp_program.declared.program.Program.{Program}
+use Rattle.spl_carries.specs.spl_meaning.Tables.{Source}
+use Rattle.spl_carries.specs.spl_meaning.Runs.{Seat, alone, stray}
 use Rattle.spl_carries.specs.Segments.{initial_words}
 use Rattle.spl_carries.specs.Carries.{Forth, Back, MaySit, IsBounded, Carries}
 use Rattle.spl_followed.specs.Followed.{Followed, Meets, IsMet}

@@ -1,15 +1,15 @@
 -- The main body: where its session opens, and what its code does around its statements.
 use Rattle.std.specs.Prelude.{◌≡◌, ℕ, ◌-◌, ◌≤◌, false, List, Some}
-use Rattle.hp_word.specs.declared.endings.Ending.TheVariants.{Running, Terminated}
-use Rattle.hp_program.specs.declared.program.Program.{Program}
-use Rattle.hp_program.specs.Programs.{segments_of}
-use Rattle.hp_session.specs.State.{Machine}
-use Rattle.spl_meaning.specs.Tables.{Source}
-use Rattle.spl_meaning.specs.References.{Setting}
-use Rattle.spl_meaning.specs.Statements.{run_body}
-use Rattle.spl_meaning.specs.Bodies.{Body, marker_gap, program_of}
-use Rattle.spl_meaning.specs.Runs.{Seat, calls, opening}
-use Rattle.spl_meaning.specs.States.{State}
+use Rattle.spl_carries.specs.hp_word.declared.endings.Ending.TheVariants.{Running, Terminated}
+use Rattle.spl_carries.specs.hp_program.declared.program.Program.{Program}
+use Rattle.spl_carries.specs.hp_program.Programs.{segments_of}
+use Rattle.spl_carries.specs.hp_session.State.{Machine}
+use Rattle.spl_carries.specs.spl_meaning.Tables.{Source}
+use Rattle.spl_carries.specs.spl_meaning.References.{Setting}
+use Rattle.spl_carries.specs.spl_meaning.Statements.{run_body}
+use Rattle.spl_carries.specs.spl_meaning.Bodies.{Body, marker_gap, program_of}
+use Rattle.spl_carries.specs.spl_meaning.Runs.{Seat, calls, opening}
+use Rattle.spl_carries.specs.spl_meaning.States.{State}
 use Rattle.spl_carries.specs.Segments.{initial_words}
 use Rattle.spl_carries.specs.Carries.{weight, MaySit}
 use Rattle.spl_follow.specs.Spots.{Spot, spot, pos, on, Ground}

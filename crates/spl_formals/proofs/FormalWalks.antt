@@ -1,6 +1,6 @@
 -- Loops over parameters.
 use Rattle.std.proofs.Common.{◌≡◌, ◌<◌, ◌≤◌, ℕ, ◌+◌, List, map, drop, length, get_or}
-use Rattle.spl_meaning.specs.Pending as pending
+use Rattle.spl_sorts.specs.spl_meaning.Pending as pending
 use Rattle.spl_sorts.specs.declared.profiles.Formal.{Formal}
 use Rattle.spl_sorts.specs.Profiles.{formal_of}
 use Rattle.spl_lists.proofs.NameWalks.{onward, onward_end}

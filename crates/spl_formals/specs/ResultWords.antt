@@ -2,10 +2,10 @@
 use Rattle.std.specs.Prelude.{ℕ, ◌+◌, pos, neg_ℤ, List, Option, Some, None}
 use Rattle.spl_tree.specs.declared.expressions.Kind.{Kind}
 use Rattle.hp_word.specs.Words.{word_of}
-use Rattle.spl_meaning.specs.Names.{Formal, Profile}
-use Rattle.spl_meaning.specs.Kinds.{width}
-use Rattle.spl_meaning.specs.Places.{Place, data_word, above_base, below_base, below_return}
-use Rattle.spl_meaning.specs.Pending.{formals_words}
+use Rattle.spl_sorts.specs.spl_meaning.Names.{Formal, Profile}
+use Rattle.spl_sorts.specs.spl_meaning.Kinds.{width}
+use Rattle.spl_sorts.specs.spl_meaning.Places.{Place, data_word, above_base, below_base, below_return}
+use Rattle.spl_sorts.specs.spl_meaning.Pending.{formals_words}
 
 -- the address of a data word, or how far above a base; below a base as a negative number
 abbrev pub place_word : Place → ℕ

@@ -1,7 +1,7 @@
 //! The words of parameters and results.
 ghost use Rattle.std.specs.Prelude.{◌≡◌, ◌≤◌, IfOk, map};
-ghost use Rattle.spl_meaning.specs.Kinds as kinds;
-ghost use Rattle.spl_meaning.specs.Pending as pending;
+ghost use Rattle.spl_sorts.specs.spl_meaning.Kinds as kinds;
+ghost use Rattle.spl_sorts.specs.spl_meaning.Pending as pending;
 ghost use Rattle.spl_sorts.specs.Profiles.{formal_of, profile_of};
 ghost use Rattle.spl_formals.specs.ResultWords.{result_at};
 

@@ -2,20 +2,20 @@
 -- word, where there is any.
 use Rattle.std.proofs.Common.{ℕ, suc, ◌%◌, nat_eq, length, Bool, true, List, [], ◌∷◌, codes, Option, Some, None, refl}
 use Rattle.std.specs.List.{slice_get}
-use Rattle.hp_instr.specs.declared.instruction.Instr.TheVariants as i
-use Rattle.spl_tree.specs.DeclarationTrees as decl
-use Rattle.spl_tree.specs.DeclarationTrees.{Declaration, Declarations, declarations}
-use Rattle.spl_meaning.specs.Tables.{Subroutine}
-use Rattle.spl_meaning.specs.Pending.{formals_words}
-use Rattle.spl_meaning.specs.Bodies.{Body, Named, subroutine_body}
-use Rattle.spl_branch.specs.declared.pieces.Piece.TheVariants.{Mark, Call}
-use Rattle.spl_code.specs.Parts.{Part, pieces, piece, nothing, ◌⨟◌, wanted_place}
-use Rattle.spl_body_code.specs.Frames.{granted, EXIT, SXIT}
-use Rattle.spl_body_code.specs.Bodies.{frame_of, mode_left, procedure_entered, procedure_left, procedure_code, subroutine_left, subroutine_code, main_left, main_code}
-use Rattle.spl_scopes.specs.Entries.{Owner, main, routine, Entry, module_entries, routines_behind}
-use Rattle.spl_scopes.specs.Scopes.{Placed, routine_bodies, outer_body}
-use Rattle.spl_module_code.specs.Bodies.{body_statements, subroutine_parts}
-use Rattle.spl_module_code.specs.Modules.{inner_behind, routine_at, inner_with, inner_at, entries_behind, declared_part, declared_parts, holds_main, main_at, module_part}
+use Rattle.mpe_segmenter.specs.hp_instr.declared.instruction.Instr.TheVariants as i
+use Rattle.mpe_segmenter.specs.spl_tree.DeclarationTrees as decl
+use Rattle.mpe_segmenter.specs.spl_tree.DeclarationTrees.{Declaration, Declarations, declarations}
+use Rattle.spl_wanted_names.specs.spl_meaning.Tables.{Subroutine}
+use Rattle.spl_wanted_names.specs.spl_meaning.Pending.{formals_words}
+use Rattle.spl_wanted_names.specs.spl_meaning.Bodies.{Body, Named, subroutine_body}
+use Rattle.mpe_segmenter.specs.spl_branch.declared.pieces.Piece.TheVariants.{Mark, Call}
+use Rattle.spl_wanted_names.specs.spl_code.Parts.{Part, pieces, piece, nothing, ◌⨟◌, wanted_place}
+use Rattle.spl_wanted_names.specs.spl_body_code.Frames.{granted, EXIT, SXIT}
+use Rattle.spl_wanted_names.specs.spl_body_code.Bodies.{frame_of, mode_left, procedure_entered, procedure_left, procedure_code, subroutine_left, subroutine_code, main_left, main_code}
+use Rattle.spl_wanted_names.specs.spl_scopes.Entries.{Owner, main, routine, Entry, module_entries, routines_behind}
+use Rattle.spl_wanted_names.specs.spl_scopes.Scopes.{Placed, routine_bodies, outer_body}
+use Rattle.spl_wanted_names.specs.spl_module_code.Bodies.{body_statements, subroutine_parts}
+use Rattle.spl_wanted_names.specs.spl_module_code.Modules.{inner_behind, routine_at, inner_with, inner_at, entries_behind, declared_part, declared_parts, holds_main, main_at, module_part}
 use Rattle.spl_formed_modules.proofs.Closings.{Closing, Ending, closing_then, closing_fresh, ending_closing, ending_nothing, ending_then, ending_if}
 
 -- the exit of a procedure

@@ -1,9 +1,9 @@
 -- Code that ends with a word, so that each mark in it stands before its end: put together of parts.
 use Rattle.std.proofs.Common.{◌≡◌, ◌⊎◌, inl, inr, ℕ, suc, ◌+◌, Bool, true, false, if◌then◌else◌, List, [], ◌∷◌, ◌++◌, refl, sym, ap, ◌∙◌, append_assoc, append-nil}
-use Rattle.hp_instr.specs.declared.instruction.Instr.TheVariants as i
-use Rattle.spl_branch.specs.declared.pieces.Piece.{Piece}
-use Rattle.spl_branch.specs.declared.pieces.Piece.TheVariants.{Do, Call}
-use Rattle.spl_code.specs.Parts.{Part, Wanted, pieces, ◌⨟◌, with_fresh}
+use Rattle.mpe_segmenter.specs.hp_instr.declared.instruction.Instr.TheVariants as i
+use Rattle.mpe_segmenter.specs.spl_branch.declared.pieces.Piece.{Piece}
+use Rattle.mpe_segmenter.specs.spl_branch.declared.pieces.Piece.TheVariants.{Do, Call}
+use Rattle.spl_wanted_names.specs.spl_code.Parts.{Part, Wanted, pieces, ◌⨟◌, with_fresh}
 
 -- a piece that takes a word of its own, behind which none is left half
 abbrev pub closes : Piece → Bool

@@ -1,13 +1,13 @@
 -- What a unit defines and wants in a segment: no more than the calls and entries of what it declares there.
 use Rattle.std.proofs.Common.{◌≡◌, ◌≤◌, ℕ, suc, ◌+◌, ◌||◌, nat_eq, Bool, true, false, if◌then◌else◌, List, [], ◌∷◌, ◌++◌, length, refl, sym, ap, ◌∙◌, arith}
 use Rattle.std.proofs.lemmas.Bool.{eqb-true}
-use Rattle.spl_tree.specs.DeclarationTrees as decl
-use Rattle.spl_tree.specs.DeclarationTrees.{Declaration, Declarations, declarations}
-use Rattle.spl_tree.specs.StatementTrees.{statements}
-use Rattle.spl_meaning.specs.Tables.{Source}
-use Rattle.spl_scopes.specs.Entries.{Owner, routine, Entry, inner_entry, inner_entries, declared_entries, entries_among, routines_behind, in_segment, module_entries}
-use Rattle.spl_module_code.specs.Modules.{is_taken}
-use Rattle.spl_few_calls.specs.Calls.{calls_in, calls_within, declared_calls, all_declared_calls, unit_calls}
+use Rattle.mpe_segmenter.specs.spl_tree.DeclarationTrees as decl
+use Rattle.mpe_segmenter.specs.spl_tree.DeclarationTrees.{Declaration, Declarations, declarations}
+use Rattle.mpe_segmenter.specs.spl_tree.StatementTrees.{statements}
+use Rattle.spl_wanted_names.specs.spl_meaning.Tables.{Source}
+use Rattle.spl_wanted_names.specs.spl_scopes.Entries.{Owner, routine, Entry, inner_entry, inner_entries, declared_entries, entries_among, routines_behind, in_segment, module_entries}
+use Rattle.spl_wanted_names.specs.spl_module_code.Modules.{is_taken}
+use Rattle.spl_wanted_names.specs.spl_few_calls.Calls.{calls_in, calls_within, declared_calls, all_declared_calls, unit_calls}
 use Rattle.spl_wanted_names.specs.Counts.{all_inner_calls, calls_at, all_calls_at, main_calls_at, module_calls}
 
 -- ---- of a segment

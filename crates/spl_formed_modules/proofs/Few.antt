@@ -4,24 +4,24 @@ use Rattle.std.specs.List.{slice_get}
 use Rattle.std.specs.Global.{Vec}
 use Rattle.std.proofs.lemmas.Bool.{ltb-true, cases_lt}
 use Rattle.std.proofs.lemmas.List.{length-map}
-use Rattle.spl_meaning.specs.Names.{find}
-use Rattle.spl_meaning.specs.Tables.{Source}
-use Rattle.spl_meaning.specs.Bodies.{Reached, reached_behind}
-use Rattle.spl_sound.specs.Spelled.{most_tokens}
-use Rattle.spl_tree.specs.StatementTrees.{statements}
-use Rattle.spl_branch.specs.declared.buffer.Code.{Code}
-use Rattle.spl_branch.specs.declared.modules.Want.{Want}
-use Rattle.spl_branch.specs.declared.modules.Module.{Module}
-use Rattle.spl_branch.specs.Modules.{define_of}
-use Rattle.spl_scopes.specs.Entries.{Entry, module_entries}
-use Rattle.spl_scopes.specs.Scopes.{Placed, first_reached, placed_units}
-use Rattle.spl_modules.specs.Made.{made_of, made_from}
-use Rattle.spl_module_code.specs.Modules.{uses, is_taken, numbered, marks_before, IsCodeOf, IsModuleOf, AreOfUnit, AreOf, program_uses}
-use Rattle.spl_module_code.specs.Modules.{AreOfUnit as u}
-use Rattle.spl_module_code.specs.Modules.{AreOf as a}
+use Rattle.spl_wanted_names.specs.spl_meaning.Names.{find}
+use Rattle.spl_wanted_names.specs.spl_meaning.Tables.{Source}
+use Rattle.spl_wanted_names.specs.spl_meaning.Bodies.{Reached, reached_behind}
+use Rattle.spl_wanted_names.specs.spl_sound.Spelled.{most_tokens}
+use Rattle.mpe_segmenter.specs.spl_tree.StatementTrees.{statements}
+use Rattle.mpe_segmenter.specs.spl_branch.declared.buffer.Code.{Code}
+use Rattle.mpe_segmenter.specs.spl_branch.declared.modules.Want.{Want}
+use Rattle.mpe_segmenter.specs.spl_branch.declared.modules.Module.{Module}
+use Rattle.mpe_segmenter.specs.spl_branch.Modules.{define_of}
+use Rattle.spl_wanted_names.specs.spl_scopes.Entries.{Entry, module_entries}
+use Rattle.spl_wanted_names.specs.spl_scopes.Scopes.{Placed, first_reached, placed_units}
+use Rattle.spl_wanted_names.specs.spl_modules.Made.{made_of, made_from}
+use Rattle.spl_wanted_names.specs.spl_module_code.Modules.{uses, is_taken, numbered, marks_before, IsCodeOf, IsModuleOf, AreOfUnit, AreOf, program_uses}
+use Rattle.spl_wanted_names.specs.spl_module_code.Modules.{AreOfUnit as u}
+use Rattle.spl_wanted_names.specs.spl_module_code.Modules.{AreOf as a}
 use Rattle.mpe_segmenter.specs.Entered.{total}
-use Rattle.spl_few_calls.specs.Calls.{calls_within, unit_calls}
-use Rattle.spl_few_calls.proofs.Units.{few_in_units}
+use Rattle.spl_wanted_names.specs.spl_few_calls.Calls.{calls_within, unit_calls}
+use Rattle.spl_wanted_names.proofs.spl_few_calls_proofs.Units.{few_in_units}
 use Rattle.spl_wanted_names.specs.Counts.{module_calls}
 use Rattle.spl_wanted_names.proofs.Modules.{wants_known}
 use Rattle.spl_formed_modules.specs.Laws.{ModulesAreFew}

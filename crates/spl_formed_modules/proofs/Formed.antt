@@ -7,20 +7,20 @@ use Rattle.std.proofs.lemmas.Bool.{and_parts, and_from, lt-ltb, ltb-true, cases_
 use Rattle.std.proofs.lemmas.List.{get_or-replicate}
 use Rattle.std.proofs.lemmas.List.Folds.{list_all-append}
 use Prim.Native.String.{String}
-use Rattle.hp_word.specs.declared.intrinsics.Intrinsic.{Intrinsic}
-use Rattle.spl_meaning.specs.Names.{find, same_name, intrinsics, intrinsic_among, intrinsic_named}
-use Rattle.spl_branch.specs.declared.buffer.Code.{Code}
-use Rattle.spl_branch.specs.declared.modules.Define.{Define}
-use Rattle.spl_branch.specs.declared.modules.Want.{Want}
-use Rattle.spl_branch.specs.declared.modules.Module.{Module}
-use Rattle.spl_branch.specs.declared.pieces.Piece.{Piece}
-use Rattle.spl_branch.specs.Codes.{IsComplete}
-use Rattle.spl_branch.specs.Pieces.{is_set, sets, once}
-use Rattle.spl_code.specs.Parts.{wanted_of, wants_of}
-use Rattle.spl_scopes.specs.Scopes.{Placed, first_reached, placed_units}
-use Rattle.spl_module_code.specs.Modules.{uses, is_taken, next_number, numbered, marks_before, module_written, IsCodeOf, IsModuleOf, AreOfUnit, AreOf, program_uses}
-use Rattle.spl_module_code.specs.Modules.{AreOfUnit as u}
-use Rattle.spl_module_code.specs.Modules.{AreOf as a}
+use Rattle.spl_wanted_names.specs.hp_word.declared.intrinsics.Intrinsic.{Intrinsic}
+use Rattle.spl_wanted_names.specs.spl_meaning.Names.{find, same_name, intrinsics, intrinsic_among, intrinsic_named}
+use Rattle.mpe_segmenter.specs.spl_branch.declared.buffer.Code.{Code}
+use Rattle.mpe_segmenter.specs.spl_branch.declared.modules.Define.{Define}
+use Rattle.mpe_segmenter.specs.spl_branch.declared.modules.Want.{Want}
+use Rattle.mpe_segmenter.specs.spl_branch.declared.modules.Module.{Module}
+use Rattle.mpe_segmenter.specs.spl_branch.declared.pieces.Piece.{Piece}
+use Rattle.mpe_segmenter.specs.spl_branch.Codes.{IsComplete}
+use Rattle.mpe_segmenter.specs.spl_branch.Pieces.{is_set, sets, once}
+use Rattle.spl_wanted_names.specs.spl_code.Parts.{wanted_of, wants_of}
+use Rattle.spl_wanted_names.specs.spl_scopes.Scopes.{Placed, first_reached, placed_units}
+use Rattle.spl_wanted_names.specs.spl_module_code.Modules.{uses, is_taken, next_number, numbered, marks_before, module_written, IsCodeOf, IsModuleOf, AreOfUnit, AreOf, program_uses}
+use Rattle.spl_wanted_names.specs.spl_module_code.Modules.{AreOfUnit as u}
+use Rattle.spl_wanted_names.specs.spl_module_code.Modules.{AreOf as a}
 use Rattle.mpe_segmenter.specs.Entries.{gate_of}
 use Rattle.mpe_segmenter.specs.Counts.{is_gate_or_name, is_below, is_well_formed}
 use Rattle.spl_complete_codes.proofs.Complete.{complete}

@@ -2,8 +2,8 @@
 use Rattle.std.proofs.Common.{◌≡◌, ◌≤◌, ℕ, zero, suc, ◌+◌, Bool, List, [], ◌∷◌, length, Option, Some, refl, ap, ◌∙◌, arith}
 use Rattle.std.specs.List.{slice_get}
 use Rattle.std.specs.Prelude.{option_map}
-use Rattle.spl_branch.specs.declared.modules.Fix.{Fix}
-use Rattle.spl_branch.specs.Modules.{fix_at, put_in, LiesAt}
+use Rattle.mpe_segmenter.specs.spl_branch.declared.modules.Fix.{Fix}
+use Rattle.mpe_segmenter.specs.spl_branch.Modules.{fix_at, put_in, LiesAt}
 
 -- no entry has a number
 abbrev pub no_entries : Bool → ℕ → ℕ

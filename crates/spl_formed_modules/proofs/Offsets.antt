@@ -3,20 +3,20 @@ use Rattle.std.proofs.Common.{◌≡◌, ◌<◌, ◌≤◌, ◌⊎◌, inl, inr
 use Rattle.std.specs.List.{list_all}
 use Rattle.std.specs.Prelude.{option_map}
 use Rattle.std.proofs.lemmas.Bool.{and_parts, and_from, lt-ltb, ne_eqb, cases_eq, cases_lt}
-use Rattle.hp_instr.specs.declared.instruction.Instr.TheVariants as i
-use Rattle.hp_instr.specs.declared.instruction.Op.{Op}
-use Rattle.spl_branch.specs.declared.buffer.Code.{Code}
-use Rattle.spl_branch.specs.declared.buffer.Entry.{Entry}
-use Rattle.spl_branch.specs.declared.modules.Define.{Define}
-use Rattle.spl_branch.specs.declared.modules.Module.{Module}
-use Rattle.spl_branch.specs.declared.pieces.Piece.{Piece}
-use Rattle.spl_branch.specs.declared.pieces.Piece.TheVariants.{Do, Literal, Place, Branch, Mark, Call, Begin}
-use Rattle.spl_branch.specs.declared.spots.Spot.{Spot}
-use Rattle.spl_branch.specs.Pieces.{is_set, is_set_if, sets_once, sets, once}
-use Rattle.spl_branch.specs.Codes.{IsComplete}
-use Rattle.spl_branch.specs.Stands.{Sites, at_left, ahead, size_at, after, Stands}
-use Rattle.spl_branch.specs.Modules.{define_of, sites, Finished, Oversized}
-use Rattle.spl_branch.proofs.SurveyLemmas.{moved_rises}
+use Rattle.mpe_segmenter.specs.hp_instr.declared.instruction.Instr.TheVariants as i
+use Rattle.mpe_segmenter.specs.hp_instr.declared.instruction.Op.{Op}
+use Rattle.mpe_segmenter.specs.spl_branch.declared.buffer.Code.{Code}
+use Rattle.mpe_segmenter.specs.spl_branch.declared.buffer.Entry.{Entry}
+use Rattle.mpe_segmenter.specs.spl_branch.declared.modules.Define.{Define}
+use Rattle.mpe_segmenter.specs.spl_branch.declared.modules.Module.{Module}
+use Rattle.mpe_segmenter.specs.spl_branch.declared.pieces.Piece.{Piece}
+use Rattle.mpe_segmenter.specs.spl_branch.declared.pieces.Piece.TheVariants.{Do, Literal, Place, Branch, Mark, Call, Begin}
+use Rattle.mpe_segmenter.specs.spl_branch.declared.spots.Spot.{Spot}
+use Rattle.mpe_segmenter.specs.spl_branch.Pieces.{is_set, is_set_if, sets_once, sets, once}
+use Rattle.mpe_segmenter.specs.spl_branch.Codes.{IsComplete}
+use Rattle.mpe_segmenter.specs.spl_branch.Stands.{Sites, at_left, ahead, size_at, after, Stands}
+use Rattle.mpe_segmenter.specs.spl_branch.Modules.{define_of, sites, Finished, Oversized}
+use Rattle.mpe_segmenter.proofs.spl_branch_proofs.SurveyLemmas.{moved_rises}
 use Rattle.mpe_segmenter.specs.Counts.{is_below}
 use Rattle.spl_formed_modules.proofs.Closings.{closes, Closed}
 use Rattle.spl_formed_modules.proofs.Laid.{no_entries, laid, length-laid, lies}

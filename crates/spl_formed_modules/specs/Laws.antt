@@ -1,10 +1,10 @@
 -- What the segmenter asks of modules holds of those of units.
 use Rattle.std.specs.Prelude.{◌≡◌, ◌≤◌, ◌<◌, ◌^◌, true, List, length}
 use Rattle.std.specs.List.{list_all}
-use Rattle.spl_meaning.specs.Tables.{Source}
-use Rattle.spl_sound.specs.Spelled.{AreSpelled, most_units}
-use Rattle.spl_branch.specs.declared.modules.Module.{Module}
-use Rattle.spl_module_code.specs.Modules.{AreModules}
+use Rattle.spl_wanted_names.specs.spl_meaning.Tables.{Source}
+use Rattle.spl_wanted_names.specs.spl_sound.Spelled.{AreSpelled, most_units}
+use Rattle.mpe_segmenter.specs.spl_branch.declared.modules.Module.{Module}
+use Rattle.spl_wanted_names.specs.spl_module_code.Modules.{AreModules}
 use Rattle.mpe_segmenter.specs.Counts.{is_well_formed}
 use Rattle.mpe_segmenter.specs.Entered.{total}
 

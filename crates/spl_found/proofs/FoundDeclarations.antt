@@ -1,12 +1,12 @@
 -- What is found along declarations and units is the first of their faults.
 use Rattle.std.proofs.Common.{◌≡◌, not, Bool, true, false, List, [], ◌∷◌, ◌++◌, Option, Some, None, refl, sym, ap, ◌∙◌, append-nil}
 use Rattle.std.specs.Prelude.{if◌then◌else◌, is_some, pos, neg_ℤ}
-use Rattle.spl_tree.specs.declared.names_and_places.At.{At}
-use Rattle.spl_tree.specs.declared.expressions.Kind.{Kind}
-use Rattle.spl_tree.specs.Trees.{Constant}
-use Rattle.spl_tree.specs.StatementTrees.{Statement, statements}
-use Rattle.spl_tree.specs.DeclarationTrees as decl
-use Rattle.spl_tree.specs.DeclarationTrees.{Placed, Heading, Item, Equal, Term, Declaration, Declarations, declarations}
+use Rattle.spl_meaning.specs.spl_tree.declared.names_and_places.At.{At}
+use Rattle.spl_meaning.specs.spl_tree.declared.expressions.Kind.{Kind}
+use Rattle.spl_meaning.specs.spl_tree.Trees.{Constant}
+use Rattle.spl_meaning.specs.spl_tree.StatementTrees.{Statement, statements}
+use Rattle.spl_meaning.specs.spl_tree.DeclarationTrees as decl
+use Rattle.spl_meaning.specs.spl_tree.DeclarationTrees.{Placed, Heading, Item, Equal, Term, Declaration, Declarations, declarations}
 use Rattle.spl_meaning.specs.Names as n
 use Rattle.spl_meaning.specs.Names.{Names, Sort, Table, Profile, find, within, nothing_declared, parameters, formals_of, profile_of, intrinsic_named, sum_value}
 use Rattle.spl_meaning.specs.Tables.{Source, Routine, declared, shaped, intrinsic_sort, with_declaration}

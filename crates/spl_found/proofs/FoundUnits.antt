@@ -2,9 +2,9 @@
 use Rattle.std.proofs.Common.{ℕ, ◌≡◌, rules, not, Bool, true, false, List, [], ◌∷◌, ◌++◌, Option, Some, None, refl, sym, ap, ◌∙◌}
 use Rattle.std.specs.Prelude.{◌||◌, if◌then◌else◌}
 use Rattle.std.specs.Cmp.Lexicographic.{same_text}
-use Rattle.spl_tree.specs.StatementTrees.{statements}
-use Rattle.spl_tree.specs.DeclarationTrees as decl
-use Rattle.spl_tree.specs.DeclarationTrees.{Heading, Declaration, Declarations, declarations}
+use Rattle.spl_meaning.specs.spl_tree.StatementTrees.{statements}
+use Rattle.spl_meaning.specs.spl_tree.DeclarationTrees as decl
+use Rattle.spl_meaning.specs.spl_tree.DeclarationTrees.{Heading, Declaration, Declarations, declarations}
 use Rattle.spl_meaning.specs.Names.{Names, Sort, Table, Profile, find, same_name, nothing_declared, profile_of}
 use Rattle.spl_meaning.specs.Tables.{Source, Routine, with_declaration}
 use Rattle.spl_meaning.specs.Bodies.{all_routines}

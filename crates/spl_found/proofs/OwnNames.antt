@@ -2,9 +2,9 @@
 use Rattle.std.proofs.Common.{ℕ, ◌≡◌, Bool, true, false, List, [], ◌∷◌, ◌++◌, Option, Some, None, refl, sym, ap, ◌∙◌, is_some}
 use Rattle.std.specs.Prelude.{if◌then◌else◌}
 use Rattle.std.specs.Cmp.Lexicographic.{same_text}
-use Rattle.spl_tree.specs.declared.expressions.Kind.{Kind}
-use Rattle.spl_tree.specs.DeclarationTrees as decl
-use Rattle.spl_tree.specs.DeclarationTrees.{Placed, Heading, Item, Equal, Declaration, Declarations}
+use Rattle.spl_meaning.specs.spl_tree.declared.expressions.Kind.{Kind}
+use Rattle.spl_meaning.specs.spl_tree.DeclarationTrees as decl
+use Rattle.spl_meaning.specs.spl_tree.DeclarationTrees.{Placed, Heading, Item, Equal, Declaration, Declarations}
 use Rattle.spl_meaning.specs.Names as n
 use Rattle.spl_meaning.specs.Names.{Names, Sort, Table, find, or_else, same_name, within, nothing_declared, parameters, formals_of, profile_of, intrinsic_named, sum_value}
 use Rattle.spl_meaning.specs.Tables.{declared, shaped, intrinsic_sort, with_items, with_equates, with_intrinsics, with_labels, with_declaration, with_declarations}

@@ -1,12 +1,12 @@
 -- The first broken rule of headings, declarations and units, as it is found along the tree. `here` is what names stand for in a list so far.
 -- A subroutine may use all of its list, so its own rules are looked at behind the list.
 use Rattle.std.specs.Prelude.{ℕ, ◌≡◌, ◌||◌, ◌++◌, not, Bool, true, false, pos, neg_ℤ, if◌then◌else◌, List, [], ◌∷◌, length, Option, Some, None, is_some}
-use Rattle.spl_tree.specs.declared.names_and_places.At.{At}
-use Rattle.spl_tree.specs.declared.expressions.Kind.{Kind}
-use Rattle.spl_tree.specs.Trees.{Constant}
-use Rattle.spl_tree.specs.StatementTrees.{Statement, statements}
-use Rattle.spl_tree.specs.DeclarationTrees as decl
-use Rattle.spl_tree.specs.DeclarationTrees.{Placed, Heading, Item, Equal, Term, Declaration, Declarations, declarations}
+use Rattle.spl_meaning.specs.spl_tree.declared.names_and_places.At.{At}
+use Rattle.spl_meaning.specs.spl_tree.declared.expressions.Kind.{Kind}
+use Rattle.spl_meaning.specs.spl_tree.Trees.{Constant}
+use Rattle.spl_meaning.specs.spl_tree.StatementTrees.{Statement, statements}
+use Rattle.spl_meaning.specs.spl_tree.DeclarationTrees as decl
+use Rattle.spl_meaning.specs.spl_tree.DeclarationTrees.{Placed, Heading, Item, Equal, Term, Declaration, Declarations, declarations}
 use Rattle.spl_meaning.specs.Names as n
 use Rattle.spl_meaning.specs.Names.{Names, Profile, find, nothing_declared, parameters, formals_of, profile_of, intrinsic_named, constant_value, sum_value}
 use Rattle.spl_meaning.specs.Tables.{Source, Routine, shaped, intrinsic_sort}

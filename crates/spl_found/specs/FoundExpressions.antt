@@ -1,8 +1,8 @@
 -- The first broken rule of an expression, as it is found along the tree: the first fault behind a part, where this was the first before it.
 use Rattle.std.specs.Prelude.{ℕ, ◌==◌, ◌&&◌, ◌||◌, not, pos, if◌then◌else◌, List, Option, is_some}
-use Rattle.spl_tree.specs.declared.names_and_places.At.{At}
-use Rattle.spl_tree.specs.Trees as tree
-use Rattle.spl_tree.specs.Trees.{Tree, Trees}
+use Rattle.spl_meaning.specs.spl_tree.declared.names_and_places.At.{At}
+use Rattle.spl_meaning.specs.spl_tree.Trees as tree
+use Rattle.spl_meaning.specs.spl_tree.Trees.{Tree, Trees}
 use Rattle.spl_meaning.specs.Names.{Formal, text_value, constant_value}
 use Rattle.spl_meaning.specs.Kinds.{is_double, kind_of, reference_kind, compares_text, callable, complement}
 use Rattle.spl_meaning.specs.Pending.{first_formal, other_formals, profile_formals}

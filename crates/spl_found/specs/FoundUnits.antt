@@ -1,8 +1,8 @@
 -- The first broken rule of units, where a FORWARD waits by its name, and bodies for FORWARDs are looked for from the last declaration back.
 use Rattle.std.specs.Prelude.{ℕ, ◌≡◌, ◌||◌, not, Bool, true, false, if◌then◌else◌, List, [], ◌∷◌, ◌++◌, Option, Some, None}
-use Rattle.spl_tree.specs.StatementTrees.{statements}
-use Rattle.spl_tree.specs.DeclarationTrees as decl
-use Rattle.spl_tree.specs.DeclarationTrees.{Heading, Declaration, Declarations, declarations}
+use Rattle.spl_meaning.specs.spl_tree.StatementTrees.{statements}
+use Rattle.spl_meaning.specs.spl_tree.DeclarationTrees as decl
+use Rattle.spl_meaning.specs.spl_tree.DeclarationTrees.{Heading, Declaration, Declarations, declarations}
 use Rattle.spl_meaning.specs.Names as n
 use Rattle.spl_meaning.specs.Names.{Names, Profile, nothing_declared, same_name, profile_of}
 use Rattle.spl_meaning.specs.Tables.{Source, Routine}

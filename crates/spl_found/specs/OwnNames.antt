@@ -1,8 +1,8 @@
 -- A list of declarations as what each of its names stands for: all that rules ask of it.
 use Rattle.std.specs.Prelude.{ℕ, Bool, if◌then◌else◌, List, [], ◌∷◌, Option, Some, None}
-use Rattle.spl_tree.specs.declared.expressions.Kind.{Kind}
-use Rattle.spl_tree.specs.DeclarationTrees as decl
-use Rattle.spl_tree.specs.DeclarationTrees.{Placed, Item, Equal, Declaration, Declarations}
+use Rattle.spl_meaning.specs.spl_tree.declared.expressions.Kind.{Kind}
+use Rattle.spl_meaning.specs.spl_tree.DeclarationTrees as decl
+use Rattle.spl_meaning.specs.spl_tree.DeclarationTrees.{Placed, Item, Equal, Declaration, Declarations}
 use Rattle.spl_meaning.specs.Names as n
 use Rattle.spl_meaning.specs.Names.{Names, or_else, same_name, profile_of, intrinsic_named, sum_value}
 use Rattle.spl_meaning.specs.Tables.{shaped, intrinsic_sort}

@@ -2,12 +2,12 @@
 use Rattle.std.proofs.Common.{ℕ, zero, suc, ◌≡◌, ◌≤◌, ◌+◌, ◌==◌, Bool, true, false, List, [], ◌∷◌, ◌++◌, Option, Some, None, refl, ap, subst, ◌∙◌, arith}
 use Rattle.std.specs.Prelude.{max, if◌then◌else◌, ◌&&◌}
 use Rattle.std.proofs.Math.Nat.{le-max_left, le-max_right}
-use Rattle.hp_word.specs.declared.arithmetic.Code.{Code}
-use Rattle.spl_tree.specs.declared.names_and_places.At.{At}
-use Rattle.spl_tree.specs.Trees as tree
-use Rattle.spl_tree.specs.Trees.{Tree, Trees}
-use Rattle.spl_tree.specs.StatementTrees as stat
-use Rattle.spl_tree.specs.StatementTrees.{Statement, Statements, Target, Source, Effect, Test}
+use Rattle.spl_meaning.specs.hp_word.declared.arithmetic.Code.{Code}
+use Rattle.spl_meaning.specs.spl_tree.declared.names_and_places.At.{At}
+use Rattle.spl_meaning.specs.spl_tree.Trees as tree
+use Rattle.spl_meaning.specs.spl_tree.Trees.{Tree, Trees}
+use Rattle.spl_meaning.specs.spl_tree.StatementTrees as stat
+use Rattle.spl_meaning.specs.spl_tree.StatementTrees.{Statement, Statements, Target, Source, Effect, Test}
 use Rattle.spl_meaning.specs.Names as n
 use Rattle.spl_meaning.specs.Names.{Names, Sort, Formal, Profile, same_name, intrinsic_profile, truth_word}
 use Rattle.spl_meaning.specs.Kinds.{callable, kind_of, operand_width, is_connective, compares_text, relation_number, or_operator}

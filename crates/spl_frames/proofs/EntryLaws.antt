@@ -3,7 +3,7 @@ use Rattle.std.proofs.Common.{ℕ, zero, suc, ◌≡◌, ◌+◌, ◌-◌, ◌<�
 use Rattle.std.specs.Prelude.{◌⊎◌, if◌then◌else◌, nat_eq, nat_lt, is_some, replicate}
 use Rattle.std.proofs.lemmas.Bool.{lt-ltb, ltb-true, le-ltb, eqb-true, eq-eqb}
 use Rattle.std.proofs.lemmas.List.{length-append, length-replicate}
-use Rattle.hp_word.specs.declared.endings.Trap.TheVariants.{StackOverflow}
+use Rattle.spl_meaning.specs.hp_word.declared.endings.Trap.TheVariants.{StackOverflow}
 use Rattle.spl_meaning.specs.Places.{put, put_cells}
 use Rattle.spl_meaning.specs.Pending.{return_words, formals_words, result_words}
 use Rattle.spl_meaning.specs.Values.{Callee}

@@ -1,17 +1,17 @@
 -- MOVE, SCAN, comparisons of bytes and intrinsics are steady.
 use Rattle.std.proofs.Common.{ℕ, zero, suc, ◌≡◌, ◌/◌, Option, Some, None, Bool, true, false, ◌+◌, ◌-◌, ◌*◌, ◌%◌, ◌==◌, List, [], ◌∷◌, length, refl, ◌∙◌, arith}
 use Rattle.std.specs.Prelude.{if◌then◌else◌, ◌&&◌, nat_le, not, slice_get, is_some}
-use Rattle.hp_word.specs.declared.arithmetic.Code.{Code}
-use Rattle.hp_word.specs.declared.arithmetic.Code.TheVariants.{Equal}
-use Rattle.hp_word.specs.declared.endings.Ending.{Ending}
-use Rattle.hp_word.specs.declared.endings.Ending.TheVariants as ending
-use Rattle.hp_word.specs.declared.endings.Trap.TheVariants.{Bounds, OutputLimit}
-use Rattle.hp_word.specs.declared.intrinsics.Intrinsic.{Intrinsic}
-use Rattle.hp_word.specs.Words.{signed, logically_compared}
-use Rattle.hp_word.specs.Bytes.{with_byte}
-use Rattle.hp_word.specs.Intrinsics as gate
-use Rattle.spl_tree.specs.declared.expressions.Kind.{Kind}
-use Rattle.spl_tree.specs.declared.expressions.Kind.TheVariants as kind
+use Rattle.spl_meaning.specs.hp_word.declared.arithmetic.Code.{Code}
+use Rattle.spl_meaning.specs.hp_word.declared.arithmetic.Code.TheVariants.{Equal}
+use Rattle.spl_meaning.specs.hp_word.declared.endings.Ending.{Ending}
+use Rattle.spl_meaning.specs.hp_word.declared.endings.Ending.TheVariants as ending
+use Rattle.spl_meaning.specs.hp_word.declared.endings.Trap.TheVariants.{Bounds, OutputLimit}
+use Rattle.spl_meaning.specs.hp_word.declared.intrinsics.Intrinsic.{Intrinsic}
+use Rattle.spl_meaning.specs.hp_word.Words.{signed, logically_compared}
+use Rattle.spl_meaning.specs.hp_word.Bytes.{with_byte}
+use Rattle.spl_meaning.specs.hp_word.Intrinsics as gate
+use Rattle.spl_meaning.specs.spl_tree.declared.expressions.Kind.{Kind}
+use Rattle.spl_meaning.specs.spl_tree.declared.expressions.Kind.TheVariants as kind
 use Rattle.spl_meaning.specs.Places.{put_byte, word_or_zero}
 use Rattle.spl_meaning.specs.States.{Data, State, terminated, quit, trapped, Outcome, ends, strays, stepping, printed_size}
 use Rattle.spl_meaning.specs.References.{Located}

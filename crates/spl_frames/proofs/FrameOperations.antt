@@ -1,20 +1,20 @@
 -- What operators make of words is known.
 use Rattle.std.proofs.Common.{ℕ, zero, suc, ◌≡◌, ◌<◌, ◌≤◌, ◌+◌, ◌-◌, ◌*◌, ◌/◌, ◌%◌, ◌==◌, Bool, true, false, List, [], ◌∷◌, Option, Some, None, refl, subst, arith}
 use Rattle.std.specs.Prelude.{int_div, int_rem, if◌then◌else◌, nat_lt}
-use Rattle.hp_word.specs.declared.arithmetic.Arith.{Arith}
-use Rattle.hp_word.specs.declared.arithmetic.Wide.{Wide}
-use Rattle.hp_word.specs.declared.arithmetic.Quotient.{Quotient}
-use Rattle.hp_word.specs.declared.arithmetic.Code.{Code}
-use Rattle.hp_word.specs.declared.endings.Trap.TheVariants.{IntegerOverflow, DivideByZero}
-use Rattle.hp_word.specs.Words.{signed, word_of, is_out_of_word, word_result, double_result, added, subtracted, multiplied, negated, divided, logically_added, logically_subtracted, logically_multiplied, logically_divided, double_added, double_subtracted, double_negated, words_compared, logically_compared, doubles_compared}
-use Rattle.hp_word.specs.Bits.{bit, shifted, field}
-use Rattle.hp_word.specs.Bytes.{double, high_word, low_word}
-use Rattle.hp_word.proofs.WordLaws.{word_of-below, double_of-below}
+use Rattle.spl_meaning.specs.hp_word.declared.arithmetic.Arith.{Arith}
+use Rattle.spl_meaning.specs.hp_word.declared.arithmetic.Wide.{Wide}
+use Rattle.spl_meaning.specs.hp_word.declared.arithmetic.Quotient.{Quotient}
+use Rattle.spl_meaning.specs.hp_word.declared.arithmetic.Code.{Code}
+use Rattle.spl_meaning.specs.hp_word.declared.endings.Trap.TheVariants.{IntegerOverflow, DivideByZero}
+use Rattle.spl_meaning.specs.hp_word.Words.{signed, word_of, is_out_of_word, word_result, double_result, added, subtracted, multiplied, negated, divided, logically_added, logically_subtracted, logically_multiplied, logically_divided, double_added, double_subtracted, double_negated, words_compared, logically_compared, doubles_compared}
+use Rattle.spl_meaning.specs.hp_word.Bits.{bit, shifted, field}
+use Rattle.spl_meaning.specs.hp_word.Bytes.{double, high_word, low_word}
+use Rattle.spl_meaning.proofs.hp_word_proofs.WordLaws.{word_of-below, double_of-below}
 use Rattle.std.proofs.Math.Nat.{mod-le}
-use Rattle.hp_word.proofs.BitLemmas.{bit-small, number_of-below}
-use Rattle.hp_word.proofs.ShiftLemmas.{shifted-below}
-use Rattle.spl_tree.specs.declared.expressions.Kind.{Kind}
-use Rattle.spl_tree.specs.declared.expressions.Kind.TheVariants as kind
+use Rattle.spl_meaning.proofs.hp_word_proofs.BitLemmas.{bit-small, number_of-below}
+use Rattle.spl_meaning.proofs.hp_word_proofs.ShiftLemmas.{shifted-below}
+use Rattle.spl_meaning.specs.spl_tree.declared.expressions.Kind.{Kind}
+use Rattle.spl_meaning.specs.spl_tree.declared.expressions.Kind.TheVariants as kind
 use Rattle.spl_meaning.specs.Names.{truth_word}
 use Rattle.spl_meaning.specs.Kinds.{Operand, of, const, unknown, Class, integers, logicals, doubles, mixed, class_of, is_relation, relation_number, works_on_bits, plus, minus, times, modulo, positive, negative, lor_operator, xor_operator}
 use Rattle.spl_meaning.specs.States.{trapped, done}

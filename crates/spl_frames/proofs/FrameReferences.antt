@@ -3,12 +3,12 @@ use Rattle.std.proofs.Common.{ℕ, zero, suc, ◌≡◌, ◌+◌, ◌/◌, ◌%�
 use Rattle.std.specs.Prelude.{◌&&◌, if◌then◌else◌, nat_lt, nat_eq, is_some, slice_index, slice_set}
 use Rattle.std.proofs.lemmas.Bool.{eqb-true}
 use Rattle.std.proofs.lemmas.List.{length-set}
-use Rattle.hp_word.specs.declared.endings.Trap.TheVariants.{Bounds}
-use Rattle.hp_word.specs.Bits.{with_field}
-use Rattle.hp_word.specs.Bytes.{byte_at, with_byte}
-use Rattle.hp_word.proofs.FieldLemmas.{with_field-below}
-use Rattle.spl_tree.specs.declared.expressions.Kind.{Kind}
-use Rattle.spl_tree.specs.declared.expressions.Kind.TheVariants as kind
+use Rattle.spl_meaning.specs.hp_word.declared.endings.Trap.TheVariants.{Bounds}
+use Rattle.spl_meaning.specs.hp_word.Bits.{with_field}
+use Rattle.spl_meaning.specs.hp_word.Bytes.{byte_at, with_byte}
+use Rattle.spl_meaning.proofs.hp_word_proofs.FieldLemmas.{with_field-below}
+use Rattle.spl_meaning.specs.spl_tree.declared.expressions.Kind.{Kind}
+use Rattle.spl_meaning.specs.spl_tree.declared.expressions.Kind.TheVariants as kind
 use Rattle.spl_meaning.specs.Places.{Place, put, changed, stored}
 use Rattle.spl_meaning.specs.States.{Data, State, trapped, Outcome, done, ends, then_go}
 use Rattle.spl_meaning.specs.References.{Here, Located, address_of, data_word_read, word_at, placed_word, variable_located, element_located, word_read, read_by, read, word_stored, store_by, store, store_field, index_or_zero, own_located, led_located, passed_located, result_located, Access, its_own, by_address, by_cell, its_result, nowhere, access_of, target_access, locate_by, locate, locate_target}

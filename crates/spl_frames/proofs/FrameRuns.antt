@@ -2,12 +2,12 @@
 use Rattle.std.proofs.Common.{ℕ, zero, suc, ◌≡◌, ◌+◌, ◌*◌, ◌/◌, ◌%◌, ◌<◌, ◌≤◌, Bool, true, false, List, [], ◌∷◌, ◌++◌, length, Option, Some, None, refl, sym, ap, subst, ◌∙◌, arith}
 use Rattle.std.specs.Prelude.{ℤ, if◌then◌else◌, nat_lt, nat_eq, is_some, replicate}
 use Rattle.std.proofs.lemmas.Bool.{lt-ltb, ltb-true, eqb-true}
-use Rattle.hp_word.specs.declared.endings.Trap.TheVariants.{StackOverflow, Bounds}
-use Rattle.hp_word.specs.Words.{word_of, double_of}
-use Rattle.hp_word.specs.Bytes.{high_word, low_word, with_byte}
-use Rattle.hp_word.proofs.WordLaws.{word_of-below, double_of-below}
-use Rattle.spl_tree.specs.declared.expressions.Kind.{Kind}
-use Rattle.spl_tree.specs.declared.expressions.Kind.TheVariants as kind
+use Rattle.spl_meaning.specs.hp_word.declared.endings.Trap.TheVariants.{StackOverflow, Bounds}
+use Rattle.spl_meaning.specs.hp_word.Words.{word_of, double_of}
+use Rattle.spl_meaning.specs.hp_word.Bytes.{high_word, low_word, with_byte}
+use Rattle.spl_meaning.proofs.hp_word_proofs.WordLaws.{word_of-below, double_of-below}
+use Rattle.spl_meaning.specs.spl_tree.declared.expressions.Kind.{Kind}
+use Rattle.spl_meaning.specs.spl_tree.declared.expressions.Kind.TheVariants as kind
 use Rattle.spl_meaning.specs.Names.{Profile}
 use Rattle.spl_meaning.specs.Kinds.{width}
 use Rattle.spl_meaning.specs.Tables.{Subroutine, subroutine_named}

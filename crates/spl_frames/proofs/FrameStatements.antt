@@ -2,12 +2,12 @@
 use Rattle.std.proofs.Common.{ℕ, zero, suc, ◌+◌, Bool, true, false, List, Option, Some, None, arith}
 use Rattle.std.specs.Prelude.{if◌then◌else◌}
 use Rattle.std.specs.Prelude.{◌&&◌}
-use Rattle.hp_word.specs.declared.arithmetic.Code.{Code}
-use Rattle.spl_tree.specs.declared.names_and_places.At.{At}
-use Rattle.spl_tree.specs.Trees as tree
-use Rattle.spl_tree.specs.Trees.{Tree, Trees}
-use Rattle.spl_tree.specs.StatementTrees as stat
-use Rattle.spl_tree.specs.StatementTrees.{Statement, Statements, Target, Source, Effect, Test}
+use Rattle.spl_meaning.specs.hp_word.declared.arithmetic.Code.{Code}
+use Rattle.spl_meaning.specs.spl_tree.declared.names_and_places.At.{At}
+use Rattle.spl_meaning.specs.spl_tree.Trees as tree
+use Rattle.spl_meaning.specs.spl_tree.Trees.{Tree, Trees}
+use Rattle.spl_meaning.specs.spl_tree.StatementTrees as stat
+use Rattle.spl_meaning.specs.spl_tree.StatementTrees.{Statement, Statements, Target, Source, Effect, Test}
 use Rattle.spl_meaning.specs.Names.{same_name, intrinsic_profile}
 use Rattle.spl_meaning.specs.Pending.{behind_index, behind_first, behind_second, result_words}
 use Rattle.spl_meaning.specs.Stops.{stops}

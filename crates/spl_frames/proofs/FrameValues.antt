@@ -1,10 +1,10 @@
 -- Values are steady, where calls are.
 use Rattle.std.proofs.Common.{ℕ, ◌+◌, ◌%◌, ◌==◌, List, [], ◌∷◌, ◌++◌, Option, Some, None, arith}
 use Rattle.std.specs.Prelude.{ℤ}
-use Rattle.hp_word.specs.Words.{word_of}
-use Rattle.hp_word.proofs.WordLaws.{word_of-below}
-use Rattle.spl_tree.specs.Trees as tree
-use Rattle.spl_tree.specs.Trees.{Tree, Trees}
+use Rattle.spl_meaning.specs.hp_word.Words.{word_of}
+use Rattle.spl_meaning.proofs.hp_word_proofs.WordLaws.{word_of-below}
+use Rattle.spl_meaning.specs.spl_tree.Trees as tree
+use Rattle.spl_meaning.specs.spl_tree.Trees.{Tree, Trees}
 use Rattle.spl_meaning.specs.Names.{Formal, Profile, text_value, truth_word, intrinsic_profile}
 use Rattle.spl_meaning.specs.Kinds.{kind_of, operand_width, is_connective, compares_text, relation_number, or_operator}
 use Rattle.spl_meaning.specs.Pending.{by_value, result_words, formal_words}

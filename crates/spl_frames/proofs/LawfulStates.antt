@@ -1,7 +1,7 @@
 -- A lawful state stays lawful.
 use Rattle.std.proofs.Common.{ℕ, ◌≡◌, ◌<◌, Bool, true, false, List, ◌∷◌, refl, sym, subst, ◌∙◌}
 use Rattle.std.specs.Prelude.{is_some}
-use Rattle.spl_tree.specs.StatementTrees.{Statements}
+use Rattle.spl_meaning.specs.spl_tree.StatementTrees.{Statements}
 use Rattle.spl_meaning.specs.Bodies.{Body, Named}
 use Rattle.spl_meaning.specs.Statements.{run_body}
 use Rattle.spl_meaning.specs.Runs.{calls}

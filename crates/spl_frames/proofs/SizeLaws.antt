@@ -3,24 +3,24 @@ use Rattle.std.proofs.Common.{ℕ, zero, suc, ◌≡◌, ◌+◌, ◌-◌, ◌/�
 use Rattle.std.specs.Prelude.{if◌then◌else◌, ◌&&◌, not, nat_lt, nat_le, slice_get, slice_index}
 use Rattle.std.proofs.lemmas.List.{length-append}
 use Rattle.std.proofs.lemmas.Bool.{lt-ltb, ltb-true, ltb-false, le-leb}
-use Rattle.hp_word.specs.Words.{added, subtracted, multiplied, divided, negated, logically_added, logically_subtracted, logically_multiplied, logically_divided, double_added, double_subtracted, double_negated, words_compared, logically_compared, doubles_compared}
-use Rattle.hp_word.specs.Bytes.{byte_at, double}
-use Rattle.hp_word.specs.declared.arithmetic.Arith.{Arith}
-use Rattle.hp_word.specs.declared.arithmetic.Wide.{Wide}
-use Rattle.hp_word.specs.declared.arithmetic.Quotient.{Quotient}
-use Rattle.hp_word.specs.declared.arithmetic.Code.{Code}
-use Rattle.hp_word.specs.declared.endings.Ending.{Ending}
-use Rattle.hp_word.specs.declared.endings.Ending.TheVariants as ending
-use Rattle.hp_word.specs.declared.endings.Trap.TheVariants.{StackOverflow, Bounds, OutputLimit}
-use Rattle.hp_word.specs.declared.intrinsics.Intrinsic.{Intrinsic}
-use Rattle.hp_word.specs.declared.intrinsics.Intrinsic.TheVariants as which
-use Rattle.hp_word.specs.declared.numbers.Number.{Number}
-use Rattle.hp_word.specs.declared.numbers.Number.TheVariants.{Value, TooLarge, BadForm}
-use Rattle.hp_word.specs.Intrinsics as gate
-use Rattle.spl_tree.specs.declared.expressions.Kind.{Kind}
-use Rattle.spl_tree.specs.declared.expressions.Kind.TheVariants as kind
-use Rattle.spl_tree.specs.Trees as tree
-use Rattle.spl_tree.specs.Trees.{Tree, Trees}
+use Rattle.spl_meaning.specs.hp_word.Words.{added, subtracted, multiplied, divided, negated, logically_added, logically_subtracted, logically_multiplied, logically_divided, double_added, double_subtracted, double_negated, words_compared, logically_compared, doubles_compared}
+use Rattle.spl_meaning.specs.hp_word.Bytes.{byte_at, double}
+use Rattle.spl_meaning.specs.hp_word.declared.arithmetic.Arith.{Arith}
+use Rattle.spl_meaning.specs.hp_word.declared.arithmetic.Wide.{Wide}
+use Rattle.spl_meaning.specs.hp_word.declared.arithmetic.Quotient.{Quotient}
+use Rattle.spl_meaning.specs.hp_word.declared.arithmetic.Code.{Code}
+use Rattle.spl_meaning.specs.hp_word.declared.endings.Ending.{Ending}
+use Rattle.spl_meaning.specs.hp_word.declared.endings.Ending.TheVariants as ending
+use Rattle.spl_meaning.specs.hp_word.declared.endings.Trap.TheVariants.{StackOverflow, Bounds, OutputLimit}
+use Rattle.spl_meaning.specs.hp_word.declared.intrinsics.Intrinsic.{Intrinsic}
+use Rattle.spl_meaning.specs.hp_word.declared.intrinsics.Intrinsic.TheVariants as which
+use Rattle.spl_meaning.specs.hp_word.declared.numbers.Number.{Number}
+use Rattle.spl_meaning.specs.hp_word.declared.numbers.Number.TheVariants.{Value, TooLarge, BadForm}
+use Rattle.spl_meaning.specs.hp_word.Intrinsics as gate
+use Rattle.spl_meaning.specs.spl_tree.declared.expressions.Kind.{Kind}
+use Rattle.spl_meaning.specs.spl_tree.declared.expressions.Kind.TheVariants as kind
+use Rattle.spl_meaning.specs.spl_tree.Trees as tree
+use Rattle.spl_meaning.specs.spl_tree.Trees.{Tree, Trees}
 use Rattle.spl_meaning.specs.Names as n
 use Rattle.spl_meaning.specs.Names.{Sort, Formal, Profile, profile_of, intrinsic_profile, text_value, truth_word}
 use Rattle.spl_meaning.specs.Kinds.{Operand, of, const, unknown, Class, integers, logicals, doubles, mixed, class_of, class_operand, width, result_width, operand_width, result_of, named_operand, kind_of, is_connective, is_relation, relation_number, compares_text, is_byte, is_long_text, reference_kind, binary_operand, unary_operand, minus_operand, positive, negative, plus, minus, times, modulo, or_operator}

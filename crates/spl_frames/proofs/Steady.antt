@@ -1,11 +1,11 @@
 -- Parts of a run that leave the live frame as it is, and keep what is known of words.
 use Rattle.std.proofs.Common.{ℕ, zero, suc, ◌≡◌, ◌≤◌, ◌<◌, ◌/◌, ◌%◌, Bool, true, false, List, [], ◌∷◌, ◌++◌, Option, Some, refl, sym, subst, ◌∙◌, arith}
 use Rattle.std.specs.Prelude.{if◌then◌else◌, slice_get}
-use Rattle.hp_word.specs.Bytes.{with_byte}
-use Rattle.hp_word.specs.Intrinsics as gate
-use Rattle.hp_word.specs.declared.arithmetic.Code.{Code}
-use Rattle.hp_word.specs.declared.intrinsics.Intrinsic.{Intrinsic}
-use Rattle.spl_tree.specs.declared.names_and_places.At.{At}
+use Rattle.spl_meaning.specs.hp_word.Bytes.{with_byte}
+use Rattle.spl_meaning.specs.hp_word.Intrinsics as gate
+use Rattle.spl_meaning.specs.hp_word.declared.arithmetic.Code.{Code}
+use Rattle.spl_meaning.specs.hp_word.declared.intrinsics.Intrinsic.{Intrinsic}
+use Rattle.spl_meaning.specs.spl_tree.declared.names_and_places.At.{At}
 use Rattle.spl_meaning.specs.Serving.{byte_of}
 use Rattle.spl_meaning.specs.States.{Data, State, End, Outcome, done, leaves, spent, ends, strays, then_go, step_of, stepping, without_code, noted, beginning, stopping, code_dropped}
 use Rattle.spl_frames.specs.Frames as frame

@@ -2,10 +2,10 @@
 use Rattle.std.proofs.Common.{ℕ, ◌≡◌, ◌≤◌, ◌+◌, Bool, true, false, List, [], ◌∷◌, ◌++◌, refl, subst, arith}
 use Rattle.std.specs.Prelude.{max}
 use Rattle.std.proofs.Math.Nat.{le-max_left, le-max_right}
-use Rattle.spl_tree.specs.Trees as tree
-use Rattle.spl_tree.specs.Trees.{Tree, Trees}
-use Rattle.spl_tree.specs.StatementTrees as stat
-use Rattle.spl_tree.specs.StatementTrees.{Statement, Statements, Target, Source, Effect, Test}
+use Rattle.spl_meaning.specs.spl_tree.Trees as tree
+use Rattle.spl_meaning.specs.spl_tree.Trees.{Tree, Trees}
+use Rattle.spl_meaning.specs.spl_tree.StatementTrees as stat
+use Rattle.spl_meaning.specs.spl_tree.StatementTrees.{Statement, Statements, Target, Source, Effect, Test}
 use Rattle.spl_meaning.specs.Names.{Names, Formal}
 use Rattle.spl_meaning.specs.Kinds.{callable}
 use Rattle.spl_meaning.specs.Pending.{first_formal, other_formals, argument_words, profile_formals, profile_result_words, link_words, formals_words, left_words, most, most_of, behind_index, waiting, index_most, target_most, behind_first, behind_second, effect_most, test_most, trees_most, statement_most, statements_most}

@@ -6,17 +6,17 @@ use Rattle.std.proofs.lemmas.Bool.Decides.{nat_tests}
 use Rattle.std.proofs.lemmas.Bool.{ltb-false}
 use Rattle.std.proofs.lemmas.Fmt.{IsAscii-signed}
 use Rattle.std.specs.Fmt.{signed_decimal}
-use Rattle.hp_word.specs.declared.intrinsics.Intrinsic.{Intrinsic}
-use Rattle.hp_word.specs.declared.intrinsics.Intrinsic.TheVariants as which
-use Rattle.hp_word.specs.declared.numbers.Number.{Number}
-use Rattle.hp_word.specs.declared.numbers.Number.TheVariants.{Value, TooLarge, BadForm}
-use Rattle.hp_word.specs.Words.{signed, signed_double, word_of, double_of}
-use Rattle.hp_word.specs.Bytes.{double, high_word, low_word}
-use Rattle.hp_word.specs.Texts.{decimal_text_of, octal_text_of, is_digits, digits_value, with_sign, decimal_number, octal_number, decimal_digits, octal_digits, number}
-use Rattle.hp_word.specs.Intrinsics as gate
-use Rattle.hp_word.proofs.WordLaws.{word_of-below, double_of-below}
-use Rattle.hp_word.proofs.ByteLaws.{with_byte-below}
-use Rattle.hp_word.proofs.TextLemmas.{length-decimal-short, length-octal_text_of}
+use Rattle.spl_meaning.specs.hp_word.declared.intrinsics.Intrinsic.{Intrinsic}
+use Rattle.spl_meaning.specs.hp_word.declared.intrinsics.Intrinsic.TheVariants as which
+use Rattle.spl_meaning.specs.hp_word.declared.numbers.Number.{Number}
+use Rattle.spl_meaning.specs.hp_word.declared.numbers.Number.TheVariants.{Value, TooLarge, BadForm}
+use Rattle.spl_meaning.specs.hp_word.Words.{signed, signed_double, word_of, double_of}
+use Rattle.spl_meaning.specs.hp_word.Bytes.{double, high_word, low_word}
+use Rattle.spl_meaning.specs.hp_word.Texts.{decimal_text_of, octal_text_of, is_digits, digits_value, with_sign, decimal_number, octal_number, decimal_digits, octal_digits, number}
+use Rattle.spl_meaning.specs.hp_word.Intrinsics as gate
+use Rattle.spl_meaning.proofs.hp_word_proofs.WordLaws.{word_of-below, double_of-below}
+use Rattle.spl_meaning.proofs.hp_word_proofs.ByteLaws.{with_byte-below}
+use Rattle.spl_meaning.proofs.hp_word_proofs.TextLemmas.{length-decimal-short, length-octal_text_of}
 use Rattle.spl_meaning.specs.Serving.{byte_of}
 use Rattle.spl_meaning.specs.Runs.{AreBytes, LinesAreBytes}
 use Rattle.spl_frames.specs.Words.{AllOf, AreWords}

@@ -1,7 +1,7 @@
 -- Every value and data word of a run is a word.
 use Rattle.std.proofs.Common.{ℕ, zero, suc, ◌≡◌, ◌<◌, Bool, true, false, ◌+◌, List, Option, Some, None, arith}
 use Rattle.std.specs.Prelude.{if◌then◌else◌, nat_lt}
-use Rattle.hp_word.specs.declared.endings.Trap.TheVariants.{StackOverflow}
+use Rattle.spl_meaning.specs.hp_word.declared.endings.Trap.TheVariants.{StackOverflow}
 use Rattle.spl_meaning.specs.Places.{put_cells}
 use Rattle.spl_meaning.specs.Bodies.{Body, Named, Program, program_of}
 use Rattle.spl_meaning.specs.Statements.{run, run_all, run_body}

@@ -9,7 +9,7 @@ use Rattle.spl_meaning.specs.Values.{Who, procedure, subroutine, Callee, a_call,
 use Rattle.spl_meaning.specs.References.{Here}
 use Rattle.spl_meaning.specs.Runs.{calls}
 use Rattle.spl_meaning.specs.States.{State, Outcome, done, leaves, spent, ends, strays}
-use Rattle.spl_tree.specs.Trees.{Tree, Trees}
+use Rattle.spl_meaning.specs.spl_tree.Trees.{Tree, Trees}
 
 -- so many words as an operand has; of one that is not known nothing is said
 abbrev pub HasWordsOf : Operand → List ℕ → Type 0

@@ -1,7 +1,7 @@
 -- What waits: the depth of a body covers its calls and the uses of names in it.
 use Rattle.std.specs.Prelude.{ℕ, ◌≡◌, ◌≤◌, ◌+◌, List, [], ◌∷◌}
-use Rattle.spl_tree.specs.Trees.{Tree}
-use Rattle.spl_tree.specs.StatementTrees.{Statement, Statements}
+use Rattle.spl_meaning.specs.spl_tree.Trees.{Tree}
+use Rattle.spl_meaning.specs.spl_tree.StatementTrees.{Statement, Statements}
 use Rattle.spl_meaning.specs.Names.{Names, Profile}
 use Rattle.spl_meaning.specs.Pending.{formals_words, result_words, link_words, most, statement_most, statements_most}
 use Rattle.spl_meaning.specs.Limits.{Use, uses, statement_uses, statements_uses}

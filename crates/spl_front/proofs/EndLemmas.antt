@@ -10,9 +10,9 @@ use Rattle.spl_tree.specs.declared.tokens.What.TheVariants as what
 use Rattle.spl_tree.specs.declared.tokens.Lexed.{Lexed}
 use Rattle.spl_tree.specs.Symbols.{Lexeme, lexeme_of, is_word, symbol_among, reserved_words, mark_symbols, symbol_of, letters_of}
 use Rattle.spl_cuts.specs.Signs.{Sign, word, number, wide, chars, mark, stop, Placed}
-use Rattle.spl_grammar.specs.Ends as ends
-use Rattle.spl_grammar.specs.Ends.{is_stop, Ended}
-use Rattle.spl_pieces.specs.SignViews.{sign_of}
+use Rattle.spl_parser.specs.spl_grammar.Ends as ends
+use Rattle.spl_parser.specs.spl_grammar.Ends.{is_stop, Ended}
+use Rattle.spl_lexer.specs.spl_pieces.SignViews.{sign_of}
 use Rattle.spl_cuts.specs.Whole.{is_end, Ends, last, before}
 use Rattle.spl_lexer.specs.TokenViews.{placed_of, listed_of}
 use Rattle.spl_parser.specs.Answers.{tokens_of}

@@ -18,11 +18,11 @@ use Rattle.spl_cuts.specs.declared.faults.LexKind.TheVariants as lex
 use Rattle.spl_cuts.specs.declared.faults.LexFault.{LexFault}
 use Rattle.spl_cuts.specs.Signs.{Listed}
 use Rattle.spl_cuts.specs.Cutting.{CutsWithin, FirstFault}
-use Rattle.spl_reading.specs.Readers.{Outcome, Got, Bad, Deep}
-use Rattle.spl_grammar.specs.Answers.{end_of}
-use Rattle.spl_grammar.specs.Verdicts.{Verdict, spelled, refused, too_deep}
-use Rattle.spl_tokens.specs.declared.faults.ParseFault.{ParseFault}
-use Rattle.spl_tokens.specs.declared.faults.ParseFault.TheVariants as parse
+use Rattle.spl_parser.specs.spl_reading.Readers.{Outcome, Got, Bad, Deep}
+use Rattle.spl_parser.specs.spl_grammar.Answers.{end_of}
+use Rattle.spl_parser.specs.spl_grammar.Verdicts.{Verdict, spelled, refused, too_deep}
+use Rattle.spl_parser.specs.spl_tokens.declared.faults.ParseFault.{ParseFault}
+use Rattle.spl_parser.specs.spl_tokens.declared.faults.ParseFault.TheVariants as parse
 use Rattle.spl_lexer.specs.TokenViews.{listed_of}
 use Rattle.spl_lexer.specs.ReaderViews as reader
 use Rattle.spl_parser.specs.Answers as pa

@@ -12,10 +12,10 @@ use Rattle.spl_cuts.specs.declared.faults.LexKind.{LexKind}
 use Rattle.spl_cuts.specs.declared.faults.LexFault.{LexFault}
 use Rattle.spl_cuts.specs.Signs.{Listed}
 use Rattle.spl_cuts.specs.Cutting.{CutsWithin, FirstFault}
-use Rattle.spl_reading.specs.Readers.{Got, Bad, Deep}
-use Rattle.spl_grammar.specs.Verdicts.{Verdict}
-use Rattle.spl_tokens.specs.declared.faults.ParseFault.{ParseFault}
-use Rattle.spl_tokens.specs.declared.faults.ParseFault.TheVariants as parse
+use Rattle.spl_parser.specs.spl_reading.Readers.{Got, Bad, Deep}
+use Rattle.spl_parser.specs.spl_grammar.Verdicts.{Verdict}
+use Rattle.spl_parser.specs.spl_tokens.declared.faults.ParseFault.{ParseFault}
+use Rattle.spl_parser.specs.spl_tokens.declared.faults.ParseFault.TheVariants as parse
 use Rattle.spl_parser.specs.Answers.{tokens_of}
 use Rattle.spl_tree.specs.declared.fault_kinds.FaultKind.{FaultKind}
 use Rattle.spl_tree.specs.declared.fault_kinds.FaultKind.TheVariants as kind

@@ -1,14 +1,14 @@
 -- Loops over items: the cells that are set from one on.
 use Rattle.std.proofs.Common.{◌≡◌, ◌<◌, ◌≤◌, ℕ, ◌+◌, List, ◌++◌, map, drop, length, get_or, false, refl, ◌∙◌}
 use Rattle.std.proofs.lemmas.Grind.{flat_map-append}
-use Rattle.spl_lists.proofs.NameWalks.{onward, onward_end}
-use Rattle.spl_places.specs.declared.data.Datum.{Datum}
-use Rattle.spl_places.specs.ListedData.{datum_of}
+use Rattle.spl_initials.proofs.spl_lists_proofs.NameWalks.{onward, onward_end}
+use Rattle.spl_initials.specs.spl_places.declared.data.Datum.{Datum}
+use Rattle.spl_initials.specs.spl_places.ListedData.{datum_of}
 use Rattle.spl_initials.specs.Cells.{Found, item_cell, cells_by}
 use Rattle.spl_branch.specs.declared.buffer.Code.{Code}
-use Rattle.spl_code.specs.Parts.{pieces}
-use Rattle.spl_code.specs.Appends.{Appends}
-use Rattle.spl_code.proofs.AppendLaws.{none_appends}
+use Rattle.spl_body_code.specs.spl_code.Parts.{pieces}
+use Rattle.spl_body_code.specs.spl_code.Appends.{Appends}
+use Rattle.spl_body_code.proofs.spl_code_proofs.AppendLaws.{none_appends}
 use Rattle.spl_operations.proofs.PutLemmas.{pieces_then}
 use Rattle.spl_body_code.specs.Cells.{cell_set, cells_set}
 

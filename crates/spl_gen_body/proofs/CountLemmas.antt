@@ -6,8 +6,8 @@ use Rattle.hp_instr.specs.Fields.{is_control}
 use Rattle.hp_instr.specs.Given.{has_word}
 use Rattle.spl_branch.specs.declared.buffer.Code.{Code}
 use Rattle.spl_branch.specs.declared.pieces.Piece.{Piece}
-use Rattle.spl_code.specs.Parts.{pieces, piece}
-use Rattle.spl_code.specs.Appends.{Appends}
+use Rattle.spl_body_code.specs.spl_code.Parts.{pieces, piece}
+use Rattle.spl_body_code.specs.spl_code.Appends.{Appends}
 use Rattle.spl_operations.specs.Views.{is_instruction}
 use Rattle.spl_operations.proofs.PutLemmas.{pieces_then}
 use Rattle.spl_gen_body.specs.Counts.{is_count}

@@ -5,14 +5,14 @@
 use Rattle.std.proofs.Common.{◌≡◌, ℕ, ◌+◌, Bool, false, List, map, sym, ap, ◌∙◌}
 use Rattle.spl_tree.specs.DeclarationTrees.{Heading, Declarations, declarations}
 use Rattle.spl_tree.specs.Spells.{heading_tree, declaration}
-use Rattle.spl_meaning.specs.Names.{Names, Table, find, parameters, formals_of}
-use Rattle.spl_meaning.specs.Tables.{Routine, outer_names, routine_table}
-use Rattle.spl_meaning.specs.Places.{Place, above_base, Cell, Initial, item_words, Starts}
-use Rattle.spl_meaning.specs.Bodies.{routine_starts, procedure_body}
-use Rattle.spl_places.specs.ListedData.{Datum, datum_of}
-use Rattle.spl_places.specs.Counters.{total_words}
-use Rattle.spl_places.specs.Programs.{NewInRoutine, routine_items}
-use Rattle.spl_places.proofs.ProgramLaws.{routine_held, item_words_held}
+use Rattle.spl_sorts.specs.spl_meaning.Names.{Names, Table, find, parameters, formals_of}
+use Rattle.spl_sorts.specs.spl_meaning.Tables.{Routine, outer_names, routine_table}
+use Rattle.spl_sorts.specs.spl_meaning.Places.{Place, above_base, Cell, Initial, item_words, Starts}
+use Rattle.spl_sorts.specs.spl_meaning.Bodies.{routine_starts, procedure_body}
+use Rattle.spl_initials.specs.spl_places.ListedData.{Datum, datum_of}
+use Rattle.spl_initials.specs.spl_places.Counters.{total_words}
+use Rattle.spl_initials.specs.spl_places.Programs.{NewInRoutine, routine_items}
+use Rattle.spl_initials.proofs.spl_places_proofs.ProgramLaws.{routine_held, item_words_held}
 use Rattle.spl_initials.specs.Cells.{Found, found_in, cells_by, initials_by}
 use Rattle.spl_initials.specs.Lists.{found_of}
 use Rattle.spl_initials.proofs.LaidLaws.{laid_cells, laid_initials}

@@ -10,8 +10,8 @@ use Rattle.spl_tree.specs.declared.declarations.Decl.TheFolds.{fold-roll-Decl}
 use Rattle.spl_tree.specs.DeclarationTrees as tree
 use Rattle.spl_tree.specs.Views.{constant}
 use Rattle.spl_tree.specs.Spells.{BodyTree, item_tree, declaration, declaration_step, body_step}
-use Rattle.spl_meaning.specs.Names.{Names, constant_or_zero}
-use Rattle.spl_meaning.specs.Places.{Place}
+use Rattle.spl_sorts.specs.spl_meaning.Names.{Names, constant_or_zero}
+use Rattle.spl_sorts.specs.spl_meaning.Places.{Place}
 use Rattle.spl_body_code.specs.Cells.{first_set}
 
 -- of constants there is one, which is stored

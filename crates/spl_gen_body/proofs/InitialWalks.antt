@@ -7,16 +7,16 @@ use Rattle.spl_tree.specs.declared.declarations.Decl.{Decl}
 use Rattle.spl_tree.specs.DeclarationTrees.{declarations}
 use Rattle.spl_tree.specs.Views.{letters}
 use Rattle.spl_tree.specs.Spells.{item_tree, shape_tree, declaration}
-use Rattle.spl_meaning.specs.Names.{Names}
-use Rattle.spl_meaning.specs.Tables.{shaped}
-use Rattle.spl_found.specs.OwnNames.{over, with_name, behind_declaration}
-use Rattle.spl_lists.proofs.NameWalks.{onward, onward_end}
-use Rattle.spl_places.proofs.DataWalks.{behind_step, behind_end, declarations_step, declarations_end}
+use Rattle.spl_sorts.specs.spl_meaning.Names.{Names}
+use Rattle.spl_sorts.specs.spl_meaning.Tables.{shaped}
+use Rattle.spl_gen_expr.specs.spl_found.OwnNames.{over, with_name, behind_declaration}
+use Rattle.spl_initials.proofs.spl_lists_proofs.NameWalks.{onward, onward_end}
+use Rattle.spl_initials.proofs.spl_places_proofs.DataWalks.{behind_step, behind_end, declarations_step, declarations_end}
 use Rattle.spl_initials.specs.Cells.{Found, item_initial, initials_of_items, initials_of_declaration, initials_by}
 use Rattle.spl_branch.specs.declared.buffer.Code.{Code}
-use Rattle.spl_code.specs.Parts.{pieces}
-use Rattle.spl_code.specs.Appends.{Appends}
-use Rattle.spl_code.proofs.AppendLaws.{none_appends}
+use Rattle.spl_body_code.specs.spl_code.Parts.{pieces}
+use Rattle.spl_body_code.specs.spl_code.Appends.{Appends}
+use Rattle.spl_body_code.proofs.spl_code_proofs.AppendLaws.{none_appends}
 use Rattle.spl_operations.proofs.PutLemmas.{pieces_then}
 use Rattle.spl_body_code.specs.Cells.{initial_set, initials_set}
 

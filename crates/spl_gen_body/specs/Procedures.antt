@@ -2,9 +2,9 @@
 use Rattle.std.specs.Prelude.{false, map}
 use Rattle.spl_tree.specs.DeclarationTrees.{declarations}
 use Rattle.spl_tree.specs.Spells.{heading_tree, declaration}
-use Rattle.spl_meaning.specs.Names.{find, parameters, formals_of}
+use Rattle.spl_sorts.specs.spl_meaning.Names.{find, parameters, formals_of}
 use Rattle.spl_sorts.specs.Tables.{table_of}
-use Rattle.spl_places.specs.ListedData.{datum_of}
+use Rattle.spl_initials.specs.spl_places.ListedData.{datum_of}
 use Rattle.spl_initials.specs.Cells.{found_in, cells_by, initials_by}
 use Rattle.spl_body_code.specs.Bodies.{Frame}
 use Rattle.spl_gen_body.specs.declared.bodies.Procedure.{Procedure}

@@ -2,17 +2,17 @@
 use Rattle.std.specs.Prelude.{◌≡◌, ℕ, ◌+◌, false, map}
 use Rattle.spl_tree.specs.DeclarationTrees.{declarations}
 use Rattle.spl_tree.specs.Spells.{heading_tree, declaration}
-use Rattle.spl_meaning.specs.Names.{Table, find}
-use Rattle.spl_meaning.specs.Tables.{Routine, outer_names}
-use Rattle.spl_meaning.specs.Places.{Place, above_base, item_words, places_from, arrays_from}
-use Rattle.spl_meaning.specs.Bodies.{procedure_body}
+use Rattle.spl_sorts.specs.spl_meaning.Names.{Table, find}
+use Rattle.spl_sorts.specs.spl_meaning.Tables.{Routine, outer_names}
+use Rattle.spl_sorts.specs.spl_meaning.Places.{Place, above_base, item_words, places_from, arrays_from}
+use Rattle.spl_sorts.specs.spl_meaning.Bodies.{procedure_body}
 use Rattle.spl_sorts.specs.Tables.{table_of}
-use Rattle.spl_places.specs.ListedData.{datum_of}
-use Rattle.spl_places.specs.Counters.{total_words}
-use Rattle.spl_places.specs.NameMaps.{entries_of, shown}
-use Rattle.spl_places.specs.Spots.{spot_of, array_of}
-use Rattle.spl_places.specs.Held.{named}
-use Rattle.spl_places.specs.Programs.{NewInRoutine, routine_items}
+use Rattle.spl_initials.specs.spl_places.ListedData.{datum_of}
+use Rattle.spl_initials.specs.spl_places.Counters.{total_words}
+use Rattle.spl_initials.specs.spl_places.NameMaps.{entries_of, shown}
+use Rattle.spl_initials.specs.spl_places.Spots.{spot_of, array_of}
+use Rattle.spl_initials.specs.spl_places.Held.{named}
+use Rattle.spl_initials.specs.spl_places.Programs.{NewInRoutine, routine_items}
 use Rattle.spl_rooms.specs.Rooms.{routine_room}
 use Rattle.spl_body_code.specs.Bodies.{frame_of}
 use Rattle.spl_gen_body.specs.declared.bodies.Procedure.{Procedure}

@@ -2,8 +2,8 @@
 ghost use Rattle.std.specs.Prelude.{◌≡◌, replicate, OnOk, true};
 ghost use Rattle.hp_instr.specs.declared.instruction.Instr.TheVariants as i;
 ghost use Rattle.spl_branch.specs.declared.pieces.Piece.TheVariants as p;
-ghost use Rattle.spl_code.specs.Parts.{piece, pieces};
-ghost use Rattle.spl_code.specs.Appends.{Appends};
+ghost use Rattle.spl_body_code.specs.spl_code.Parts.{piece, pieces};
+ghost use Rattle.spl_body_code.specs.spl_code.Appends.{Appends};
 ghost use Rattle.spl_body_code.specs.Frames as frames;
 ghost use Rattle.spl_gen_body.specs.Counts.{is_count};
 

@@ -5,23 +5,25 @@ ghost use Rattle.spl_tree.specs.DeclarationTrees as decl;
 ghost use Rattle.spl_tree.specs.Spells as view;
 ghost use Rattle.spl_tree.specs.Spells.{item_tree};
 ghost use Rattle.spl_tree.specs.Views as trees;
-ghost use Rattle.spl_meaning.specs.Names as n;
-ghost use Rattle.spl_meaning.specs.Names.{find};
-ghost use Rattle.spl_meaning.specs.Places as places;
-ghost use Rattle.spl_found.specs.OwnNames.{behind_items, behind_declaration, behind_declarations};
+ghost use Rattle.spl_sorts.specs.spl_meaning.Names as n;
+ghost use Rattle.spl_sorts.specs.spl_meaning.Names.{find};
+ghost use Rattle.spl_sorts.specs.spl_meaning.Places as places;
+ghost use Rattle.spl_gen_expr.specs.spl_found.OwnNames.{behind_items, behind_declaration, behind_declarations};
 ghost use Rattle.spl_sorts.specs.Tables.{table_of, names_of};
-ghost use Rattle.spl_places.specs.Spots.{spot_of, array_of};
+ghost use Rattle.spl_initials.specs.spl_places.Spots.{spot_of, array_of};
 ghost use Rattle.spl_initials.specs.Cells.{found_in, item_initial, initials_of_items, initials_of_declaration, initials_by};
-ghost use Rattle.spl_code.specs.Parts.{pieces};
-ghost use Rattle.spl_code.specs.Appends.{Appends};
+ghost use Rattle.spl_body_code.specs.spl_code.Parts.{pieces};
+ghost use Rattle.spl_body_code.specs.spl_code.Appends.{Appends};
 ghost use Rattle.spl_body_code.specs.Cells as cells;
 
 use crate::cells::{store, word_of};
 use spl_branch::Code;
+use spl_initials::spl_lists::{Data, declare, seen};
+use spl_initials::spl_places::{
+    Array, ListPlaces, Place, constant_or_zero, declare_all, shaped_here,
+};
 use spl_initials::{array_named, place_named};
-use spl_lists::{Data, declare, seen};
 use spl_operations::{push_double, push_word};
-use spl_places::{Array, ListPlaces, Place, constant_or_zero, declare_all, shaped_here};
 use spl_sorts::{Names, Table};
 use spl_tree::{Const, Decl, Item, Kind};
 use std::alloc::{AllocError, Global};

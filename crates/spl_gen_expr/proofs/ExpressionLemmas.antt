@@ -10,21 +10,21 @@ use Rattle.spl_tree.specs.declared.expressions.Kind.{Kind}
 use Rattle.spl_tree.specs.Views as view
 use Rattle.spl_tree.specs.Trees as tree
 use Rattle.spl_tree.specs.Trees.{Tree, Trees, Constant, trees, and, none}
-use Rattle.spl_meaning.specs.Names as n
-use Rattle.spl_meaning.specs.Names.{Sort, Formal, Profile}
-use Rattle.spl_meaning.specs.Kinds.{Operand, Class, kind_of, operand_width, class_of, relation_number, callable}
-use Rattle.spl_meaning.specs.Pending.{formal_words, first_formal, other_formals, result_words}
-use Rattle.spl_meaning.specs.Values.{sense_of, text_bytes, small_constant}
+use Rattle.spl_sorts.specs.spl_meaning.Names as n
+use Rattle.spl_sorts.specs.spl_meaning.Names.{Sort, Formal, Profile}
+use Rattle.spl_sorts.specs.spl_meaning.Kinds.{Operand, Class, kind_of, operand_width, class_of, relation_number, callable}
+use Rattle.spl_sorts.specs.spl_meaning.Pending.{formal_words, first_formal, other_formals, result_words}
+use Rattle.spl_sorts.specs.spl_meaning.Values.{sense_of, text_bytes, small_constant}
 use Rattle.spl_branch.specs.declared.buffer.Code.{Code}
 use Rattle.spl_branch.specs.declared.pieces.Piece.TheVariants.{Mark}
-use Rattle.spl_code.specs.Parts.{Part, pieces, piece, nothing, ◌⨟◌}
-use Rattle.spl_code.specs.Instructions.{BR, CMPB}
-use Rattle.spl_code.specs.Constants.{number_constant}
-use Rattle.spl_code.specs.Operators.{operator, comparison, shift_operator, field_operator, transfer}
-use Rattle.spl_code.specs.Calls.{Scope, result_taken}
-use Rattle.spl_code.specs.Code.{Aim, as_test, as_value, either_of, code, reference, argument, arguments, named, calling, related, text_compared}
-use Rattle.spl_code.specs.Appends.{Appends}
-use Rattle.spl_code.proofs.AppendLaws.{then_appends, none_appends}
+use Rattle.spl_operations.specs.spl_code.Parts.{Part, pieces, piece, nothing, ◌⨟◌}
+use Rattle.spl_operations.specs.spl_code.Instructions.{BR, CMPB}
+use Rattle.spl_operations.specs.spl_code.Constants.{number_constant}
+use Rattle.spl_operations.specs.spl_code.Operators.{operator, comparison, shift_operator, field_operator, transfer}
+use Rattle.spl_operations.specs.spl_code.Calls.{Scope, result_taken}
+use Rattle.spl_operations.specs.spl_code.Code.{Aim, as_test, as_value, either_of, code, reference, argument, arguments, named, calling, related, text_compared}
+use Rattle.spl_operations.specs.spl_code.Appends.{Appends}
+use Rattle.spl_operations.proofs.spl_code_proofs.AppendLaws.{then_appends, none_appends}
 use Rattle.spl_gen_expr.specs.Marks.{Within, Sets}
 use Rattle.spl_gen_expr.specs.Phrases.{equated, called_by, element_part, named_part, call_part, both_values, value_part, relation_part, text_part, both_part, either_part, bytes_part}
 use Rattle.spl_gen_expr.proofs.MarkLemmas.{within_start, within_then, within_first, within_second, within_closed}

@@ -3,12 +3,12 @@ use Rattle.std.proofs.Common.{◌≡◌, ℕ, ◌==◌, ◌||◌, ◌&&◌, ◌<
 use Rattle.std.proofs.lemmas.Bool.{false≢true, true≢false, ltb-true, lt-ltb, and_parts}
 use Rattle.spl_tree.specs.Trees as tree
 use Rattle.spl_tree.specs.Trees.{Tree}
-use Rattle.spl_meaning.specs.Names.{Names}
-use Rattle.spl_meaning.specs.Kinds.{Operand, of, kind_of, gives_logical, is_connective, is_relation, or_operator}
+use Rattle.spl_sorts.specs.spl_meaning.Names.{Names}
+use Rattle.spl_sorts.specs.spl_meaning.Kinds.{Operand, of, kind_of, gives_logical, is_connective, is_relation, or_operator}
 use Rattle.spl_tree.specs.declared.expressions.Kind.TheVariants as kind
-use Rattle.spl_code.specs.Parts.{Part, ◌⨟◌}
-use Rattle.spl_code.specs.Calls.{Scope}
-use Rattle.spl_code.specs.Code.{Aim, code, condition, closing}
+use Rattle.spl_operations.specs.spl_code.Parts.{Part, ◌⨟◌}
+use Rattle.spl_operations.specs.spl_code.Calls.{Scope}
+use Rattle.spl_operations.specs.spl_code.Code.{Aim, code, condition, closing}
 use Rattle.spl_gen_expr.specs.Phrases.{is_condition, value_part, test_part}
 
 -- a condition that is chosen among tests, by the answers of four questions

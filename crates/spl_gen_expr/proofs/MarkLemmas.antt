@@ -7,11 +7,11 @@ use Rattle.spl_branch.specs.declared.buffer.Code.{Code}
 use Rattle.spl_branch.specs.declared.pieces.Piece.TheVariants.{Mark}
 use Rattle.spl_branch.specs.Pieces.{is_settable}
 use Rattle.spl_branch.specs.Codes.{SameFrame}
-use Rattle.spl_code.specs.Parts.{Part, Written, wants_of, piece, nothing, ◌⨟◌, with_fresh}
-use Rattle.spl_code.specs.Appends.{Appends, behind}
-use Rattle.spl_code.proofs.AppendLaws.{same_then, same_none, still_made}
-use Rattle.spl_code.specs.Instructions.{LDNI, BR, ZERO}
-use Rattle.spl_code.specs.Code.{Aim, as_value, as_test, condition}
+use Rattle.spl_operations.specs.spl_code.Parts.{Part, Written, wants_of, piece, nothing, ◌⨟◌, with_fresh}
+use Rattle.spl_operations.specs.spl_code.Appends.{Appends, behind}
+use Rattle.spl_operations.proofs.spl_code_proofs.AppendLaws.{same_then, same_none, still_made}
+use Rattle.spl_operations.specs.spl_code.Instructions.{LDNI, BR, ZERO}
+use Rattle.spl_operations.specs.spl_code.Code.{Aim, as_value, as_test, condition}
 use Rattle.spl_gen_expr.specs.declared.marks.Opening.{Opening}
 use Rattle.spl_gen_expr.specs.declared.marks.Aim as code
 use Rattle.spl_gen_expr.specs.declared.marks.Aim.TheVariants as aim

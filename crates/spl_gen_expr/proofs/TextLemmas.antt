@@ -1,13 +1,13 @@
 -- Strings in the code.
 use Rattle.std.proofs.Common.{◌≡◌, ◌<◌, ℕ, suc, ◌∷◌, [], List, true, false, map, length, refl, subst, arith}
-use Rattle.spl_meaning.specs.Elements.{as_words}
+use Rattle.spl_sorts.specs.spl_meaning.Elements.{as_words}
 use Rattle.spl_branch.specs.declared.buffer.Code.{Code}
 use Rattle.spl_branch.specs.declared.pieces.Piece.TheVariants.{Literal, Place, Mark}
-use Rattle.spl_code.specs.Parts.{Part, pieces, piece, nothing, ◌⨟◌}
-use Rattle.spl_code.specs.Instructions.{BR, LOAD_BEFORE}
-use Rattle.spl_code.specs.Constants.{text_offset}
-use Rattle.spl_code.specs.Appends.{Appends}
-use Rattle.spl_code.proofs.AppendLaws.{none_appends}
+use Rattle.spl_operations.specs.spl_code.Parts.{Part, pieces, piece, nothing, ◌⨟◌}
+use Rattle.spl_operations.specs.spl_code.Instructions.{BR, LOAD_BEFORE}
+use Rattle.spl_operations.specs.spl_code.Constants.{text_offset}
+use Rattle.spl_operations.specs.spl_code.Appends.{Appends}
+use Rattle.spl_operations.proofs.spl_code_proofs.AppendLaws.{none_appends}
 use Rattle.spl_gen_expr.specs.Marks.{Within, Sets}
 use Rattle.spl_gen_expr.proofs.MarkLemmas.{within_start, within_then, within_first, within_second, within_closed}
 

@@ -9,9 +9,9 @@ use Rattle.spl_branch.specs.declared.buffer.Code.{Code}
 use Rattle.spl_branch.specs.declared.pieces.Piece.TheVariants.{Call}
 use Rattle.spl_branch.specs.declared.modules.Want.{Want}
 use Rattle.spl_branch.specs.Codes.{SameFrame, same_want, want_place, with_want}
-use Rattle.spl_code.specs.Parts.{wants_of, wanted_of, is_wanted, wanted_place, with_wanted, call_wanted}
-use Rattle.spl_code.specs.Appends.{Appends}
-use Rattle.spl_code.proofs.AppendLaws.{same_then}
+use Rattle.spl_operations.specs.spl_code.Parts.{wants_of, wanted_of, is_wanted, wanted_place, with_wanted, call_wanted}
+use Rattle.spl_operations.specs.spl_code.Appends.{Appends}
+use Rattle.spl_operations.proofs.spl_code_proofs.AppendLaws.{same_then}
 
 same_prefix : (x : List ℕ) (gate : Bool) (ws : List Want)
     → prefix_len (λ w. not (same_want x gate w)) ws ≡ prefix_len (λ w. not (is_wanted x gate w)) (wants_of ws)

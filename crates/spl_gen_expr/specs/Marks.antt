@@ -3,9 +3,9 @@ use Rattle.std.specs.Prelude.{◌≡◌, ◌<◌, ℕ, suc, ◌++◌, ◌∷◌,
 use Rattle.spl_branch.specs.declared.buffer.Code.{Code}
 use Rattle.spl_branch.specs.declared.pieces.Piece.TheVariants.{Mark}
 use Rattle.spl_branch.specs.Codes.{SameFrame}
-use Rattle.spl_code.specs.Parts.{Part, Written, wants_of, nothing, piece, ◌⨟◌}
-use Rattle.spl_code.specs.Instructions.{LDNI, BR, ZERO}
-use Rattle.spl_code.specs.Code.{Aim, as_value, as_test}
+use Rattle.spl_operations.specs.spl_code.Parts.{Part, Written, wants_of, nothing, piece, ◌⨟◌}
+use Rattle.spl_operations.specs.spl_code.Instructions.{LDNI, BR, ZERO}
+use Rattle.spl_operations.specs.spl_code.Code.{Aim, as_value, as_test}
 use Rattle.spl_gen_expr.specs.declared.marks.Opening.{Opening}
 use Rattle.spl_gen_expr.specs.declared.marks.Aim as code
 use Rattle.spl_gen_expr.specs.declared.marks.Aim.TheVariants as aim

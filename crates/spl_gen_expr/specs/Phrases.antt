@@ -2,19 +2,19 @@
 use Rattle.std.specs.Prelude.{ℕ, ◌+◌, ◌%◌, ◌==◌, ◌||◌, Bool, true, false, if◌then◌else◌, ℤ, List, Option, Some, None}
 use Rattle.spl_tree.specs.Trees as tree
 use Rattle.spl_tree.specs.Trees.{Tree, Trees}
-use Rattle.spl_meaning.specs.Names as n
-use Rattle.spl_meaning.specs.Names.{Sort, Formal, Profile, text_value, truth_word}
-use Rattle.spl_meaning.specs.Kinds.{kind_of, operand_width, class_of, is_connective, is_relation, compares_text, relation_number, or_operator}
-use Rattle.spl_meaning.specs.Pending.{result_words}
-use Rattle.spl_meaning.specs.References.{access_of}
-use Rattle.spl_meaning.specs.Values.{procedure, subroutine, sense_of, text_bytes, small_constant}
-use Rattle.spl_code.specs.Parts.{Part, pieces, piece, nothing, ◌⨟◌, call_wanted}
-use Rattle.spl_code.specs.Instructions.{CMPB}
-use Rattle.spl_code.specs.Constants.{constant, double_constant, text_constant}
-use Rattle.spl_code.specs.Operators.{operator, comparison, sign_operator, shift_operator, field_operator, transfer}
-use Rattle.spl_code.specs.Operands.{index_to_x, leads_to_doubles}
-use Rattle.spl_code.specs.Calls.{Scope, result_room, called}
-use Rattle.spl_code.specs.Code.{as_value, as_test, code, reference, index, arguments, argument, named, variable, addressed, is_indexed, either_of, related, text_compared}
+use Rattle.spl_sorts.specs.spl_meaning.Names as n
+use Rattle.spl_sorts.specs.spl_meaning.Names.{Sort, Formal, Profile, text_value, truth_word}
+use Rattle.spl_sorts.specs.spl_meaning.Kinds.{kind_of, operand_width, class_of, is_connective, is_relation, compares_text, relation_number, or_operator}
+use Rattle.spl_sorts.specs.spl_meaning.Pending.{result_words}
+use Rattle.spl_sorts.specs.spl_meaning.References.{access_of}
+use Rattle.spl_sorts.specs.spl_meaning.Values.{procedure, subroutine, sense_of, text_bytes, small_constant}
+use Rattle.spl_operations.specs.spl_code.Parts.{Part, pieces, piece, nothing, ◌⨟◌, call_wanted}
+use Rattle.spl_operations.specs.spl_code.Instructions.{CMPB}
+use Rattle.spl_operations.specs.spl_code.Constants.{constant, double_constant, text_constant}
+use Rattle.spl_operations.specs.spl_code.Operators.{operator, comparison, sign_operator, shift_operator, field_operator, transfer}
+use Rattle.spl_operations.specs.spl_code.Operands.{index_to_x, leads_to_doubles}
+use Rattle.spl_operations.specs.spl_code.Calls.{Scope, result_room, called}
+use Rattle.spl_operations.specs.spl_code.Code.{as_value, as_test, code, reference, index, arguments, argument, named, variable, addressed, is_indexed, either_of, related, text_compared}
 
 -- AND, OR, and relations
 abbrev pub is_condition : Tree → Bool

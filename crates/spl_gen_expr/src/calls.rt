@@ -3,9 +3,9 @@ ghost use Rattle.std.specs.Prelude.{◌≡◌, true, false, OnOk};
 ghost use Rattle.spl_tree.specs.Views.{letters};
 ghost use Rattle.hp_instr.specs.declared.instruction.Instr.TheVariants as i;
 ghost use Rattle.spl_branch.specs.declared.pieces.Piece.TheVariants as p;
-ghost use Rattle.spl_code.specs.Parts.{piece, pieces, call_wanted};
-ghost use Rattle.spl_code.specs.Calls as calls;
-ghost use Rattle.spl_code.specs.Appends.{Appends};
+ghost use Rattle.spl_operations.specs.spl_code.Parts.{piece, pieces, call_wanted};
+ghost use Rattle.spl_operations.specs.spl_code.Calls as calls;
+ghost use Rattle.spl_operations.specs.spl_code.Appends.{Appends};
 ghost use Rattle.spl_operations.specs.Views.{is_call_code};
 
 use hp_instr::{Instr, Op, control, shift};

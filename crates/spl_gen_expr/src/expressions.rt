@@ -6,18 +6,18 @@ ghost use Rattle.std.specs.Prelude.{◌≡◌, ◌<◌, true, length, map, optio
 ghost use Rattle.spl_tree.specs.Views as view;
 ghost use Rattle.spl_tree.specs.Views.{letters};
 ghost use Rattle.spl_tree.specs.Trees.{trees};
-ghost use Rattle.spl_meaning.specs.Kinds as kinds;
-ghost use Rattle.spl_meaning.specs.References.{access_of};
-ghost use Rattle.spl_meaning.specs.Values.{sense_of};
+ghost use Rattle.spl_sorts.specs.spl_meaning.Kinds as kinds;
+ghost use Rattle.spl_sorts.specs.spl_meaning.References.{access_of};
+ghost use Rattle.spl_sorts.specs.spl_meaning.Values.{sense_of};
 ghost use Rattle.spl_tree.specs.declared.expressions.Kind.TheVariants as kind;
 ghost use Rattle.spl_sorts.specs.Sorts.{operand_of, sort_of};
 ghost use Rattle.spl_sorts.specs.Profiles.{formal_of, profile_of};
 ghost use Rattle.spl_sorts.specs.Tables.{names_of};
-ghost use Rattle.spl_code.specs.Parts.{pieces, ◌⨟◌};
-ghost use Rattle.spl_code.specs.Calls.{result_room};
-ghost use Rattle.spl_code.specs.Operands.{leads_to_doubles};
-ghost use Rattle.spl_code.specs.Code as written;
-ghost use Rattle.spl_code.specs.Appends.{Appends};
+ghost use Rattle.spl_operations.specs.spl_code.Parts.{pieces, ◌⨟◌};
+ghost use Rattle.spl_operations.specs.spl_code.Calls.{result_room};
+ghost use Rattle.spl_operations.specs.spl_code.Operands.{leads_to_doubles};
+ghost use Rattle.spl_operations.specs.spl_code.Code as written;
+ghost use Rattle.spl_operations.specs.spl_code.Appends.{Appends};
 ghost use Rattle.spl_gen_expr.specs.Scopes.{scope_of};
 ghost use Rattle.spl_operations.specs.Views.{access_view};
 ghost use Rattle.spl_gen_expr.specs.Marks.{aim_view, Known};
@@ -32,7 +32,7 @@ use crate::words::{
     small_constant, text_bytes,
 };
 use spl_branch::Code;
-use spl_depths::plus;
+use spl_operations::spl_depths::plus;
 use spl_operations::{
     Access, Class, address_at, compare, convert, extract, index_to_x, load_at, mode_of,
     operate_on_one, operate_on_two, pass, push_double, push_number, push_text, push_word,

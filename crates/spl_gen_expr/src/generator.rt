@@ -1,11 +1,11 @@
 //! Expressions and conditions by themselves.
 ghost use Rattle.std.specs.Prelude.{◌≡◌, ◌<◌, ◌≤◌, ◌+◌, length, IfOk};
 ghost use Rattle.spl_tree.specs.Views as view;
-ghost use Rattle.spl_meaning.specs.Bound.{weight};
+ghost use Rattle.spl_sorts.specs.spl_meaning.Bound.{weight};
 ghost use Rattle.spl_branch.specs.Pieces.{count_of};
-ghost use Rattle.spl_code.specs.Code as written;
-ghost use Rattle.spl_code.specs.FewWords.{spare};
-ghost use Rattle.spl_code.specs.Appends.{Appends};
+ghost use Rattle.spl_operations.specs.spl_code.Code as written;
+ghost use Rattle.spl_operations.specs.spl_code.FewWords.{spare};
+ghost use Rattle.spl_operations.specs.spl_code.Appends.{Appends};
 ghost use Rattle.spl_gen_expr.specs.Scopes.{scope_of};
 
 use crate::expressions::write;

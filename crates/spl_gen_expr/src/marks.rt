@@ -2,11 +2,11 @@
 ghost use Rattle.std.specs.Prelude.{◌≡◌, ◌<◌, suc, true, false, length, OnOk, IfOk};
 ghost use Rattle.spl_branch.specs.Pieces.{is_settable};
 ghost use Rattle.spl_branch.specs.declared.pieces.Piece.TheVariants as p;
-ghost use Rattle.spl_code.specs.Instructions as i;
-ghost use Rattle.spl_code.specs.Operators.{failing_codes};
-ghost use Rattle.spl_code.specs.Parts.{piece, nothing};
-ghost use Rattle.spl_code.specs.Code.{closing, related};
-ghost use Rattle.spl_code.specs.Appends.{Appends};
+ghost use Rattle.spl_operations.specs.spl_code.Instructions as i;
+ghost use Rattle.spl_operations.specs.spl_code.Operators.{failing_codes};
+ghost use Rattle.spl_operations.specs.spl_code.Parts.{piece, nothing};
+ghost use Rattle.spl_operations.specs.spl_code.Code.{closing, related};
+ghost use Rattle.spl_operations.specs.spl_code.Appends.{Appends};
 ghost use Rattle.spl_gen_expr.specs.Marks.{aim_view, Known, Within, Sets, Opened, Pending, Ended};
 
 use hp_instr::{Instr, Op, immediate, short};

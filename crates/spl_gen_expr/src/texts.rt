@@ -1,12 +1,12 @@
 //! Strings in the code.
 ghost use Rattle.std.specs.Prelude.{◌≡◌, ◌<◌, if◌then◌else◌, map, length, OnOk};
-ghost use Rattle.spl_meaning.specs.Elements.{as_words};
+ghost use Rattle.spl_sorts.specs.spl_meaning.Elements.{as_words};
 ghost use Rattle.spl_branch.specs.declared.pieces.Piece.TheVariants as p;
-ghost use Rattle.spl_code.specs.Parts.{piece, pieces};
-ghost use Rattle.spl_code.specs.Instructions as i;
-ghost use Rattle.spl_code.specs.Constants.{text_offset};
-ghost use Rattle.spl_code.specs.Code.{text_compared};
-ghost use Rattle.spl_code.specs.Appends.{Appends};
+ghost use Rattle.spl_operations.specs.spl_code.Parts.{piece, pieces};
+ghost use Rattle.spl_operations.specs.spl_code.Instructions as i;
+ghost use Rattle.spl_operations.specs.spl_code.Constants.{text_offset};
+ghost use Rattle.spl_operations.specs.spl_code.Code.{text_compared};
+ghost use Rattle.spl_operations.specs.spl_code.Appends.{Appends};
 
 use crate::marks::{lead, set_mark, two_marks};
 use hp_instr::{Instr, control, shift};

@@ -1,9 +1,9 @@
 //! The words of values, parameters and results, and small constants.
 ghost use Rattle.std.specs.Prelude.{◌≡◌, map, option_map};
 ghost use Rattle.spl_tree.specs.Views as view;
-ghost use Rattle.spl_meaning.specs.Kinds as kinds;
-ghost use Rattle.spl_meaning.specs.Pending as pending;
-ghost use Rattle.spl_meaning.specs.Values as values;
+ghost use Rattle.spl_sorts.specs.spl_meaning.Kinds as kinds;
+ghost use Rattle.spl_sorts.specs.spl_meaning.Pending as pending;
+ghost use Rattle.spl_sorts.specs.spl_meaning.Values as values;
 ghost use Rattle.spl_sorts.specs.Profiles.{formal_of, profile_of};
 ghost use Rattle.spl_sorts.specs.Sorts.{operand_of};
 ghost use Rattle.spl_sorts.specs.Tables.{names_of};

@@ -4,14 +4,14 @@ use Rattle.std.specs.Prelude.{not, ◌&&◌}
 use Rattle.std.proofs.lemmas.List.{append-nil}
 use Rattle.spl_tree.specs.DeclarationTrees as decl
 use Rattle.spl_tree.specs.DeclarationTrees.{Declaration, Declarations, declarations}
-use Rattle.spl_meaning.specs.Tables.{Source}
-use Rattle.spl_scopes.specs.Entries.{Entry, Owner, main, routine, inner_entry, inner_entries, declared_entries, routines_behind, entries_among, in_segment, module_entries}
-use Rattle.spl_modules.specs.Entered.{Walk}
-use Rattle.spl_modules.specs.Made.{made_from}
-use Rattle.spl_modules.specs.UnitModules.{IsUnitModules}
-use Rattle.spl_gen_routines.specs.Routines.{inner_count, inners_among}
-use Rattle.spl_unit_codes.specs.declared.growing.Growing.{Growing}
-use Rattle.spl_unit_codes.specs.Begun.{AreBegun}
+use Rattle.spl_sound.specs.spl_meaning.Tables.{Source}
+use Rattle.spl_unit_laws.specs.spl_scopes.Entries.{Entry, Owner, main, routine, inner_entry, inner_entries, declared_entries, routines_behind, entries_among, in_segment, module_entries}
+use Rattle.spl_unit_laws.specs.spl_modules.Entered.{Walk}
+use Rattle.spl_unit_laws.specs.spl_modules.Made.{made_from}
+use Rattle.spl_unit_laws.specs.spl_modules.UnitModules.{IsUnitModules}
+use Rattle.spl_unit_laws.specs.spl_gen_routines.Routines.{inner_count, inners_among}
+use Rattle.spl_unit_laws.specs.spl_unit_codes.declared.growing.Growing.{Growing}
+use Rattle.spl_unit_laws.specs.spl_unit_codes.Begun.{AreBegun}
 use Rattle.spl_unit_laws.specs.Steps.{entry_count, entries_count, main_count, AreFree}
 
 -- ---- how many entries there are in a segment

@@ -1,13 +1,13 @@
 -- A program's modules, where its units stand from its first areas on.
 use Rattle.std.proofs.Common.{◌≡◌, ℕ, List, refl, sym, ap, subst}
-use Rattle.spl_meaning.specs.Tables.{Source}
-use Rattle.spl_meaning.specs.Sound.{IsSound}
-use Rattle.spl_rooms.specs.declared.room_type.Room.{Room}
-use Rattle.spl_rooms.specs.Rooms.{rooms_of}
-use Rattle.spl_globals.specs.Stored.{first_areas}
-use Rattle.spl_globals.specs.declared.areas.Areas.{Areas}
+use Rattle.spl_sound.specs.spl_meaning.Tables.{Source}
+use Rattle.spl_sound.specs.spl_meaning.Sound.{IsSound}
+use Rattle.spl_layout.specs.spl_rooms.declared.room_type.Room.{Room}
+use Rattle.spl_layout.specs.spl_rooms.Rooms.{rooms_of}
+use Rattle.spl_layout.specs.spl_globals.Stored.{first_areas}
+use Rattle.spl_layout.specs.spl_globals.declared.areas.Areas.{Areas}
 use Rattle.spl_branch.specs.declared.modules.Module.{Module}
-use Rattle.spl_module_code.specs.Modules.{program_uses, AreModules}
+use Rattle.spl_unit_laws.specs.spl_module_code.Modules.{program_uses, AreModules}
 use Rattle.spl_unit_laws.specs.declared.cursors.Start.{Start}
 use Rattle.spl_unit_laws.specs.Units.{UnitsStand}
 use Rattle.spl_unit_laws.specs.Laws.{first_start}

@@ -9,21 +9,21 @@ use Rattle.spl_tree.specs.Spells.{declaration}
 use Rattle.spl_tree.specs.DeclarationTrees as decl
 use Rattle.spl_tree.specs.DeclarationTrees.{Heading, Declaration, Declarations, declarations}
 use Rattle.spl_tree.specs.StatementTrees.{Statement, statements}
-use Rattle.spl_meaning.specs.Names.{Names, formals_of}
-use Rattle.spl_rooms.specs.declared.room_type.Room.{Room}
+use Rattle.spl_sound.specs.spl_meaning.Names.{Names, formals_of}
+use Rattle.spl_layout.specs.spl_rooms.declared.room_type.Room.{Room}
 use Rattle.spl_branch.specs.declared.buffer.Code.{Code}
-use Rattle.spl_code.specs.Parts.{Part, ◌⨟◌}
-use Rattle.spl_code.specs.Appends.{behind}
-use Rattle.spl_lists.proofs.NameWalks.{onward, onward_end}
-use Rattle.spl_body_scopes.specs.Levels.{Level}
-use Rattle.spl_gen_routines.specs.Generates.{AreOpen, Generates, GeneratesFrom}
-use Rattle.spl_gen_routines.specs.Scoped.{procedure_with}
-use Rattle.spl_landings.specs.Bodies.{statements_part}
-use Rattle.spl_meaning.specs.Pending.{formals_words}
-use Rattle.spl_gen_routines.specs.Routines.{Around, inners_among, RoutineStands}
-use Rattle.spl_gen_routines.proofs.OpenMarks.{one_generated, over_generated}
-use Rattle.spl_gen_routines.proofs.InnerWalks.{SomePart, list_part}
-use Rattle.spl_unit_codes.specs.declared.growing.Growing.{Growing}
+use Rattle.spl_unit_laws.specs.spl_code.Parts.{Part, ◌⨟◌}
+use Rattle.spl_unit_laws.specs.spl_code.Appends.{behind}
+use Rattle.spl_unit_laws.proofs.spl_lists_proofs.NameWalks.{onward, onward_end}
+use Rattle.spl_unit_laws.specs.spl_body_scopes.Levels.{Level}
+use Rattle.spl_unit_laws.specs.spl_gen_routines.Generates.{AreOpen, Generates, GeneratesFrom}
+use Rattle.spl_unit_laws.specs.spl_gen_routines.Scoped.{procedure_with}
+use Rattle.spl_unit_laws.specs.spl_landings.Bodies.{statements_part}
+use Rattle.spl_sound.specs.spl_meaning.Pending.{formals_words}
+use Rattle.spl_unit_laws.specs.spl_gen_routines.Routines.{Around, inners_among, RoutineStands}
+use Rattle.spl_unit_laws.proofs.spl_gen_routines_proofs.OpenMarks.{one_generated, over_generated}
+use Rattle.spl_unit_laws.proofs.spl_gen_routines_proofs.InnerWalks.{SomePart, list_part}
+use Rattle.spl_unit_laws.specs.spl_unit_codes.declared.growing.Growing.{Growing}
 use Rattle.spl_unit_laws.specs.declared.cursors.Cursor.{Cursor}
 use Rattle.spl_unit_laws.specs.Known.{Fixed, Known}
 use Rattle.spl_unit_laws.specs.Steps.{Grows, RoutineGrows, InnerGrows, PartsStep, Step, Steps, entry_count, entries_count, IsOpen, IsFree, main_count, AreFree, OnceInUnit, OnceInAll, level_behind}

@@ -4,10 +4,10 @@ use Rattle.spl_tree.specs.declared.declarations.Decl.{Decl}
 use Rattle.spl_tree.specs.DeclarationTrees as decl
 use Rattle.spl_tree.specs.DeclarationTrees.{Declaration, Declarations, declarations}
 use Rattle.spl_tree.specs.Spells.{declaration}
-use Rattle.spl_meaning.specs.Names.{Names, nothing_declared}
-use Rattle.spl_found.specs.OwnNames.{behind_declaration, behind_declarations}
-use Rattle.spl_lists.proofs.NameWalks.{onward, onward_end}
-use Rattle.spl_body_scopes.specs.Levels.{Level, Spots, unit_level}
+use Rattle.spl_sound.specs.spl_meaning.Names.{Names, nothing_declared}
+use Rattle.spl_unit_laws.specs.spl_found.OwnNames.{behind_declaration, behind_declarations}
+use Rattle.spl_unit_laws.proofs.spl_lists_proofs.NameWalks.{onward, onward_end}
+use Rattle.spl_unit_laws.specs.spl_body_scopes.Levels.{Level, Spots, unit_level}
 use Rattle.spl_unit_laws.specs.Steps.{level_behind}
 use Rattle.spl_gen_proc.specs.Views.{levels_behind}
 

@@ -8,3 +8,5 @@ pub mod MainSteps
 pub mod UnitParts
 pub mod Begins
 pub mod Compiled
+-- Passed on from the crates below.
+pub use Rattle.spl_unit_laws.proofs.spl_places_proofs

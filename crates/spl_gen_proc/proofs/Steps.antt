@@ -4,24 +4,24 @@ use Rattle.spl_tree.specs.declared.declarations.Decl.{Decl}
 use Rattle.spl_tree.specs.DeclarationTrees.{Heading, Declarations, declarations}
 use Rattle.spl_tree.specs.StatementTrees.{Statement}
 use Rattle.spl_tree.specs.Spells.{declaration}
-use Rattle.spl_meaning.specs.Names.{Names}
-use Rattle.spl_meaning.specs.Places.{item_words, array_words}
-use Rattle.spl_places.specs.Counters.{total_words}
-use Rattle.spl_areas.specs.Gathered.{items_under}
-use Rattle.spl_scopes.specs.Scopes.{Results}
-use Rattle.spl_modules.specs.Entered.{Indexes}
-use Rattle.spl_body_scopes.specs.Levels.{Level, routine_level}
-use Rattle.spl_body_scopes.specs.Results.{routine_result}
-use Rattle.spl_gen_routines.specs.Routines.{Around, inners_among, room_at, InnerStands, RoutineStands, MainBodyStands}
-use Rattle.spl_unit_codes.specs.declared.growing.Growing.{Growing}
+use Rattle.spl_sound.specs.spl_meaning.Names.{Names}
+use Rattle.spl_sound.specs.spl_meaning.Places.{item_words, array_words}
+use Rattle.spl_unit_laws.specs.spl_places.Counters.{total_words}
+use Rattle.spl_layout.specs.spl_areas.Gathered.{items_under}
+use Rattle.spl_unit_laws.specs.spl_scopes.Scopes.{Results}
+use Rattle.spl_unit_laws.specs.spl_modules.Entered.{Indexes}
+use Rattle.spl_unit_laws.specs.spl_body_scopes.Levels.{Level, routine_level}
+use Rattle.spl_unit_laws.specs.spl_body_scopes.Results.{routine_result}
+use Rattle.spl_unit_laws.specs.spl_gen_routines.Routines.{Around, inners_among, room_at, InnerStands, RoutineStands, MainBodyStands}
+use Rattle.spl_unit_laws.specs.spl_unit_codes.declared.growing.Growing.{Growing}
 use Rattle.spl_unit_laws.specs.declared.cursors.Cursor.{Cursor}
 use Rattle.spl_unit_laws.specs.Known.{Fixed}
 use Rattle.spl_unit_laws.specs.Steps.{RoutineGrows, InnerGrows, cursor_behind, routine_around}
 use Rattle.spl_unit_laws.specs.Units.{MainGrows, MainStep}
-use Rattle.spl_rooms.specs.declared.room_type.Room.{Room}
+use Rattle.spl_layout.specs.spl_rooms.declared.room_type.Room.{Room}
 use Rattle.spl_tree.specs.declared.statements.Stmt.{Stmt}
 use Rattle.spl_tree.specs.Views.{statement}
-use Rattle.spl_body_scopes.specs.Results.{result_of}
+use Rattle.spl_unit_laws.specs.spl_body_scopes.Results.{result_of}
 
 -- what stands around a procedure's subroutines, where its own level and the entries are these
 around_with : Level → Heading → Level → Indexes → Indexes → Around

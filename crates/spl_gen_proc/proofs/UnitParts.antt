@@ -4,22 +4,22 @@ use Rattle.std.specs.Prelude.{unwrap_or}
 use Rattle.std.specs.List.{slice_get}
 use Rattle.spl_tree.specs.DeclarationTrees as decl
 use Rattle.spl_tree.specs.DeclarationTrees.{declarations}
-use Rattle.spl_meaning.specs.Names.{find}
-use Rattle.spl_meaning.specs.Tables.{Source}
-use Rattle.spl_meaning.specs.Places.{item_words}
-use Rattle.spl_places.specs.Counters.{total_words}
-use Rattle.spl_places.specs.Programs.{unit_items}
-use Rattle.spl_rooms.specs.declared.room_type.Room.{Room}
+use Rattle.spl_sound.specs.spl_meaning.Names.{find}
+use Rattle.spl_sound.specs.spl_meaning.Tables.{Source}
+use Rattle.spl_sound.specs.spl_meaning.Places.{item_words}
+use Rattle.spl_unit_laws.specs.spl_places.Counters.{total_words}
+use Rattle.spl_unit_laws.specs.spl_places.Programs.{unit_items}
+use Rattle.spl_layout.specs.spl_rooms.declared.room_type.Room.{Room}
 use Rattle.spl_branch.specs.declared.modules.Module.{Module}
-use Rattle.spl_modules.specs.Made.{Made}
-use Rattle.spl_modules.specs.Entered.{Walk}
-use Rattle.spl_modules.specs.UnitModules.{IsUnitModules}
-use Rattle.spl_module_code.specs.Modules.{numbered}
-use Rattle.spl_body_scopes.specs.Levels.{Level, unit_level}
-use Rattle.spl_gen_routines.specs.Routines.{room_at}
-use Rattle.spl_unit_codes.specs.declared.growing.Growing.{Growing}
-use Rattle.spl_unit_codes.specs.Begun.{AreBegun}
-use Rattle.spl_unit_codes.specs.Slots.{AreComplete, AreSlots, Picked, PickedFrom}
+use Rattle.spl_unit_laws.specs.spl_modules.Made.{Made}
+use Rattle.spl_unit_laws.specs.spl_modules.Entered.{Walk}
+use Rattle.spl_unit_laws.specs.spl_modules.UnitModules.{IsUnitModules}
+use Rattle.spl_unit_laws.specs.spl_module_code.Modules.{numbered}
+use Rattle.spl_unit_laws.specs.spl_body_scopes.Levels.{Level, unit_level}
+use Rattle.spl_unit_laws.specs.spl_gen_routines.Routines.{room_at}
+use Rattle.spl_unit_laws.specs.spl_unit_codes.declared.growing.Growing.{Growing}
+use Rattle.spl_unit_laws.specs.spl_unit_codes.Begun.{AreBegun}
+use Rattle.spl_unit_laws.specs.spl_unit_codes.Slots.{AreComplete, AreSlots, Picked, PickedFrom}
 use Rattle.spl_unit_laws.specs.declared.cursors.Cursor.{Cursor}
 use Rattle.spl_unit_laws.specs.declared.cursors.Start.{Start}
 use Rattle.spl_unit_laws.specs.Known.{Fixed, Known}

@@ -2,11 +2,11 @@
 use Rattle.std.proofs.Common.{◌≡◌, ◌<◌, ◌≤◌, ℕ, ◌+◌, List, [], ◌∷◌, ◌++◌, map, drop, length, get_or, refl, sym, ap, subst, ◌∙◌}
 use Rattle.std.proofs.lemmas.List.{append_assoc, append-nil}
 use Rattle.spl_tree.specs.declared.units.SplUnit.{SplUnit}
-use Rattle.spl_meaning.specs.Tables.{Source}
+use Rattle.spl_sound.specs.spl_meaning.Tables.{Source}
 use Rattle.spl_sound.specs.Spelled.{source_of}
-use Rattle.spl_places.specs.Programs.{Each}
-use Rattle.spl_lists.proofs.NameWalks.{onward, onward_end}
-use Rattle.spl_rooms.specs.declared.room_type.Room.{Room}
+use Rattle.spl_unit_laws.specs.spl_places.Programs.{Each}
+use Rattle.spl_unit_laws.proofs.spl_lists_proofs.NameWalks.{onward, onward_end}
+use Rattle.spl_layout.specs.spl_rooms.declared.room_type.Room.{Room}
 use Rattle.spl_branch.specs.declared.modules.Module.{Module}
 use Rattle.spl_unit_laws.specs.declared.cursors.Start.{Start}
 use Rattle.spl_unit_laws.specs.Begins.{UnitBegins, UnitsBegin}

@@ -2,10 +2,10 @@
 use Rattle.std.specs.Prelude.{[], unwrap_or}
 use Rattle.std.specs.List.{slice_get}
 use Rattle.spl_tree.specs.DeclarationTrees.{Declarations}
-use Rattle.spl_meaning.specs.Names.{find, nothing_declared}
-use Rattle.spl_found.specs.OwnNames.{behind_declarations}
-use Rattle.spl_modules.specs.Walks.{walk_of}
-use Rattle.spl_body_scopes.specs.Levels.{Level, level_of}
+use Rattle.spl_sound.specs.spl_meaning.Names.{find, nothing_declared}
+use Rattle.spl_unit_laws.specs.spl_found.OwnNames.{behind_declarations}
+use Rattle.spl_unit_laws.specs.spl_modules.Walks.{walk_of}
+use Rattle.spl_unit_laws.specs.spl_body_scopes.Levels.{Level, level_of}
 use Rattle.spl_unit_laws.specs.Known.{Fixed}
 use Rattle.spl_gen_proc.specs.declared.fixed.Fixed as code
 

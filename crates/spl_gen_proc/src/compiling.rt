@@ -3,20 +3,20 @@ ghost use Rattle.std.specs.Prelude.{map, IfOk};
 ghost use Rattle.spl_tree.specs.Views.{letters};
 ghost use Rattle.spl_sound.specs.Spelled.{source_of};
 ghost use Rattle.spl_layout.specs.Layouts.{IsLayout};
-ghost use Rattle.spl_places.specs.Programs.{Each};
+ghost use Rattle.spl_unit_laws.specs.spl_places.Programs.{Each};
 ghost use Rattle.spl_unit_laws.specs.Begins.{UnitsBegin};
 ghost use Rattle.spl_unit_laws.specs.Units.{OnceInBodies, UnitsStand};
-ghost use Rattle.spl_module_code.specs.Modules.{AreModules};
+ghost use Rattle.spl_unit_laws.specs.spl_module_code.Modules.{AreModules};
 
 use crate::units::unit_modules;
 use spl_branch::Module;
-use spl_globals::first_areas;
 use spl_layout::Layout;
-use spl_rooms::Room;
+use spl_layout::spl_globals::first_areas;
+use spl_layout::spl_rooms::Room;
 use spl_sound::Sound;
 use spl_tree::{Name, SplUnit};
-use spl_unit_codes::used_segments;
 use spl_unit_laws::Start;
+use spl_unit_laws::spl_unit_codes::used_segments;
 use std::alloc::{AllocError, Global};
 
 /// The modules of units, the first of which begins there.

@@ -1,13 +1,13 @@
 //! What is known along the declarations of a unit.
 ghost use Rattle.std.specs.Prelude.{◌≡◌, []};
-ghost use Rattle.spl_meaning.specs.Names.{find};
-ghost use Rattle.spl_places.specs.NameMaps.{entries_of};
+ghost use Rattle.spl_sound.specs.spl_meaning.Names.{find};
+ghost use Rattle.spl_unit_laws.specs.spl_places.NameMaps.{entries_of};
 
-use spl_body_scopes::Level;
-use spl_modules::UnitEntries;
-use spl_places::NameMap;
-use spl_rooms::Room;
+use spl_layout::spl_rooms::Room;
 use spl_tree::SplUnit;
+use spl_unit_laws::spl_body_scopes::Level;
+use spl_unit_laws::spl_modules::UnitEntries;
+use spl_unit_laws::spl_places::NameMap;
 
 /// What stays the same for a whole unit.
 #[derive(Debug, Drop)]

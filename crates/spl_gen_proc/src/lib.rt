@@ -7,3 +7,4 @@ mod units;
 mod walk;
 
 pub use compiling::compile;
+pub use spl_layout;

@@ -5,29 +5,31 @@ ghost use Rattle.spl_tree.specs.DeclarationTrees as decl;
 ghost use Rattle.spl_tree.specs.Spells.{heading_tree, declaration};
 ghost use Rattle.spl_tree.specs.StatementTrees.{statements};
 ghost use Rattle.spl_tree.specs.Views as view;
-ghost use Rattle.spl_meaning.specs.Names.{find};
-ghost use Rattle.spl_meaning.specs.StatementRules.{label_faults};
-ghost use Rattle.spl_sorts.specs.Tables.{table_of};
+ghost use Rattle.spl_sound.specs.spl_meaning.Names.{find};
+ghost use Rattle.spl_sound.specs.spl_meaning.StatementRules.{label_faults};
+ghost use Rattle.spl_unit_laws.specs.spl_sorts.Tables.{table_of};
 ghost use Rattle.spl_sound.specs.Spelled.{source_of};
-ghost use Rattle.spl_places.specs.NameMaps.{entries_of};
-ghost use Rattle.spl_body_scopes.specs.Levels.{level_of};
-ghost use Rattle.spl_gen_routines.specs.Generates.{AreOpen};
-ghost use Rattle.spl_gen_routines.specs.Routines as r;
-ghost use Rattle.spl_gen_routines.specs.Routines.{OnceAmong, InnerStands, RoutineStands};
-ghost use Rattle.spl_gen_routines.specs.Views.{around_of, routine_around};
+ghost use Rattle.spl_unit_laws.specs.spl_places.NameMaps.{entries_of};
+ghost use Rattle.spl_unit_laws.specs.spl_body_scopes.Levels.{level_of};
+ghost use Rattle.spl_unit_laws.specs.spl_gen_routines.Generates.{AreOpen};
+ghost use Rattle.spl_unit_laws.specs.spl_gen_routines.Routines as r;
+ghost use Rattle.spl_unit_laws.specs.spl_gen_routines.Routines.{OnceAmong, InnerStands, RoutineStands};
+ghost use Rattle.spl_unit_laws.specs.spl_gen_routines.Views.{around_of, routine_around};
 ghost use Rattle.spl_gen_proc.specs.Views.{fixed_of};
 ghost use Rattle.spl_unit_laws.specs.Steps.{Grows, RoutineGrows, InnerGrows, cursor_behind, cursor_inner, IsFree, AreFree, OnceInUnit, OnceInAll, PartsStep, Steps};
 
 use crate::fixed::Fixed;
-use spl_body_scopes::{Level, declare, routine_level};
-use spl_depths::plus;
-use spl_gen_expr::Entries;
-use spl_gen_routines::{Around, Declared, inner_count, listed_items, room_at, routine, subroutine};
-use spl_places::{NameMap, Part, total};
-use spl_rooms::Room;
+use spl_layout::spl_rooms::Room;
 use spl_tree::{Body, Decl, Heading, Stmt};
-use spl_unit_codes::Growing;
 use spl_unit_laws::Cursor;
+use spl_unit_laws::spl_body_scopes::{Level, declare, routine_level};
+use spl_unit_laws::spl_depths::plus;
+use spl_unit_laws::spl_gen_expr::Entries;
+use spl_unit_laws::spl_gen_routines::{
+    Around, Declared, inner_count, listed_items, room_at, routine, subroutine,
+};
+use spl_unit_laws::spl_places::{NameMap, Part, total};
+use spl_unit_laws::spl_unit_codes::Growing;
 use std::alloc::{AllocError, Global};
 
 /// The indexes of the procedures of a segment.

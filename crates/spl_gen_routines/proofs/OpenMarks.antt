@@ -6,9 +6,9 @@ use Rattle.std.proofs.Math.Seq.{set-append_seam, get_or-append_seam}
 use Rattle.spl_branch.specs.Pieces.{is_settable}
 use Rattle.spl_branch.specs.declared.buffer.Code.{Code}
 use Rattle.spl_branch.specs.declared.pieces.Piece.TheVariants.{Mark}
-use Rattle.spl_code.specs.Parts.{Part, Written, wants_of, nothing, ◌⨟◌}
-use Rattle.spl_code.specs.Appends.{behind}
-use Rattle.spl_code.proofs.AppendLaws.{same_then, same_none}
+use Rattle.spl_gen_body.specs.spl_code.Parts.{Part, Written, wants_of, nothing, ◌⨟◌}
+use Rattle.spl_gen_body.specs.spl_code.Appends.{behind}
+use Rattle.spl_gen_body.proofs.spl_code_proofs.AppendLaws.{same_then, same_none}
 use Rattle.spl_gen_routines.specs.Generates.{Generates, AreOpen, GeneratesFrom}
 
 pub one_more : (n : ℕ) → 1 + n ≡ suc n

@@ -3,21 +3,21 @@ use Rattle.std.proofs.Common.{◌≡◌, ℕ, ◌+◌, List, [], ◌∷◌, map,
 use Rattle.spl_tree.specs.DeclarationTrees.{Heading, Declarations, declarations}
 use Rattle.spl_tree.specs.StatementTrees.{Statement, statements}
 use Rattle.spl_tree.specs.Spells.{heading_tree, declaration}
-use Rattle.spl_meaning.specs.Names.{Names, find, parameters, formals_of}
-use Rattle.spl_meaning.specs.Tables.{Routine, outer_names}
-use Rattle.spl_meaning.specs.Pending.{formals_words}
-use Rattle.spl_meaning.specs.Places.{above_base, places_from, arrays_from}
+use Rattle.spl_sorts.specs.spl_meaning.Names.{Names, find, parameters, formals_of}
+use Rattle.spl_sorts.specs.spl_meaning.Tables.{Routine, outer_names}
+use Rattle.spl_sorts.specs.spl_meaning.Pending.{formals_words}
+use Rattle.spl_sorts.specs.spl_meaning.Places.{above_base, places_from, arrays_from}
 use Rattle.spl_sorts.specs.Tables.{table_of}
-use Rattle.spl_places.specs.declared.places.Starts.{Starts}
-use Rattle.spl_places.specs.ListedData.{Datum, datum_of, list_data}
-use Rattle.spl_places.specs.NameMaps.{entries_of, shown}
-use Rattle.spl_places.specs.Spots.{spot_of, array_of, frame_starts}
-use Rattle.spl_places.specs.Held.{named}
-use Rattle.spl_areas.specs.Gathered.{items_under}
-use Rattle.spl_rooms.specs.declared.room_type.Room.{Room}
+use Rattle.spl_statement_scopes.specs.spl_places.declared.places.Starts.{Starts}
+use Rattle.spl_statement_scopes.specs.spl_places.ListedData.{Datum, datum_of, list_data}
+use Rattle.spl_statement_scopes.specs.spl_places.NameMaps.{entries_of, shown}
+use Rattle.spl_statement_scopes.specs.spl_places.Spots.{spot_of, array_of, frame_starts}
+use Rattle.spl_statement_scopes.specs.spl_places.Held.{named}
+use Rattle.spl_statement_scopes.specs.spl_areas.Gathered.{items_under}
+use Rattle.spl_gen_body.specs.spl_rooms.declared.room_type.Room.{Room}
 use Rattle.spl_branch.specs.declared.buffer.Code.{Code}
-use Rattle.spl_code.specs.Calls.{Scope}
-use Rattle.spl_body_scopes.specs.Levels.{Level}
+use Rattle.spl_gen_body.specs.spl_code.Calls.{Scope}
+use Rattle.spl_statement_scopes.specs.spl_body_scopes.Levels.{Level}
 use Rattle.spl_statement_scopes.specs.Scopes.{StatesInner, StatesMainInner}
 use Rattle.spl_landings.specs.Bodies.{statements_part}
 use Rattle.spl_gen_body.specs.declared.bodies.Procedure.{Procedure}

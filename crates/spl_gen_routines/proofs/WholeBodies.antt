@@ -6,14 +6,14 @@ use Rattle.spl_branch.specs.declared.pieces.Piece.{Piece}
 use Rattle.spl_branch.specs.declared.pieces.Piece.TheVariants.{Mark}
 use Rattle.spl_branch.specs.Pieces.{is_settable}
 use Rattle.spl_branch.specs.Codes.{SameFrame}
-use Rattle.spl_code.specs.Parts.{Part, pieces, piece, ◌⨟◌, with_fresh}
-use Rattle.spl_code.specs.Appends.{Appends, behind}
-use Rattle.spl_code.proofs.AppendLaws.{marks_behind}
-use Rattle.spl_body_code.specs.Marked.{Marked}
-use Rattle.spl_body_code.specs.Joined.{StandsBehind, WithMark}
-use Rattle.spl_body_code.specs.Frames.{granted}
-use Rattle.spl_body_code.specs.Bodies.{main_left}
-use Rattle.spl_body_code.proofs.JoinLaws.{appended_stands, around_joined, main_stands}
+use Rattle.spl_gen_body.specs.spl_code.Parts.{Part, pieces, piece, ◌⨟◌, with_fresh}
+use Rattle.spl_gen_body.specs.spl_code.Appends.{Appends, behind}
+use Rattle.spl_gen_body.proofs.spl_code_proofs.AppendLaws.{marks_behind}
+use Rattle.spl_gen_body.specs.spl_body_code.Marked.{Marked}
+use Rattle.spl_gen_body.specs.spl_body_code.Joined.{StandsBehind, WithMark}
+use Rattle.spl_gen_body.specs.spl_body_code.Frames.{granted}
+use Rattle.spl_gen_body.specs.spl_body_code.Bodies.{main_left}
+use Rattle.spl_gen_body.proofs.spl_body_code_proofs.JoinLaws.{appended_stands, around_joined, main_stands}
 use Rattle.spl_gen_routines.specs.Generates.{Generates}
 use Rattle.spl_gen_routines.proofs.SetMarks.{settable_made, settable_more, entered, leave_settable, left}
 

@@ -5,23 +5,23 @@ use Rattle.spl_tree.specs.declared.names_and_places.At.{At}
 use Rattle.spl_tree.specs.DeclarationTrees as decl
 use Rattle.spl_tree.specs.DeclarationTrees.{Heading, Declaration, Declarations}
 use Rattle.spl_tree.specs.StatementTrees.{Statement, Statements, statements}
-use Rattle.spl_meaning.specs.Names.{Names, Table, formals_of}
-use Rattle.spl_meaning.specs.Places.{Place}
-use Rattle.spl_meaning.specs.Tables.{Routine, outer_names}
-use Rattle.spl_meaning.specs.Pending.{formals_words}
-use Rattle.spl_meaning.specs.StatementRules.{label_faults}
-use Rattle.spl_meaning.specs.Bodies.{procedure_body}
-use Rattle.spl_places.specs.Programs.{NewInRoutine}
-use Rattle.spl_rooms.specs.declared.room_type.Room.{Room}
-use Rattle.spl_rooms.specs.Rooms.{routine_room}
+use Rattle.spl_sorts.specs.spl_meaning.Names.{Names, Table, formals_of}
+use Rattle.spl_sorts.specs.spl_meaning.Places.{Place}
+use Rattle.spl_sorts.specs.spl_meaning.Tables.{Routine, outer_names}
+use Rattle.spl_sorts.specs.spl_meaning.Pending.{formals_words}
+use Rattle.spl_sorts.specs.spl_meaning.StatementRules.{label_faults}
+use Rattle.spl_sorts.specs.spl_meaning.Bodies.{procedure_body}
+use Rattle.spl_statement_scopes.specs.spl_places.Programs.{NewInRoutine}
+use Rattle.spl_gen_body.specs.spl_rooms.declared.room_type.Room.{Room}
+use Rattle.spl_gen_body.specs.spl_rooms.Rooms.{routine_room}
 use Rattle.spl_branch.specs.declared.buffer.Code.{Code}
-use Rattle.spl_code.specs.Calls.{Scope}
-use Rattle.spl_body_code.specs.Bodies.{Frame, frame_of}
-use Rattle.spl_scopes.specs.Scopes.{Results}
-use Rattle.spl_body_scopes.specs.declared.places.Base.TheVariants as base
-use Rattle.spl_body_scopes.specs.Levels.{Level, inner_level}
-use Rattle.spl_body_scopes.specs.Results.{result_of, heading_result, results_through}
-use Rattle.spl_body_scopes.specs.Found.{Calls}
+use Rattle.spl_gen_body.specs.spl_code.Calls.{Scope}
+use Rattle.spl_gen_body.specs.spl_body_code.Bodies.{Frame, frame_of}
+use Rattle.spl_statement_scopes.specs.spl_scopes.Scopes.{Results}
+use Rattle.spl_statement_scopes.specs.spl_body_scopes.declared.places.Base.TheVariants as base
+use Rattle.spl_statement_scopes.specs.spl_body_scopes.Levels.{Level, inner_level}
+use Rattle.spl_statement_scopes.specs.spl_body_scopes.Results.{result_of, heading_result, results_through}
+use Rattle.spl_statement_scopes.specs.spl_body_scopes.Found.{Calls}
 use Rattle.spl_statement_scopes.specs.Levels.{no_names, with_results}
 use Rattle.spl_statement_scopes.specs.Scopes.{StatesRoutine, StatesInner, StatesMain, StatesMainInner}
 use Rattle.spl_landings.specs.Bodies.{statements_part}

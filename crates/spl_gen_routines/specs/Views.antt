@@ -1,8 +1,8 @@
 -- What stands around subroutines, as the code has it.
-use Rattle.spl_body_scopes.specs.Levels.{level_of}
+use Rattle.spl_statement_scopes.specs.spl_body_scopes.Levels.{level_of}
 use Rattle.spl_tree.specs.Spells.{heading_tree}
-use Rattle.spl_body_scopes.specs.Results.{result_of, routine_result}
-use Rattle.spl_body_scopes.specs.Found.{calls_in}
+use Rattle.spl_statement_scopes.specs.spl_body_scopes.Results.{result_of, routine_result}
+use Rattle.spl_statement_scopes.specs.spl_body_scopes.Found.{calls_in}
 use Rattle.spl_gen_routines.specs.declared.inners.Around as code
 use Rattle.spl_gen_routines.specs.declared.routines.Declared.{Declared}
 use Rattle.spl_gen_routines.specs.Routines.{Around}

@@ -3,25 +3,25 @@ ghost use Rattle.std.specs.Prelude.{◌≡◌, [], true, map, OnOk};
 ghost use Rattle.spl_tree.specs.Views as view;
 ghost use Rattle.spl_tree.specs.Spells.{heading_tree};
 ghost use Rattle.spl_tree.specs.StatementTrees as trees;
-ghost use Rattle.spl_meaning.specs.Names.{formals_of};
-ghost use Rattle.spl_meaning.specs.Pending.{formals_words};
-ghost use Rattle.spl_meaning.specs.StatementRules.{label_faults};
+ghost use Rattle.spl_sorts.specs.spl_meaning.Names.{formals_of};
+ghost use Rattle.spl_sorts.specs.spl_meaning.Pending.{formals_words};
+ghost use Rattle.spl_sorts.specs.spl_meaning.StatementRules.{label_faults};
 ghost use Rattle.spl_branch.specs.Pieces.{is_settable};
 ghost use Rattle.spl_branch.specs.declared.pieces.Piece.TheVariants as p;
-ghost use Rattle.spl_gen_expr.specs.Scopes.{scope_of};
+ghost use Rattle.spl_gen_body.specs.spl_gen_expr.Scopes.{scope_of};
 ghost use Rattle.spl_gen_body.specs.Procedures.{frame_for};
 ghost use Rattle.spl_landings.specs.Bodies.{statements_part};
 ghost use Rattle.spl_gen_routines.specs.Generates.{Generates};
 ghost use Rattle.spl_gen_routines.specs.Scoped.{procedure_with, subroutine_with, main_with};
 
 use spl_branch::Code;
+use spl_gen_body::spl_gen_expr::Scope;
+use spl_gen_body::spl_rooms::Room;
 use spl_gen_body::{
     Procedure, enter_main, enter_procedure, enter_subroutine, leave_main, leave_procedure,
     leave_subroutine,
 };
-use spl_gen_expr::Scope;
 use spl_landings::body_statements;
-use spl_rooms::Room;
 use spl_tree::{Heading, Stmt};
 use std::alloc::{AllocError, Global};
 

@@ -4,7 +4,7 @@ ghost use Rattle.spl_tree.specs.DeclarationTrees as decl;
 ghost use Rattle.spl_tree.specs.Spells.{heading_tree, declaration};
 ghost use Rattle.spl_tree.specs.StatementTrees.{statements};
 ghost use Rattle.spl_tree.specs.Views as view;
-ghost use Rattle.spl_meaning.specs.StatementRules.{label_faults};
+ghost use Rattle.spl_sorts.specs.spl_meaning.StatementRules.{label_faults};
 ghost use Rattle.spl_branch.specs.Pieces.{is_settable};
 ghost use Rattle.spl_branch.specs.declared.pieces.Piece.TheVariants as p;
 ghost use Rattle.spl_gen_routines.specs.Generates.{AreOpen};
@@ -14,11 +14,13 @@ ghost use Rattle.spl_gen_routines.specs.Views.{around_of};
 
 use crate::bodies::subroutine_code;
 use crate::rooms::room_at;
-use spl_body_scopes::{BodyResult, Level, Results, inner_level, inner_result};
 use spl_branch::Code;
-use spl_depths::plus;
-use spl_gen_expr::Entries;
-use spl_rooms::Room;
+use spl_gen_body::spl_gen_expr::Entries;
+use spl_gen_body::spl_rooms::Room;
+use spl_statement_scopes::spl_body_scopes::{
+    BodyResult, Level, Results, inner_level, inner_result,
+};
+use spl_statement_scopes::spl_depths::plus;
 use spl_statement_scopes::{statement_scope, with_results};
 use spl_tree::{Decl, Heading, Stmt};
 use std::alloc::{AllocError, Global};

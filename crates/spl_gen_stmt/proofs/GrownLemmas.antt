@@ -6,9 +6,9 @@ use Rattle.std.proofs.lemmas.List.{append_assoc, append-nil, length-append, leng
 use Rattle.spl_branch.specs.declared.buffer.Code.{Code}
 use Rattle.spl_branch.specs.declared.pieces.Piece.TheVariants.{Mark}
 use Rattle.spl_branch.specs.Pieces.{is_settable}
-use Rattle.spl_code.specs.Parts.{Part, Written, wants_of, piece, nothing, ◌⨟◌, with_fresh}
-use Rattle.spl_code.specs.Appends.{Appends, behind}
-use Rattle.spl_code.proofs.AppendLaws.{same_then}
+use Rattle.spl_statement_code.specs.spl_code.Parts.{Part, Written, wants_of, piece, nothing, ◌⨟◌, with_fresh}
+use Rattle.spl_statement_code.specs.spl_code.Appends.{Appends, behind}
+use Rattle.spl_statement_code.proofs.spl_code_proofs.AppendLaws.{same_then}
 use Rattle.spl_gen_expr.specs.Marks.{Within, Sets}
 use Rattle.spl_gen_expr.proofs.MarkLemmas.{second_settable}
 use Rattle.spl_statement_code.specs.Landings.{Context, IsMade}

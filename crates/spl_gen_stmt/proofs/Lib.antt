@@ -5,3 +5,8 @@ pub mod PartLemmas
 pub mod WordCounts
 pub mod ViewLemmas
 pub mod StatementLemmas
+-- Passed on from the crates below.
+pub use Rattle.spl_statement_code.proofs.spl_code_proofs
+pub use Rattle.spl_operations.proofs.spl_depths_proofs
+pub use Rattle.spl_operations.proofs as spl_operations_proofs
+pub use Rattle.spl_operations.proofs.spl_places_proofs

@@ -4,15 +4,15 @@ use Rattle.spl_tree.specs.declared.names_and_places.At.{At}
 use Rattle.spl_tree.specs.Trees.{Tree, Trees}
 use Rattle.spl_tree.specs.StatementTrees as stat
 use Rattle.spl_tree.specs.StatementTrees.{Target, Source, Effect}
-use Rattle.spl_meaning.specs.Kinds.{callable}
-use Rattle.spl_meaning.specs.Pending.{waiting, behind_first, behind_second}
+use Rattle.spl_sorts.specs.spl_meaning.Kinds.{callable}
+use Rattle.spl_sorts.specs.spl_meaning.Pending.{waiting, behind_first, behind_second}
 use Rattle.spl_branch.specs.declared.buffer.Code.{Code}
-use Rattle.spl_code.specs.Parts.{Part, pieces, piece, ◌⨟◌}
-use Rattle.spl_code.specs.Constants.{constant, text_offset}
-use Rattle.spl_code.specs.Calls.{Scope}
-use Rattle.spl_code.specs.Code.{code, as_value, reference}
-use Rattle.spl_code.specs.Appends.{Appends}
-use Rattle.spl_code.proofs.AppendLaws.{then_appends, none_appends}
+use Rattle.spl_statement_code.specs.spl_code.Parts.{Part, pieces, piece, ◌⨟◌}
+use Rattle.spl_statement_code.specs.spl_code.Constants.{constant, text_offset}
+use Rattle.spl_statement_code.specs.spl_code.Calls.{Scope}
+use Rattle.spl_statement_code.specs.spl_code.Code.{code, as_value, reference}
+use Rattle.spl_statement_code.specs.spl_code.Appends.{Appends}
+use Rattle.spl_statement_code.proofs.spl_code_proofs.AppendLaws.{then_appends, none_appends}
 use Rattle.spl_gen_expr.specs.Phrases.{named_part}
 use Rattle.spl_statement_code.specs.Landings.{Landing, jump, gone_to}
 use Rattle.spl_statement_code.specs.Assignments.{target_index, target_stored, assigned}

@@ -14,15 +14,15 @@ use Rattle.spl_tree.specs.DeclarationTrees.{Placed}
 use Rattle.spl_tree.specs.Trees.{trees}
 use Rattle.spl_tree.specs.StatementTrees as stat
 use Rattle.spl_tree.specs.StatementTrees.{Statement, Statements, statements, Test}
-use Rattle.spl_meaning.specs.Bound.{statement_weight, statements_weight}
-use Rattle.spl_meaning.specs.StatementRules.{all_labels, all_labels_of}
+use Rattle.spl_sorts.specs.spl_meaning.Bound.{statement_weight, statements_weight}
+use Rattle.spl_sorts.specs.spl_meaning.StatementRules.{all_labels, all_labels_of}
 use Rattle.spl_branch.specs.declared.buffer.Code.{Code}
 use Rattle.spl_branch.specs.declared.pieces.Piece.TheVariants.{Begin, Mark}
-use Rattle.spl_code.specs.Instructions.{LDI, DEL, BR}
-use Rattle.spl_code.specs.Parts.{Part, piece, nothing, ◌⨟◌}
-use Rattle.spl_code.specs.Code.{code, as_value, related}
-use Rattle.spl_code.specs.Appends.{Appends}
-use Rattle.spl_code.proofs.AppendLaws.{then_appends, none_appends}
+use Rattle.spl_statement_code.specs.spl_code.Instructions.{LDI, DEL, BR}
+use Rattle.spl_statement_code.specs.spl_code.Parts.{Part, piece, nothing, ◌⨟◌}
+use Rattle.spl_statement_code.specs.spl_code.Code.{code, as_value, related}
+use Rattle.spl_statement_code.specs.spl_code.Appends.{Appends}
+use Rattle.spl_statement_code.proofs.spl_code_proofs.AppendLaws.{then_appends, none_appends}
 use Rattle.spl_gen_expr.specs.Marks.{Within, Sets}
 use Rattle.spl_statement_code.specs.Instructions.{TEST, LSUB, TBA, MTBA}
 use Rattle.spl_statement_code.specs.Landings.{Context, IsMade, landed}

@@ -1,11 +1,11 @@
 -- How many words a statement adds, and those of a list.
 use Rattle.std.proofs.Common.{◌≤◌, ℕ, ◌+◌, ◌*◌, List, length, ap, ◌∙◌, arith}
 use Rattle.spl_tree.specs.StatementTrees.{Statement, Statements}
-use Rattle.spl_meaning.specs.Bound.{statement_weight, statements_weight}
+use Rattle.spl_sorts.specs.spl_meaning.Bound.{statement_weight, statements_weight}
 use Rattle.spl_branch.specs.declared.buffer.Code.{Code}
 use Rattle.spl_branch.specs.Pieces.{count_of}
-use Rattle.spl_code.specs.Parts.{wants_of}
-use Rattle.spl_code.proofs.CountLemmas.{count_append}
+use Rattle.spl_statement_code.specs.spl_code.Parts.{wants_of}
+use Rattle.spl_statement_code.proofs.spl_code_proofs.CountLemmas.{count_append}
 use Rattle.spl_statement_code.specs.Landings.{Context}
 use Rattle.spl_statement_code.specs.Statements.{statement, listed}
 use Rattle.spl_statement_code.specs.Labels.{AppendsSetting}

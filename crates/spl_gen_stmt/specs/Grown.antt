@@ -2,7 +2,7 @@
 use Rattle.std.specs.Prelude.{ℕ, suc, ◌≡◌, ◌++◌, Bool, true, List, [], ◌∷◌, length, replicate}
 use Rattle.spl_branch.specs.declared.buffer.Code.{Code}
 use Rattle.spl_branch.specs.Codes.{SameFrame}
-use Rattle.spl_code.specs.Parts.{Part, Written, wants_of}
+use Rattle.spl_statement_code.specs.spl_code.Parts.{Part, Written, wants_of}
 use Rattle.spl_statement_code.specs.Labels.{all_set}
 
 -- how many marks there are with the new ones

@@ -1,10 +1,10 @@
 //! MOVE and SCAN, whose answer is used or not.
 ghost use Rattle.std.specs.Prelude.{◌≡◌, ◌%◌, if◌then◌else◌, OnOk, IfOk};
 ghost use Rattle.spl_tree.specs.Views as view;
-ghost use Rattle.spl_meaning.specs.Pending as pending;
-ghost use Rattle.spl_code.specs.Parts.{piece, pieces, ◌⨟◌};
-ghost use Rattle.spl_code.specs.Constants.{constant, text_offset};
-ghost use Rattle.spl_code.specs.Appends.{Appends};
+ghost use Rattle.spl_sorts.specs.spl_meaning.Pending as pending;
+ghost use Rattle.spl_statement_code.specs.spl_code.Parts.{piece, pieces, ◌⨟◌};
+ghost use Rattle.spl_statement_code.specs.spl_code.Constants.{constant, text_offset};
+ghost use Rattle.spl_statement_code.specs.spl_code.Appends.{Appends};
 ghost use Rattle.spl_gen_expr.specs.Scopes.{scope_of};
 ghost use Rattle.spl_statement_code.specs.Instructions as i;
 ghost use Rattle.spl_statement_code.specs.Effects as effects;
@@ -12,8 +12,8 @@ ghost use Rattle.spl_statement_code.specs.Effects as effects;
 use crate::puts::control_by;
 use hp_instr::{Op, control, shift};
 use spl_branch::Code;
-use spl_depths::plus;
 use spl_gen_expr::{Aim, Scope, push_text_offset, reference, write};
+use spl_operations::spl_depths::plus;
 use spl_operations::{operate, push_word, shift_by};
 use spl_sorts::variable_kind;
 use spl_tree::{Effect, Kind, Ref, Source};

@@ -2,7 +2,7 @@
 ghost use Rattle.std.specs.Prelude.{◌≡◌, ◌≤◌, ◌+◌, ◌*◌, length, map, IfOk, OnOk};
 ghost use Rattle.spl_tree.specs.Views as view;
 ghost use Rattle.spl_tree.specs.StatementTrees.{statements};
-ghost use Rattle.spl_meaning.specs.Bound.{statement_weight, statements_weight};
+ghost use Rattle.spl_sorts.specs.spl_meaning.Bound.{statement_weight, statements_weight};
 ghost use Rattle.spl_branch.specs.Pieces.{count_of};
 ghost use Rattle.spl_statement_code.specs.Landings.{IsMade};
 ghost use Rattle.spl_statement_code.specs.Statements as shapes;
@@ -14,7 +14,7 @@ use crate::contexts::{Context, Landing};
 use crate::statements::{listed, statement};
 use spl_branch::Code;
 use spl_gen_expr::Scope;
-use spl_places::NameMap;
+use spl_operations::spl_places::NameMap;
 use spl_tree::Stmt;
 use std::alloc::AllocError;
 

@@ -1,8 +1,8 @@
 //! GO TO, RETURN and the places of labels.
 ghost use Rattle.std.specs.Prelude.{◌≡◌, ◌<◌, length, OnOk};
 ghost use Rattle.spl_tree.specs.Views.{letters};
-ghost use Rattle.spl_code.specs.Parts.{pieces};
-ghost use Rattle.spl_code.specs.Appends.{Appends};
+ghost use Rattle.spl_statement_code.specs.spl_code.Parts.{pieces};
+ghost use Rattle.spl_statement_code.specs.spl_code.Appends.{Appends};
 ghost use Rattle.spl_statement_code.specs.Landings as landings;
 ghost use Rattle.spl_statement_code.specs.Landings.{IsMade};
 ghost use Rattle.spl_statement_code.specs.Labels.{AppendsSetting, CanBeSet, mark_of};

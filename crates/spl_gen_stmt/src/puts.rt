@@ -2,8 +2,8 @@
 ghost use Rattle.std.specs.Prelude.{◌≡◌, ◌<◌, ◌∷◌, [], true, false, if◌then◌else◌, length, OnOk, IfOk};
 ghost use Rattle.hp_instr.specs.Fields.{is_control};
 ghost use Rattle.spl_branch.specs.declared.pieces.Piece.TheVariants as p;
-ghost use Rattle.spl_code.specs.Parts.{piece, nothing};
-ghost use Rattle.spl_code.specs.Appends.{Appends};
+ghost use Rattle.spl_statement_code.specs.spl_code.Parts.{piece, nothing};
+ghost use Rattle.spl_statement_code.specs.spl_code.Appends.{Appends};
 ghost use Rattle.spl_statement_code.specs.Instructions as i;
 ghost use Rattle.spl_statement_code.specs.Statements.{idle};
 ghost use Rattle.spl_gen_stmt.specs.Grown.{Grown};

@@ -6,13 +6,13 @@ use Rattle.spl_tree.specs.declared.names_and_places.At.{At}
 use Rattle.spl_tree.specs.declared.statements.Stmt as stmt
 use Rattle.spl_tree.specs.Views as view
 use Rattle.spl_tree.specs.StatementTrees as stat
-use Rattle.spl_meaning.specs.Names.{find}
-use Rattle.spl_places.specs.declared.name_maps.NameMap.{NameMap}
-use Rattle.spl_places.specs.NameMaps.{entries_of}
-use Rattle.spl_gen_expr.specs.declared.scopes.Scope.{Scope}
-use Rattle.spl_statement_code.specs.Landings as code
-use Rattle.spl_statement_code.specs.Landings.{Context, IsMade}
-use Rattle.spl_statement_code.specs.Labels.{CanBeSet, marks_inside}
+use Rattle.spl_sorts.specs.spl_meaning.Names.{find}
+use Rattle.spl_gen_stmt.specs.spl_places.declared.name_maps.NameMap.{NameMap}
+use Rattle.spl_gen_stmt.specs.spl_places.NameMaps.{entries_of}
+use Rattle.spl_gen_stmt.specs.spl_gen_expr.declared.scopes.Scope.{Scope}
+use Rattle.spl_gen_stmt.specs.spl_statement_code.Landings as code
+use Rattle.spl_gen_stmt.specs.spl_statement_code.Landings.{Context, IsMade}
+use Rattle.spl_gen_stmt.specs.spl_statement_code.Labels.{CanBeSet, marks_inside}
 use Rattle.spl_gen_stmt.specs.declared.contexts.Landing.{Landing}
 use Rattle.spl_gen_stmt.specs.Contexts.{context_by, landing_of, landings_of}
 use Rattle.spl_gen_stmt.proofs.ViewLemmas.{return_tree}

@@ -6,21 +6,21 @@ use Rattle.std.proofs.Common.{ℕ, ◌≡◌, ◌+◌, add-zero, Bool, true, fal
 use Rattle.std.specs.Prelude.{if◌then◌else◌}
 use Rattle.spl_tree.specs.DeclarationTrees as decl
 use Rattle.spl_tree.specs.DeclarationTrees.{Declaration, Declarations, declarations}
-use Rattle.spl_meaning.specs.Names.{Names, Sort, Table, find, nothing_declared, parameters, formals_of}
-use Rattle.spl_meaning.specs.Tables.{Source, Routine, with_declaration, routines_among, routines_of, outer_names, routine_table, unit_table}
-use Rattle.spl_meaning.specs.Places.{Place, data_word, above_base, Starts, Cell, Initial, Laid, item_words, array_words, sum, list_words, list_array_words, put_cells, put_initials}
-use Rattle.spl_meaning.specs.Bodies.{own_table, all_routines, own_words, global_words, global_array_words, data_words, laid_unit, routine_starts, laid_routine, own_cells, own_initials, Reached, reached_behind, program_from}
-use Rattle.spl_meaning.specs.Stops.{declaration_stops}
-use Rattle.spl_meaning.specs.Limits.{joined}
-use Rattle.spl_meaning.specs.Runs.{global_address}
-use Rattle.spl_found.proofs.OwnNames.{find_declaration}
-use Rattle.spl_places.specs.declared.places.Area.TheVariants as area
-use Rattle.spl_places.specs.ListedData.{Datum, list_data}
-use Rattle.spl_places.specs.Counters.{total_words}
-use Rattle.spl_places.specs.Held.{held, named}
-use Rattle.spl_places.specs.Programs.{unit_items, routine_items, all_globals, all_locals, Each, NewInUnit, NewInRoutine, NewInAll}
-use Rattle.spl_places.specs.Spots.{frame_starts, place_in}
-use Rattle.spl_places.proofs.ProgramLaws.{routine_held, unit_held, item_words_held, array_words_held, unit_totals, routine_totals}
+use Rattle.spl_sorts.specs.spl_meaning.Names.{Names, Sort, Table, find, nothing_declared, parameters, formals_of}
+use Rattle.spl_sorts.specs.spl_meaning.Tables.{Source, Routine, with_declaration, routines_among, routines_of, outer_names, routine_table, unit_table}
+use Rattle.spl_sorts.specs.spl_meaning.Places.{Place, data_word, above_base, Starts, Cell, Initial, Laid, item_words, array_words, sum, list_words, list_array_words, put_cells, put_initials}
+use Rattle.spl_sorts.specs.spl_meaning.Bodies.{own_table, all_routines, own_words, global_words, global_array_words, data_words, laid_unit, routine_starts, laid_routine, own_cells, own_initials, Reached, reached_behind, program_from}
+use Rattle.spl_sorts.specs.spl_meaning.Stops.{declaration_stops}
+use Rattle.spl_sorts.specs.spl_meaning.Limits.{joined}
+use Rattle.spl_sorts.specs.spl_meaning.Runs.{global_address}
+use Rattle.spl_initials.proofs.spl_found_proofs.OwnNames.{find_declaration}
+use Rattle.spl_initials.specs.spl_places.declared.places.Area.TheVariants as area
+use Rattle.spl_initials.specs.spl_places.ListedData.{Datum, list_data}
+use Rattle.spl_initials.specs.spl_places.Counters.{total_words}
+use Rattle.spl_initials.specs.spl_places.Held.{held, named}
+use Rattle.spl_initials.specs.spl_places.Programs.{unit_items, routine_items, all_globals, all_locals, Each, NewInUnit, NewInRoutine, NewInAll}
+use Rattle.spl_initials.specs.spl_places.Spots.{frame_starts, place_in}
+use Rattle.spl_initials.proofs.spl_places_proofs.ProgramLaws.{routine_held, unit_held, item_words_held, array_words_held, unit_totals, routine_totals}
 use Rattle.spl_initials.specs.Cells.{cells_by, initials_by}
 use Rattle.spl_initials.specs.Lists.{found_of, starts_of}
 use Rattle.spl_initials.proofs.LaidLaws.{laid_cells, laid_initials}

@@ -5,13 +5,13 @@ use Rattle.spl_tree.specs.declared.declarations.Decl.{Decl}
 use Rattle.spl_tree.specs.declared.units.SplUnit.{SplUnit}
 use Rattle.spl_tree.specs.DeclarationTrees.{declarations}
 use Rattle.spl_tree.specs.Spells.{declaration}
-use Rattle.spl_meaning.specs.Names.{Names, Sort, nothing_declared}
-use Rattle.spl_meaning.specs.Places.{item_words, array_words, where_own}
-use Rattle.spl_found.specs.OwnNames.{behind_declaration}
-use Rattle.spl_lists.proofs.NameWalks.{onward, onward_end}
-use Rattle.spl_sound.specs.Spelled.{source_of}
-use Rattle.spl_places.specs.ListedData.{Datum}
-use Rattle.spl_places.specs.Counters.{total_words}
+use Rattle.spl_sorts.specs.spl_meaning.Names.{Names, Sort, nothing_declared}
+use Rattle.spl_sorts.specs.spl_meaning.Places.{item_words, array_words, where_own}
+use Rattle.spl_initials.specs.spl_found.OwnNames.{behind_declaration}
+use Rattle.spl_initials.proofs.spl_lists_proofs.NameWalks.{onward, onward_end}
+use Rattle.spl_areas.specs.spl_sound.Spelled.{source_of}
+use Rattle.spl_initials.specs.spl_places.ListedData.{Datum}
+use Rattle.spl_initials.specs.spl_places.Counters.{total_words}
 use Rattle.spl_areas.specs.Gathered.{items_in, items_among}
 use Rattle.spl_globals.specs.declared.stored.Pass.{Pass}
 use Rattle.spl_globals.specs.declared.areas.Areas.{Areas}

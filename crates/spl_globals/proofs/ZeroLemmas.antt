@@ -3,7 +3,7 @@ use Rattle.std.proofs.Common.{◌≡◌, ℕ, zero, suc, Bool, true, false, nat_
 use Rattle.std.specs.Prelude.{if◌then◌else◌, replicate}
 use Rattle.std.specs.List.{slice_get}
 use Rattle.std.proofs.lemmas.Bool.Decides.{nat_tests}
-use Rattle.spl_meaning.specs.Runs.{zeros}
+use Rattle.spl_sorts.specs.spl_meaning.Runs.{zeros}
 use Rattle.spl_initials.specs.Memory.{memory_of}
 
 none_below : (a : ℕ) → nat_lt a 0 ≡ false

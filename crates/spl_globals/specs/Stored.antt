@@ -2,19 +2,19 @@
 use Rattle.std.specs.Prelude.{ℕ, ◌+◌, Bool, true, false, if◌then◌else◌, List, [], ◌∷◌, Option}
 use Rattle.spl_tree.specs.DeclarationTrees as decl
 use Rattle.spl_tree.specs.DeclarationTrees.{Heading, Declaration, Declarations, declarations}
-use Rattle.spl_meaning.specs.Names.{Names, find, nothing_declared, parameters, formals_of}
-use Rattle.spl_meaning.specs.Tables.{Source}
-use Rattle.spl_meaning.specs.Places.{item_words, array_words, put_cells, put_initials}
-use Rattle.spl_meaning.specs.Bodies.{primary_words, global_words, global_array_words}
-use Rattle.spl_meaning.specs.Runs.{global_address}
-use Rattle.spl_found.specs.OwnNames.{behind_declaration}
-use Rattle.spl_places.specs.declared.places.Area.{Area}
-use Rattle.spl_places.specs.declared.places.Area.TheVariants as area
-use Rattle.spl_places.specs.declared.places.Starts.{Starts}
-use Rattle.spl_places.specs.ListedData.{Datum}
-use Rattle.spl_places.specs.Counters.{total_words}
-use Rattle.spl_places.specs.Spots.{place_in, frame_starts}
-use Rattle.spl_places.specs.Programs.{unit_items}
+use Rattle.spl_sorts.specs.spl_meaning.Names.{Names, find, nothing_declared, parameters, formals_of}
+use Rattle.spl_sorts.specs.spl_meaning.Tables.{Source}
+use Rattle.spl_sorts.specs.spl_meaning.Places.{item_words, array_words, put_cells, put_initials}
+use Rattle.spl_sorts.specs.spl_meaning.Bodies.{primary_words, global_words, global_array_words}
+use Rattle.spl_sorts.specs.spl_meaning.Runs.{global_address}
+use Rattle.spl_initials.specs.spl_found.OwnNames.{behind_declaration}
+use Rattle.spl_initials.specs.spl_places.declared.places.Area.{Area}
+use Rattle.spl_initials.specs.spl_places.declared.places.Area.TheVariants as area
+use Rattle.spl_initials.specs.spl_places.declared.places.Starts.{Starts}
+use Rattle.spl_initials.specs.spl_places.ListedData.{Datum}
+use Rattle.spl_initials.specs.spl_places.Counters.{total_words}
+use Rattle.spl_initials.specs.spl_places.Spots.{place_in, frame_starts}
+use Rattle.spl_initials.specs.spl_places.Programs.{unit_items}
 use Rattle.spl_initials.specs.Cells.{cells_by, initials_by}
 use Rattle.spl_initials.specs.Lists.{found_of, starts_of}
 use Rattle.spl_areas.specs.Gathered.{items_under, items_in, items_among}

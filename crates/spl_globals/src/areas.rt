@@ -1,14 +1,14 @@
 //! Where the data of units stand.
 ghost use Rattle.std.specs.Prelude.{◌≡◌, ◌+◌, IfOk, map};
-ghost use Rattle.spl_meaning.specs.Bodies as bodies;
-ghost use Rattle.spl_sound.specs.Spelled.{source_of};
-ghost use Rattle.spl_places.specs.Programs.{NewInAll};
-ghost use Rattle.spl_places.specs.ListedData.{datum_of};
+ghost use Rattle.spl_sorts.specs.spl_meaning.Bodies as bodies;
+ghost use Rattle.spl_areas.specs.spl_sound.Spelled.{source_of};
+ghost use Rattle.spl_initials.specs.spl_places.Programs.{NewInAll};
+ghost use Rattle.spl_initials.specs.spl_places.ListedData.{datum_of};
 ghost use Rattle.spl_globals.specs.Stored.{first_areas, areas_of, words_of, behind_owns, behind_globals};
 
 use spl_areas::{all_globals, all_locals};
-use spl_depths::plus;
-use spl_places::{Datum, Part, total};
+use spl_initials::spl_depths::plus;
+use spl_initials::spl_places::{Datum, Part, total};
 use spl_tree::SplUnit;
 use std::alloc::{AllocError, Global};
 

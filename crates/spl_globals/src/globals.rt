@@ -1,11 +1,11 @@
 //! The initial data words of a program.
 ghost use Rattle.std.specs.Prelude.{◌≡◌, OnOk, IfOk, map, length, replicate};
-ghost use Rattle.spl_meaning.specs.Places.{put_cells, put_initials};
-ghost use Rattle.spl_meaning.specs.Bodies as bodies;
-ghost use Rattle.spl_meaning.specs.Bodies.{program_of};
-ghost use Rattle.spl_meaning.specs.Runs.{global_address, zeros};
-ghost use Rattle.spl_sound.specs.Spelled.{source_of};
-ghost use Rattle.spl_places.specs.Programs.{NewInAll};
+ghost use Rattle.spl_sorts.specs.spl_meaning.Places.{put_cells, put_initials};
+ghost use Rattle.spl_sorts.specs.spl_meaning.Bodies as bodies;
+ghost use Rattle.spl_sorts.specs.spl_meaning.Bodies.{program_of};
+ghost use Rattle.spl_sorts.specs.spl_meaning.Runs.{global_address, zeros};
+ghost use Rattle.spl_areas.specs.spl_sound.Spelled.{source_of};
+ghost use Rattle.spl_initials.specs.spl_places.Programs.{NewInAll};
 ghost use Rattle.spl_initials.specs.Memory.{memory_of};
 ghost use Rattle.spl_globals.specs.declared.stored.Pass.TheVariants as pass;
 ghost use Rattle.spl_globals.specs.Stored.{units_stored};

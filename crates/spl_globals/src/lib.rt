@@ -9,4 +9,6 @@ mod units;
 
 pub use areas::{Areas, behind_globals, behind_owns, first_areas};
 pub use globals::data_words;
+pub use spl_areas;
+pub use spl_initials::spl_places;
 pub use stored::Pass;

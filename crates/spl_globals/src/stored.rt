@@ -2,14 +2,14 @@
 ghost use Rattle.std.specs.Prelude.{◌≡◌, OnOk, map};
 ghost use Rattle.spl_tree.specs.DeclarationTrees as decl;
 ghost use Rattle.spl_tree.specs.Spells as view;
-ghost use Rattle.spl_meaning.specs.Names.{find};
+ghost use Rattle.spl_sorts.specs.spl_meaning.Names.{find};
 ghost use Rattle.spl_sorts.specs.Tables.{table_of};
-ghost use Rattle.spl_places.specs.ListedData.{datum_of};
+ghost use Rattle.spl_initials.specs.spl_places.ListedData.{datum_of};
 ghost use Rattle.spl_initials.specs.Memory.{memory_of};
 ghost use Rattle.spl_globals.specs.Stored.{list_stored};
 
+use spl_initials::spl_places::{Area, Datum, Starts};
 use spl_initials::{list_cells, list_initials};
-use spl_places::{Area, Datum, Starts};
 use spl_sorts::Table;
 use spl_tree::Decl;
 use std::alloc::{AllocError, Global};

@@ -1,13 +1,13 @@
 //! What is stored of units.
 ghost use Rattle.std.specs.Prelude.{◌≡◌, false, OnOk, IfOk, map};
-ghost use Rattle.spl_places.specs.declared.places.Area.TheVariants as area;
+ghost use Rattle.spl_initials.specs.spl_places.declared.places.Area.TheVariants as area;
 ghost use Rattle.spl_tree.specs.DeclarationTrees as decl;
 ghost use Rattle.spl_tree.specs.Spells as view;
-ghost use Rattle.spl_meaning.specs.Names.{find, nothing_declared};
+ghost use Rattle.spl_sorts.specs.spl_meaning.Names.{find, nothing_declared};
 ghost use Rattle.spl_sorts.specs.Tables.{table_of};
-ghost use Rattle.spl_sound.specs.Spelled.{source_of};
-ghost use Rattle.spl_places.specs.ListedData.{datum_of, list_data};
-ghost use Rattle.spl_places.specs.Programs.{unit_items};
+ghost use Rattle.spl_areas.specs.spl_sound.Spelled.{source_of};
+ghost use Rattle.spl_initials.specs.spl_places.ListedData.{datum_of, list_data};
+ghost use Rattle.spl_initials.specs.spl_places.Programs.{unit_items};
 ghost use Rattle.spl_initials.specs.Memory.{memory_of};
 ghost use Rattle.spl_globals.specs.Stored as stored;
 ghost use Rattle.spl_globals.specs.Stored.{globals_stored, unit_stored, units_stored, behind_unit};
@@ -15,7 +15,7 @@ ghost use Rattle.spl_globals.specs.Stored.{globals_stored, unit_stored, units_st
 use crate::areas::{Areas, behind_globals};
 use crate::owns::{nothing, owns_stored};
 use crate::stored::{Listing, Pass, list_stored};
-use spl_places::{Area, Datum, Starts, declarations};
+use spl_initials::spl_places::{Area, Datum, Starts, declarations};
 use spl_tree::{Decl, SplUnit};
 use std::alloc::{AllocError, Global};
 

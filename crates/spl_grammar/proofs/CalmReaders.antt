@@ -1,8 +1,8 @@
 -- Where as many constructs may be open as there are tokens, nothing is too deep.
 use Rattle.std.proofs.Common.{ℕ, zero, suc, ◌≤◌, Bool, true, false, List, [], ◌∷◌, length, if◌then◌else◌, arith}
-use Rattle.spl_tree.specs.declared.symbols.Symbol.{Symbol}
-use Rattle.spl_tree.specs.Symbols.{Lexeme}
-use Rattle.spl_tree.specs.OpenExpressions.{Part}
+use Rattle.spl_reading.specs.spl_tree.declared.symbols.Symbol.{Symbol}
+use Rattle.spl_reading.specs.spl_tree.Symbols.{Lexeme}
+use Rattle.spl_reading.specs.spl_tree.OpenExpressions.{Part}
 use Rattle.spl_reading.specs.Readers.{Outcome, Got, Bad, Deep, Parser, and_then, followed, pure, refuse, by_symbol, take, expect, same_symbol, turns, repeat}
 use Rattle.spl_grammar.specs.Answers.{Explains}
 use Rattle.spl_grammar.specs.Answers as an

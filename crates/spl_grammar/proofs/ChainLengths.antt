@@ -1,12 +1,12 @@
 -- No step of a chain goes back.
 use Rattle.std.proofs.Common.{ℕ, ◌≤◌, List, length, arith}
-use Rattle.spl_tree.specs.Symbols.{Lexeme}
-use Rattle.spl_tree.specs.Parts.{Part}
-use Rattle.spl_tree.specs.OpenStatements as op
-use Rattle.spl_tree.specs.OpenStatements.{StatementStep}
+use Rattle.spl_reading.specs.spl_tree.Symbols.{Lexeme}
+use Rattle.spl_reading.specs.spl_tree.Parts.{Part}
+use Rattle.spl_reading.specs.spl_tree.OpenStatements as op
+use Rattle.spl_reading.specs.spl_tree.OpenStatements.{StatementStep}
 use Rattle.spl_grammar.proofs.PartTokens as pt
-use Rattle.spl_tree.specs.OpenExpressions as oe
-use Rattle.spl_tree.specs.OpenExpressions.{Part, Step, Opens, OpensAt}
+use Rattle.spl_reading.specs.spl_tree.OpenExpressions as oe
+use Rattle.spl_reading.specs.spl_tree.OpenExpressions.{Part, Step, Opens, OpensAt}
 use Rattle.spl_grammar.proofs.DeclarationTokens.{declaration_step_bound}
 use Rattle.spl_grammar.proofs.StatementTokens.{no_longer, no_longer_list, no_longer_step, shorter_condition, shorter_expression, shorter_reference, shorter_target, shorter_test}
 use Rattle.spl_grammar.proofs.ChainBounds.{operators_bound}

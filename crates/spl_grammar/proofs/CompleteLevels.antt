@@ -1,13 +1,13 @@
 -- What is spelled as a part of each level is read, given the claims for its own parts.
 use Rattle.std.proofs.Common.{ℕ, suc, ◌+◌, ◌≡◌, ◌==◌, ◌&&◌, ◌/◌, not, ◌<◌, Bool, true, false, if◌then◌else◌, List, [], ◌∷◌, length, Option, Some, None, refl, arith, ap, sym, inr}
 use Rattle.std.proofs.lemmas.Bool.Decides.{nat_tests}
-use Rattle.spl_tree.specs.declared.names_and_places.At.{At}
-use Rattle.spl_tree.specs.declared.symbols.Symbol.{Symbol}
-use Rattle.spl_tree.specs.declared.symbols.Symbol.TheVariants as s
-use Rattle.spl_tree.specs.Symbols.{Lexeme, Is}
-use Rattle.spl_tree.specs.Operators.{Form, comparison, other, compared, bytes_of, binds, is_sign, sign_number, is_number, shift_of}
-use Rattle.spl_tree.specs.Expressions as g
-use Rattle.spl_tree.specs.Trees as tree
+use Rattle.spl_reading.specs.spl_tree.declared.names_and_places.At.{At}
+use Rattle.spl_reading.specs.spl_tree.declared.symbols.Symbol.{Symbol}
+use Rattle.spl_reading.specs.spl_tree.declared.symbols.Symbol.TheVariants as s
+use Rattle.spl_reading.specs.spl_tree.Symbols.{Lexeme, Is}
+use Rattle.spl_reading.specs.spl_tree.Operators.{Form, comparison, other, compared, bytes_of, binds, is_sign, sign_number, is_number, shift_of}
+use Rattle.spl_reading.specs.spl_tree.Expressions as g
+use Rattle.spl_reading.specs.spl_tree.Trees as tree
 use Rattle.spl_reading.specs.Readers.{Got, same_symbol, symbol_number}
 use Rattle.spl_reading.specs.ReadExpressions.{Found, operator_of, constant, counted, signed_by_next, first, join, shifted, bytes, turn, turn_by, unary}
 use Rattle.spl_grammar.proofs.LocalExpressions.{takes_turn, local_level, local_unary}

@@ -1,16 +1,16 @@
 -- What is spelled as a statement is read, unless it is too deep before its end.
 use Rattle.std.proofs.Common.{ℕ, zero, suc, ◌≡◌, ◌≤◌, true, false, List, [], ◌∷◌, ◌++◌, length, refl, arith, ap, nat_lt, append_assoc}
 use Rattle.std.proofs.lemmas.Bool.Decides.{nat_tests}
-use Rattle.spl_tree.specs.declared.names_and_places.At.{At}
-use Rattle.spl_tree.specs.declared.symbols.Symbol.TheVariants as s
-use Rattle.spl_tree.specs.declared.symbols.Reserved.TheVariants as w
-use Rattle.spl_tree.specs.Symbols.{Lexeme, Is}
-use Rattle.spl_tree.specs.Expressions as g
-use Rattle.spl_tree.specs.Trees.{Tree, Trees, trees}
-use Rattle.spl_tree.specs.StatementTrees as stat
-use Rattle.spl_tree.specs.StatementTrees.{closed, statements}
-use Rattle.spl_tree.specs.Statements as st
-use Rattle.spl_tree.specs.Statements.{class_of, is_relation}
+use Rattle.spl_reading.specs.spl_tree.declared.names_and_places.At.{At}
+use Rattle.spl_reading.specs.spl_tree.declared.symbols.Symbol.TheVariants as s
+use Rattle.spl_reading.specs.spl_tree.declared.symbols.Reserved.TheVariants as w
+use Rattle.spl_reading.specs.spl_tree.Symbols.{Lexeme, Is}
+use Rattle.spl_reading.specs.spl_tree.Expressions as g
+use Rattle.spl_reading.specs.spl_tree.Trees.{Tree, Trees, trees}
+use Rattle.spl_reading.specs.spl_tree.StatementTrees as stat
+use Rattle.spl_reading.specs.spl_tree.StatementTrees.{closed, statements}
+use Rattle.spl_reading.specs.spl_tree.Statements as st
+use Rattle.spl_reading.specs.spl_tree.Statements.{class_of, is_relation}
 use Rattle.spl_reading.specs.Readers.{Got, Parser, refuse, repeat, same_symbol, symbol_number, reserved_number}
 use Rattle.spl_reading.specs.ReadExpressions.{is, enter}
 use Rattle.spl_reading.specs.ReadStatements.{stepped, go_name, more_statements, statement_list, labelled, named_statement, block, else_behind, if_statement, while_statement, do_statement, for_statement, case_statement, go_statement, effect_statement, by_word, statement_by, statement_step, statement}

@@ -1,13 +1,13 @@
 -- What is spelled as a declaration, a body or a unit is read, unless it is too deep before its end.
 use Rattle.std.proofs.Common.{ℕ, ◌≡◌, ◌||◌, not, Bool, true, false, List, [], ◌∷◌, ◌++◌, length, Option, refl, arith, ap, sym, append_assoc, append-nil, map, ◌≢◌}
-use Rattle.spl_tree.specs.declared.expressions.Kind.{Kind}
-use Rattle.spl_tree.specs.declared.symbols.Symbol.TheVariants as s
-use Rattle.spl_tree.specs.declared.symbols.Reserved.TheVariants as w
-use Rattle.spl_tree.specs.Symbols.{Lexeme, Is}
-use Rattle.spl_tree.specs.DeclarationTrees as decl
-use Rattle.spl_tree.specs.DeclarationTrees.{Placed}
-use Rattle.spl_tree.specs.Declarations as dl
-use Rattle.spl_tree.specs.Declarations.{Separated, one, more, Options, both, fit, option_of, no_options, can_be_body, is_subroutine, pointers}
+use Rattle.spl_reading.specs.spl_tree.declared.expressions.Kind.{Kind}
+use Rattle.spl_reading.specs.spl_tree.declared.symbols.Symbol.TheVariants as s
+use Rattle.spl_reading.specs.spl_tree.declared.symbols.Reserved.TheVariants as w
+use Rattle.spl_reading.specs.spl_tree.Symbols.{Lexeme, Is}
+use Rattle.spl_reading.specs.spl_tree.DeclarationTrees as decl
+use Rattle.spl_reading.specs.spl_tree.DeclarationTrees.{Placed}
+use Rattle.spl_reading.specs.spl_tree.Declarations as dl
+use Rattle.spl_reading.specs.spl_tree.Declarations.{Separated, one, more, Options, both, fit, option_of, no_options, can_be_body, is_subroutine, pointers}
 use Rattle.spl_reading.specs.Readers.{Outcome, Got, Parser, ◌>>=◌, pure, refuse, repeat, same_symbol, symbol_number, reserved_number}
 use Rattle.spl_reading.specs.ReadExpressions.{is}
 use Rattle.spl_reading.specs.ReadDeclarations.{more_parts, separated, name, names, item, shape, array, with_values, more_arrays, arrays, more_terms, equal, by_token, option_among, option_behind, more_options, options, parameters, spec_names, spec_behind, spec_by, more_specs, heading_tail, heading, BodyRead, array_data, item_data, behind_heading, procedure, subroutine, owned_by, typed_by, typed, by_word, declaration_by, declaration, declares, more_declarations, declaration_list, body, next_segment, of_segment}
@@ -20,10 +20,10 @@ use Rattle.spl_grammar.proofs.StatementTokens as tk
 use Rattle.spl_grammar.proofs.LocalDeclarations.{takes_more_declarations, local_body}
 use Rattle.spl_grammar.proofs.LocalReaders.{local_refuse, IsLocal}
 use Rattle.spl_grammar.specs.Following as af
-use Rattle.spl_tree.specs.StatementTrees as stat
-use Rattle.spl_tree.specs.Statements as st
-use Rattle.spl_tree.specs.Units.{segment_at, Unit_of, unit}
-use Rattle.spl_tree.specs.DeclarationTrees.{declarations, UnitTree}
+use Rattle.spl_reading.specs.spl_tree.StatementTrees as stat
+use Rattle.spl_reading.specs.spl_tree.Statements as st
+use Rattle.spl_reading.specs.spl_tree.Units.{segment_at, Unit_of, unit}
+use Rattle.spl_reading.specs.spl_tree.DeclarationTrees.{declarations, UnitTree}
 use Rattle.spl_grammar.proofs.FirstTokens.{Begins, by_is}
 pub use Rattle.spl_grammar.proofs.DeclarationFronts.{FirstIs, by_first, items_first, heading_of, specs_no_open, values_no_open, heading_read, no_start, both_false, reference_first, target_first, effect_first, statement_first, body_first, single_no_begin, start_goes, start_option, statement_declares, list_first, not_after, ends_of, body_pair, option_goes, fit_list, fit_one, no_forward, heading_first, choose_then, decl_state, after_all, unit_tree_of, first_is}
 

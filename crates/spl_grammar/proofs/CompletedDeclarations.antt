@@ -1,26 +1,26 @@
 -- Each open prefix of a declaration and of a unit can be completed, one production at a time.
 use Rattle.std.proofs.Common.{ℕ, ◌≡◌, ◌<◌, ◌≤◌, ◌||◌, ◌&&◌, not, Bool, true, false, List, [], ◌∷◌, ◌++◌, length, codes, Some, refl, arith, ap, ap₂, sym, ◌∙◌, ◌⊎◌, inl, inr, append_assoc}
-use Rattle.spl_tree.specs.declared.expressions.Kind.{Kind}
-use Rattle.spl_tree.specs.declared.expressions.Kind.TheVariants as kind
-use Rattle.spl_tree.specs.declared.symbols.Symbol.TheVariants as s
-use Rattle.spl_tree.specs.declared.symbols.Reserved.{Reserved}
-use Rattle.spl_tree.specs.declared.symbols.Reserved.TheVariants as wd
-use Rattle.spl_tree.specs.Symbols.{Lexeme, Is}
-use Rattle.spl_tree.specs.Operators.{is_sign}
-use Rattle.spl_tree.specs.Expressions as g
-use Rattle.spl_tree.specs.Trees as tree
-use Rattle.spl_tree.specs.StatementTrees as stat
-use Rattle.spl_tree.specs.Statements as st
-use Rattle.spl_tree.specs.DeclarationTrees as decl
-use Rattle.spl_tree.specs.DeclarationTrees.{Placed, UnitTree}
-use Rattle.spl_tree.specs.Declarations as dl
-use Rattle.spl_tree.specs.Declarations.{Options, both, fit, option_of, no_options, is_subroutine, can_be_body}
-use Rattle.spl_tree.specs.Units as un
-use Rattle.spl_tree.specs.Units.{segment_at}
-use Rattle.spl_tree.specs.OpenDeclarations as od
-use Rattle.spl_tree.specs.OpenDeclarations.{DeclarationStep, begins_block}
-use Rattle.spl_tree.specs.Parts as part
-use Rattle.spl_tree.specs.Parts.{Part}
+use Rattle.spl_reading.specs.spl_tree.declared.expressions.Kind.{Kind}
+use Rattle.spl_reading.specs.spl_tree.declared.expressions.Kind.TheVariants as kind
+use Rattle.spl_reading.specs.spl_tree.declared.symbols.Symbol.TheVariants as s
+use Rattle.spl_reading.specs.spl_tree.declared.symbols.Reserved.{Reserved}
+use Rattle.spl_reading.specs.spl_tree.declared.symbols.Reserved.TheVariants as wd
+use Rattle.spl_reading.specs.spl_tree.Symbols.{Lexeme, Is}
+use Rattle.spl_reading.specs.spl_tree.Operators.{is_sign}
+use Rattle.spl_reading.specs.spl_tree.Expressions as g
+use Rattle.spl_reading.specs.spl_tree.Trees as tree
+use Rattle.spl_reading.specs.spl_tree.StatementTrees as stat
+use Rattle.spl_reading.specs.spl_tree.Statements as st
+use Rattle.spl_reading.specs.spl_tree.DeclarationTrees as decl
+use Rattle.spl_reading.specs.spl_tree.DeclarationTrees.{Placed, UnitTree}
+use Rattle.spl_reading.specs.spl_tree.Declarations as dl
+use Rattle.spl_reading.specs.spl_tree.Declarations.{Options, both, fit, option_of, no_options, is_subroutine, can_be_body}
+use Rattle.spl_reading.specs.spl_tree.Units as un
+use Rattle.spl_reading.specs.spl_tree.Units.{segment_at}
+use Rattle.spl_reading.specs.spl_tree.OpenDeclarations as od
+use Rattle.spl_reading.specs.spl_tree.OpenDeclarations.{DeclarationStep, begins_block}
+use Rattle.spl_reading.specs.spl_tree.Parts as part
+use Rattle.spl_reading.specs.spl_tree.Parts.{Part}
 use Rattle.spl_grammar.proofs.MovedParts.{Swap, same, behind, along, swap_length, Moved, move_constant}
 use Rattle.spl_grammar.proofs.MovedStatements.{move_statements}
 use Rattle.spl_grammar.proofs.MovedDeclarations.{Some_of, move_name, move_names, move_kind, move_result, move_own, move_item, move_array, move_terms, move_equal, move_parameters, move_values, move_specs, move_options, move_heading, is_body, still_no_block, SomeDeclaration, SomeDeclarations, SomeBody, move_declaration, move_declarations, test_at, list_at}

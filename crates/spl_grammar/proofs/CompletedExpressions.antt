@@ -1,15 +1,15 @@
 -- Each open prefix of an expression or a condition can be completed, one production at a time.
 use Rattle.std.proofs.Common.{ℕ, suc, ◌≡◌, ◌==◌, ◌&&◌, ◌<◌, ◌≤◌, Bool, true, false, List, [], ◌∷◌, length, Some, None, refl, arith, ◌⊎◌, inl, inr}
 use Rattle.std.proofs.lemmas.Bool.Decides.{nat_tests}
-use Rattle.spl_tree.specs.declared.symbols.Symbol.TheVariants as s
-use Rattle.spl_tree.specs.Symbols.{Lexeme, Is}
-use Rattle.spl_tree.specs.Operators.{is_sign, shift_of}
-use Rattle.spl_tree.specs.Expressions as g
-use Rattle.spl_tree.specs.OpenExpressions as op
-use Rattle.spl_tree.specs.OpenExpressions.{Step}
-use Rattle.spl_tree.specs.OpenDeclarations.{DeclarationStep}
-use Rattle.spl_tree.specs.Parts as part
-use Rattle.spl_tree.specs.Parts.{Part}
+use Rattle.spl_reading.specs.spl_tree.declared.symbols.Symbol.TheVariants as s
+use Rattle.spl_reading.specs.spl_tree.Symbols.{Lexeme, Is}
+use Rattle.spl_reading.specs.spl_tree.Operators.{is_sign, shift_of}
+use Rattle.spl_reading.specs.spl_tree.Expressions as g
+use Rattle.spl_reading.specs.spl_tree.OpenExpressions as op
+use Rattle.spl_reading.specs.spl_tree.OpenExpressions.{Step}
+use Rattle.spl_reading.specs.spl_tree.OpenDeclarations.{DeclarationStep}
+use Rattle.spl_reading.specs.spl_tree.Parts as part
+use Rattle.spl_reading.specs.spl_tree.Parts.{Part}
 use Rattle.spl_grammar.proofs.MovedParts.{Swap, same, behind, along, swap_longer, move, move_constant, move_primary, move_arguments}
 use Rattle.spl_grammar.proofs.CompletedParts.{any_level, any_unary, any_primary, any_constant, any_arguments, Inside, free, minus, a_constant, an_operand, a_primary, some_arguments, a_reference, a_source, an_effect, a_test, a_statement, some_statements, a_mark, inside_below, Refilled, filled, Completed, around, open_at, token, a_name, a_number, a_shift, one_level, one_expression, not_begun}
 use Rattle.spl_grammar.proofs.CompletedStatements.{statement_completed}

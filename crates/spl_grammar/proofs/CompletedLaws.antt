@@ -1,7 +1,7 @@
 -- Each open prefix can be completed, said with the list of tokens in front of what is left.
 use Rattle.std.proofs.Common.{ℕ, zero, suc, ◌+◌, ◌-◌, ◌≡◌, List, [], ◌∷◌, ◌++◌, length, take, refl, arith, ap}
-use Rattle.spl_tree.specs.Symbols.{Lexeme}
-use Rattle.spl_tree.specs.Parts.{Part}
+use Rattle.spl_reading.specs.spl_tree.Symbols.{Lexeme}
+use Rattle.spl_reading.specs.spl_tree.Parts.{Part}
 use Rattle.spl_grammar.specs.Answers.{Completes}
 use Rattle.spl_grammar.proofs.MovedParts.{Swap, same, behind, swap_longer}
 use Rattle.spl_grammar.proofs.CompletedParts.{Whole, Completed}

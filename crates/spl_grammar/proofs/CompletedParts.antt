@@ -1,25 +1,25 @@
 -- Each open prefix of a part can be completed: the words for it, and the tokens with which a part that has not begun is whole.
 use Rattle.std.proofs.Common.{ℕ, zero, suc, ◌≡◌, ◌==◌, ◌≤◌, ◌||◌, not, Bool, true, false, List, [], ◌∷◌, ◌++◌, length, codes, Option, Some, None, refl, arith, ap, append_assoc}
 use Rattle.std.proofs.lemmas.Bool.Decides.{nat_tests}
-use Rattle.spl_tree.specs.declared.names_and_places.At.{At}
-use Rattle.spl_tree.specs.declared.symbols.Symbol.{Symbol}
-use Rattle.spl_tree.specs.declared.symbols.Symbol.TheVariants as s
-use Rattle.spl_tree.specs.declared.symbols.Reserved.{Reserved}
-use Rattle.spl_tree.specs.declared.symbols.Reserved.TheVariants as w
-use Rattle.spl_tree.specs.Symbols.{Lexeme, Is}
-use Rattle.spl_tree.specs.Operators.{Form}
-use Rattle.spl_tree.specs.Expressions as g
-use Rattle.spl_tree.specs.Trees as tree
-use Rattle.spl_tree.specs.StatementTrees as stat
-use Rattle.spl_tree.specs.Statements as st
-use Rattle.spl_tree.specs.declared.expressions.Kind.{Kind}
-use Rattle.spl_tree.specs.DeclarationTrees as decl
-use Rattle.spl_tree.specs.DeclarationTrees.{Placed, UnitTree}
-use Rattle.spl_tree.specs.Declarations as dl
-use Rattle.spl_tree.specs.Declarations.{Options, is_subroutine}
-use Rattle.spl_tree.specs.Units.{Unit_of}
-use Rattle.spl_tree.specs.Parts as part
-use Rattle.spl_tree.specs.Parts.{Part}
+use Rattle.spl_reading.specs.spl_tree.declared.names_and_places.At.{At}
+use Rattle.spl_reading.specs.spl_tree.declared.symbols.Symbol.{Symbol}
+use Rattle.spl_reading.specs.spl_tree.declared.symbols.Symbol.TheVariants as s
+use Rattle.spl_reading.specs.spl_tree.declared.symbols.Reserved.{Reserved}
+use Rattle.spl_reading.specs.spl_tree.declared.symbols.Reserved.TheVariants as w
+use Rattle.spl_reading.specs.spl_tree.Symbols.{Lexeme, Is}
+use Rattle.spl_reading.specs.spl_tree.Operators.{Form}
+use Rattle.spl_reading.specs.spl_tree.Expressions as g
+use Rattle.spl_reading.specs.spl_tree.Trees as tree
+use Rattle.spl_reading.specs.spl_tree.StatementTrees as stat
+use Rattle.spl_reading.specs.spl_tree.Statements as st
+use Rattle.spl_reading.specs.spl_tree.declared.expressions.Kind.{Kind}
+use Rattle.spl_reading.specs.spl_tree.DeclarationTrees as decl
+use Rattle.spl_reading.specs.spl_tree.DeclarationTrees.{Placed, UnitTree}
+use Rattle.spl_reading.specs.spl_tree.Declarations as dl
+use Rattle.spl_reading.specs.spl_tree.Declarations.{Options, is_subroutine}
+use Rattle.spl_reading.specs.spl_tree.Units.{Unit_of}
+use Rattle.spl_reading.specs.spl_tree.Parts as part
+use Rattle.spl_reading.specs.spl_tree.Parts.{Part}
 use Rattle.spl_grammar.proofs.MovedParts.{Swap, same, behind, swap_length, swap_longer, SomeConstant}
 use Rattle.spl_grammar.proofs.MovedDeclarations.{Some_of, SomeDeclarations, SomeBody}
 use Rattle.spl_grammar.proofs.MovedStatements.{SomeReference, SomeSource, SomeEffect, SomeTest, SomeStatements}

@@ -1,17 +1,17 @@
 -- Each open prefix of a statement can be completed, one production at a time.
 use Rattle.std.proofs.Common.{ℕ, ◌≡◌, true, false, List, [], ◌∷◌, Some, None, refl}
-use Rattle.spl_tree.specs.declared.symbols.Symbol.TheVariants as s
-use Rattle.spl_tree.specs.declared.symbols.Reserved.TheVariants as wd
-use Rattle.spl_tree.specs.Symbols.{Lexeme}
-use Rattle.spl_tree.specs.Expressions as g
-use Rattle.spl_tree.specs.Trees.{Tree}
-use Rattle.spl_tree.specs.StatementTrees as stat
-use Rattle.spl_tree.specs.StatementTrees.{closed}
-use Rattle.spl_tree.specs.Statements as st
-use Rattle.spl_tree.specs.Statements.{class_of}
-use Rattle.spl_tree.specs.OpenStatements as op
-use Rattle.spl_tree.specs.OpenStatements.{StatementStep}
-use Rattle.spl_tree.specs.Parts.{Part}
+use Rattle.spl_reading.specs.spl_tree.declared.symbols.Symbol.TheVariants as s
+use Rattle.spl_reading.specs.spl_tree.declared.symbols.Reserved.TheVariants as wd
+use Rattle.spl_reading.specs.spl_tree.Symbols.{Lexeme}
+use Rattle.spl_reading.specs.spl_tree.Expressions as g
+use Rattle.spl_reading.specs.spl_tree.Trees.{Tree}
+use Rattle.spl_reading.specs.spl_tree.StatementTrees as stat
+use Rattle.spl_reading.specs.spl_tree.StatementTrees.{closed}
+use Rattle.spl_reading.specs.spl_tree.Statements as st
+use Rattle.spl_reading.specs.spl_tree.Statements.{class_of}
+use Rattle.spl_reading.specs.spl_tree.OpenStatements as op
+use Rattle.spl_reading.specs.spl_tree.OpenStatements.{StatementStep}
+use Rattle.spl_reading.specs.spl_tree.Parts.{Part}
 use Rattle.spl_grammar.proofs.MovedParts.{same, behind, along, move_constant, move_arguments}
 use Rattle.spl_grammar.proofs.MovedStatements.{SomeExpression, SomeCondition, SomeReference, SomeSource, SomeEffect, SomeTest, SomeStatements, move_expression, move_condition, move_reference, move_target, move_test, move_stepped, still_closed, move_statement, move_statements}
 use Rattle.spl_grammar.proofs.CompletedParts.{AnyLevel, AnyStatement, Inside, free, a_constant, some_arguments, a_reference, a_source, an_effect, a_test, a_statement, some_statements, filled, Completed, around, open_at, token, word, a_name, a_number, a_class, one_level, one_expression}

@@ -1,19 +1,19 @@
 -- Each open prefix of a declaration and of a unit can be completed, along the whole chain.
 use Rattle.std.proofs.Common.{ℕ, ◌≡◌, ◌≤◌, Bool, true, List, [], ◌∷◌, length, refl, ◌⊎◌, inl, inr}
-use Rattle.spl_tree.specs.declared.symbols.Symbol.TheVariants as s
-use Rattle.spl_tree.specs.declared.symbols.Reserved.{Reserved}
-use Rattle.spl_tree.specs.declared.symbols.Reserved.TheVariants as wd
-use Rattle.spl_tree.specs.Symbols.{Lexeme}
-use Rattle.spl_tree.specs.Expressions as g
-use Rattle.spl_tree.specs.Statements as st
-use Rattle.spl_tree.specs.Declarations as dl
-use Rattle.spl_tree.specs.Declarations.{Options, fit}
-use Rattle.spl_tree.specs.OpenExpressions as op
-use Rattle.spl_tree.specs.OpenStatements.{StatementStep}
-use Rattle.spl_tree.specs.OpenDeclarations as od
-use Rattle.spl_tree.specs.OpenDeclarations.{DeclarationStep}
-use Rattle.spl_tree.specs.Parts as part
-use Rattle.spl_tree.specs.Parts.{Part}
+use Rattle.spl_reading.specs.spl_tree.declared.symbols.Symbol.TheVariants as s
+use Rattle.spl_reading.specs.spl_tree.declared.symbols.Reserved.{Reserved}
+use Rattle.spl_reading.specs.spl_tree.declared.symbols.Reserved.TheVariants as wd
+use Rattle.spl_reading.specs.spl_tree.Symbols.{Lexeme}
+use Rattle.spl_reading.specs.spl_tree.Expressions as g
+use Rattle.spl_reading.specs.spl_tree.Statements as st
+use Rattle.spl_reading.specs.spl_tree.Declarations as dl
+use Rattle.spl_reading.specs.spl_tree.Declarations.{Options, fit}
+use Rattle.spl_reading.specs.spl_tree.OpenExpressions as op
+use Rattle.spl_reading.specs.spl_tree.OpenStatements.{StatementStep}
+use Rattle.spl_reading.specs.spl_tree.OpenDeclarations as od
+use Rattle.spl_reading.specs.spl_tree.OpenDeclarations.{DeclarationStep}
+use Rattle.spl_reading.specs.spl_tree.Parts as part
+use Rattle.spl_reading.specs.spl_tree.Parts.{Part}
 use Rattle.spl_grammar.proofs.MovedParts.{same}
 use Rattle.spl_grammar.proofs.CompletedParts.{raw, Inside, a_constant, a_statement, some_statements, a_mark, filled, Completed, has_token, token, word, a_name, a_number}
 use Rattle.spl_grammar.proofs.CompletedExpressions.{completed}

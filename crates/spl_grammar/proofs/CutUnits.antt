@@ -1,11 +1,11 @@
 -- A unit that was read is spelled by the tokens up to the end of the text. The reader looks at none behind them.
 use Rattle.std.proofs.Common.{ℕ, ◌+◌, ◌≡◌, ◌<◌, Bool, true, false, if◌then◌else◌, List, [], ◌∷◌, ◌++◌, length, map, refl, arith, ap, sym, ◌∙◌, ◌⊎◌, inl, inr}
-use Rattle.spl_tree.specs.declared.symbols.Symbol.TheVariants as s
-use Rattle.spl_tree.specs.declared.symbols.Reserved.TheVariants as w
-use Rattle.spl_tree.specs.Symbols.{Lexeme}
-use Rattle.spl_tree.specs.Parts as part
-use Rattle.spl_tree.specs.DeclarationTrees.{UnitTree}
-use Rattle.spl_tree.specs.Units.{Unit_of}
+use Rattle.spl_reading.specs.spl_tree.declared.symbols.Symbol.TheVariants as s
+use Rattle.spl_reading.specs.spl_tree.declared.symbols.Reserved.TheVariants as w
+use Rattle.spl_reading.specs.spl_tree.Symbols.{Lexeme}
+use Rattle.spl_reading.specs.spl_tree.Parts as part
+use Rattle.spl_reading.specs.spl_tree.DeclarationTrees.{UnitTree}
+use Rattle.spl_reading.specs.spl_tree.Units.{Unit_of}
 use Rattle.spl_reading.specs.Readers.{Outcome, Got, Bad, Deep, Parser, followed, and_then, ◌>>=◌, pure, refuse, take, by_symbol, expect, same_symbol}
 use Rattle.spl_reading.specs.ReadStatements.{statement, statement_list}
 use Rattle.spl_reading.specs.ReadDeclarations.{declaration_list, body, next_segment, of_segment}

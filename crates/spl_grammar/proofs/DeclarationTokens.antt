@@ -1,17 +1,17 @@
 -- The tokens of declarations and of their parts.
 use Rattle.std.proofs.Common.{ℕ, ◌<◌, ◌≤◌, Bool, List, length, Option, arith}
-use Rattle.spl_tree.specs.declared.expressions.Kind.{Kind}
-use Rattle.spl_tree.specs.Symbols.{Lexeme}
-use Rattle.spl_tree.specs.Expressions as g
-use Rattle.spl_tree.specs.Trees as tree
-use Rattle.spl_tree.specs.StatementTrees as stat
-use Rattle.spl_tree.specs.DeclarationTrees as decl
-use Rattle.spl_tree.specs.DeclarationTrees.{Placed}
-use Rattle.spl_tree.specs.Declarations as dl
-use Rattle.spl_tree.specs.Declarations.{Separated, one, more, Options}
-use Rattle.spl_tree.specs.Parts.{Part}
-use Rattle.spl_tree.specs.OpenDeclarations as od
-use Rattle.spl_tree.specs.OpenDeclarations.{DeclarationStep}
+use Rattle.spl_reading.specs.spl_tree.declared.expressions.Kind.{Kind}
+use Rattle.spl_reading.specs.spl_tree.Symbols.{Lexeme}
+use Rattle.spl_reading.specs.spl_tree.Expressions as g
+use Rattle.spl_reading.specs.spl_tree.Trees as tree
+use Rattle.spl_reading.specs.spl_tree.StatementTrees as stat
+use Rattle.spl_reading.specs.spl_tree.DeclarationTrees as decl
+use Rattle.spl_reading.specs.spl_tree.DeclarationTrees.{Placed}
+use Rattle.spl_reading.specs.spl_tree.Declarations as dl
+use Rattle.spl_reading.specs.spl_tree.Declarations.{Separated, one, more, Options}
+use Rattle.spl_reading.specs.spl_tree.Parts.{Part}
+use Rattle.spl_reading.specs.spl_tree.OpenDeclarations as od
+use Rattle.spl_reading.specs.spl_tree.OpenDeclarations.{DeclarationStep}
 use Rattle.spl_grammar.proofs.PartTokens as pt
 use Rattle.spl_grammar.proofs.StatementTokens as tk
 

@@ -1,14 +1,14 @@
 -- What is open behind a chain of declarations is read, or it is too deep before. Declarations open nothing themselves, so
 -- that only a chain into their statements can have more open; other steps lead to no more than is open around them.
 use Rattle.std.proofs.Common.{ℕ, ◌+◌, ◌/◌, ◌≡◌, ◌<◌, ◌≤◌, Bool, List, [], length, refl, arith}
-use Rattle.spl_tree.specs.Symbols.{Lexeme}
-use Rattle.spl_tree.specs.DeclarationTrees as decl
-use Rattle.spl_tree.specs.OpenExpressions as op
-use Rattle.spl_tree.specs.OpenExpressions.{limit, nesting}
-use Rattle.spl_tree.specs.OpenDeclarations as od
-use Rattle.spl_tree.specs.OpenDeclarations.{DeclarationStep, is_begin, begins_block}
-use Rattle.spl_tree.specs.Parts as part
-use Rattle.spl_tree.specs.Parts.{Part}
+use Rattle.spl_reading.specs.spl_tree.Symbols.{Lexeme}
+use Rattle.spl_reading.specs.spl_tree.DeclarationTrees as decl
+use Rattle.spl_reading.specs.spl_tree.OpenExpressions as op
+use Rattle.spl_reading.specs.spl_tree.OpenExpressions.{limit, nesting}
+use Rattle.spl_reading.specs.spl_tree.OpenDeclarations as od
+use Rattle.spl_reading.specs.spl_tree.OpenDeclarations.{DeclarationStep, is_begin, begins_block}
+use Rattle.spl_reading.specs.spl_tree.Parts as part
+use Rattle.spl_reading.specs.spl_tree.Parts.{Part}
 use Rattle.spl_reading.specs.Readers.{repeat}
 use Rattle.spl_reading.specs.ReadStatements.{statement_list, statement}
 use Rattle.spl_reading.specs.ReadDeclarations.{declaration, more_declarations, declaration_list, body, unit}

@@ -1,15 +1,15 @@
 -- Where more is open than may be, reading a declaration, a body or a unit is too deep, one production at a time: only
 -- those that hold a statement can be.
 use Rattle.std.proofs.Common.{ℕ, ◌≡◌, ◌≢◌, ◌||◌, not, ◌≤◌, Bool, true, false, List, [], ◌∷◌, ◌++◌, length, refl, arith, ap}
-use Rattle.spl_tree.specs.declared.symbols.Symbol.{Symbol}
-use Rattle.spl_tree.specs.declared.symbols.Symbol.TheVariants as s
-use Rattle.spl_tree.specs.declared.symbols.Reserved.TheVariants as wd
-use Rattle.spl_tree.specs.Symbols.{Lexeme, Is}
-use Rattle.spl_tree.specs.StatementTrees as stat
-use Rattle.spl_tree.specs.DeclarationTrees as decl
-use Rattle.spl_tree.specs.Declarations as dl
-use Rattle.spl_tree.specs.Declarations.{Options, no_options, is_subroutine}
-use Rattle.spl_tree.specs.OpenDeclarations.{is_begin, begins_block}
+use Rattle.spl_reading.specs.spl_tree.declared.symbols.Symbol.{Symbol}
+use Rattle.spl_reading.specs.spl_tree.declared.symbols.Symbol.TheVariants as s
+use Rattle.spl_reading.specs.spl_tree.declared.symbols.Reserved.TheVariants as wd
+use Rattle.spl_reading.specs.spl_tree.Symbols.{Lexeme, Is}
+use Rattle.spl_reading.specs.spl_tree.StatementTrees as stat
+use Rattle.spl_reading.specs.spl_tree.DeclarationTrees as decl
+use Rattle.spl_reading.specs.spl_tree.Declarations as dl
+use Rattle.spl_reading.specs.spl_tree.Declarations.{Options, no_options, is_subroutine}
+use Rattle.spl_reading.specs.spl_tree.OpenDeclarations.{is_begin, begins_block}
 use Rattle.spl_reading.specs.Readers.{Outcome, Got, Bad, Parser, and_then, followed, pure, refuse, by_symbol, repeat, turns, same_symbol, symbol_number, reserved_number}
 use Rattle.spl_reading.specs.ReadExpressions.{is}
 use Rattle.spl_reading.specs.ReadStatements.{more_statements, statement_list, by_word, statement_by, statement_step, statement}

@@ -1,23 +1,23 @@
 -- Where more is open than may be, reading a statement is too deep, one production at a time.
 use Rattle.std.proofs.Common.{ℕ, zero, suc, ◌+◌, ◌/◌, ◌≡◌, ◌||◌, ◌<◌, ◌≤◌, Bool, true, false, if◌then◌else◌, List, [], ◌∷◌, ◌++◌, length, None, refl, arith, ap, ◌∙◌, ◌⊎◌, inl, inr, nat_lt}
 use Rattle.std.proofs.lemmas.Bool.Decides.{nat_tests}
-use Rattle.spl_tree.specs.declared.symbols.Symbol.{Symbol}
-use Rattle.spl_tree.specs.declared.symbols.Symbol.TheVariants as s
-use Rattle.spl_tree.specs.declared.symbols.Reserved.{Reserved}
-use Rattle.spl_tree.specs.declared.symbols.Reserved.TheVariants as wd
-use Rattle.spl_tree.specs.Symbols.{Lexeme, Is}
-use Rattle.spl_tree.specs.Operators.{is_sign}
-use Rattle.spl_tree.specs.Trees.{Tree}
-use Rattle.spl_tree.specs.StatementTrees as stat
-use Rattle.spl_tree.specs.StatementTrees.{closed}
-use Rattle.spl_tree.specs.declared.names_and_places.At.{At}
-use Rattle.spl_tree.specs.Statements as st
-use Rattle.spl_tree.specs.Statements.{is_relation}
-use Rattle.spl_tree.specs.OpenExpressions.{limit}
-use Rattle.spl_tree.specs.OpenStatements as op
-use Rattle.spl_tree.specs.OpenStatements.{StatementStep}
-use Rattle.spl_tree.specs.Parts as of_kind
-use Rattle.spl_tree.specs.Parts.{Part}
+use Rattle.spl_reading.specs.spl_tree.declared.symbols.Symbol.{Symbol}
+use Rattle.spl_reading.specs.spl_tree.declared.symbols.Symbol.TheVariants as s
+use Rattle.spl_reading.specs.spl_tree.declared.symbols.Reserved.{Reserved}
+use Rattle.spl_reading.specs.spl_tree.declared.symbols.Reserved.TheVariants as wd
+use Rattle.spl_reading.specs.spl_tree.Symbols.{Lexeme, Is}
+use Rattle.spl_reading.specs.spl_tree.Operators.{is_sign}
+use Rattle.spl_reading.specs.spl_tree.Trees.{Tree}
+use Rattle.spl_reading.specs.spl_tree.StatementTrees as stat
+use Rattle.spl_reading.specs.spl_tree.StatementTrees.{closed}
+use Rattle.spl_reading.specs.spl_tree.declared.names_and_places.At.{At}
+use Rattle.spl_reading.specs.spl_tree.Statements as st
+use Rattle.spl_reading.specs.spl_tree.Statements.{is_relation}
+use Rattle.spl_reading.specs.spl_tree.OpenExpressions.{limit}
+use Rattle.spl_reading.specs.spl_tree.OpenStatements as op
+use Rattle.spl_reading.specs.spl_tree.OpenStatements.{StatementStep}
+use Rattle.spl_reading.specs.spl_tree.Parts as of_kind
+use Rattle.spl_reading.specs.spl_tree.Parts.{Part}
 use Rattle.spl_reading.specs.Readers.{Bad, Parser, and_then, followed, pure, refuse, by_symbol, take, expect, same_symbol, symbol_number}
 use Rattle.spl_reading.specs.ReadExpressions.{is, operator_of, enter, arguments, within, expression, condition, whole}
 use Rattle.spl_reading.specs.ReadStatements.{indexed, reference, source_behind, source, while_or_until, move, scan, effect, begins_effect, if_test, value, stepped, more_statements, statement_list, labelled, with_arguments, named_statement, block, else_behind, if_statement, while_statement, do_statement, for_statement, case_statement, effect_statement, by_word, statement_by, statement_step, statement}

@@ -1,12 +1,12 @@
 -- What is open behind a chain is read, or it is too deep before: one step of the chain after another.
 use Rattle.std.proofs.Common.{ℕ, ◌+◌, ◌/◌, ◌≡◌, ◌≤◌, Bool, false, List, length, Option, None, arith}
-use Rattle.spl_tree.specs.declared.names_and_places.At.{At}
-use Rattle.spl_tree.specs.Symbols.{Lexeme}
-use Rattle.spl_tree.specs.Expressions as g
-use Rattle.spl_tree.specs.OpenExpressions as op
-use Rattle.spl_tree.specs.OpenExpressions.{Step, limit, nesting}
-use Rattle.spl_tree.specs.Parts as of_kind
-use Rattle.spl_tree.specs.Parts.{Part}
+use Rattle.spl_reading.specs.spl_tree.declared.names_and_places.At.{At}
+use Rattle.spl_reading.specs.spl_tree.Symbols.{Lexeme}
+use Rattle.spl_reading.specs.spl_tree.Expressions as g
+use Rattle.spl_reading.specs.spl_tree.OpenExpressions as op
+use Rattle.spl_reading.specs.spl_tree.OpenExpressions.{Step, limit, nesting}
+use Rattle.spl_reading.specs.spl_tree.Parts as of_kind
+use Rattle.spl_reading.specs.spl_tree.Parts.{Part}
 use Rattle.spl_reading.specs.ReadExpressions.{level, whole, expression, within}
 use Rattle.spl_grammar.proofs.PartTokens as pt
 use Rattle.spl_grammar.proofs.CompleteLevels.{not_three}

@@ -1,14 +1,14 @@
 -- No part of a declaration has the end of the text in it, and a unit ends with it.
 use Rattle.std.proofs.Common.{ℕ, Bool, List, Option, refl}
-use Rattle.spl_tree.specs.declared.expressions.Kind.{Kind}
-use Rattle.spl_tree.specs.Symbols.{Lexeme}
-use Rattle.spl_tree.specs.Trees as tree
-use Rattle.spl_tree.specs.StatementTrees as stat
-use Rattle.spl_tree.specs.DeclarationTrees as decl
-use Rattle.spl_tree.specs.DeclarationTrees.{Placed, UnitTree}
-use Rattle.spl_tree.specs.Declarations as dl
-use Rattle.spl_tree.specs.Declarations.{Separated, one, more, Options}
-use Rattle.spl_tree.specs.Units.{Unit_of, unit}
+use Rattle.spl_reading.specs.spl_tree.declared.expressions.Kind.{Kind}
+use Rattle.spl_reading.specs.spl_tree.Symbols.{Lexeme}
+use Rattle.spl_reading.specs.spl_tree.Trees as tree
+use Rattle.spl_reading.specs.spl_tree.StatementTrees as stat
+use Rattle.spl_reading.specs.spl_tree.DeclarationTrees as decl
+use Rattle.spl_reading.specs.spl_tree.DeclarationTrees.{Placed, UnitTree}
+use Rattle.spl_reading.specs.spl_tree.Declarations as dl
+use Rattle.spl_reading.specs.spl_tree.Declarations.{Separated, one, more, Options}
+use Rattle.spl_reading.specs.spl_tree.Units.{Unit_of, unit}
 use Rattle.spl_grammar.specs.Ends.{Ended, last}
 use Rattle.spl_grammar.proofs.EndedParts.{token, ended_constant, ended_statement, ended_statements}
 

@@ -1,15 +1,15 @@
 -- No part of an expression or a statement has the end of the text in it: where what follows ends, so does the list from
 -- the part on.
 use Rattle.std.proofs.Common.{ℕ, ◌≡◌, Bool, false, List, ◌∷◌, Option, refl, ap, ◌∙◌}
-use Rattle.spl_tree.specs.declared.names_and_places.At.{At}
-use Rattle.spl_tree.specs.declared.symbols.Symbol.{Symbol}
-use Rattle.spl_tree.specs.Symbols.{Lexeme, Is}
-use Rattle.spl_tree.specs.Operators.{Form}
-use Rattle.spl_tree.specs.Expressions as g
-use Rattle.spl_tree.specs.Trees as tree
-use Rattle.spl_tree.specs.Trees.{Tree}
-use Rattle.spl_tree.specs.StatementTrees as stat
-use Rattle.spl_tree.specs.Statements as st
+use Rattle.spl_reading.specs.spl_tree.declared.names_and_places.At.{At}
+use Rattle.spl_reading.specs.spl_tree.declared.symbols.Symbol.{Symbol}
+use Rattle.spl_reading.specs.spl_tree.Symbols.{Lexeme, Is}
+use Rattle.spl_reading.specs.spl_tree.Operators.{Form}
+use Rattle.spl_reading.specs.spl_tree.Expressions as g
+use Rattle.spl_reading.specs.spl_tree.Trees as tree
+use Rattle.spl_reading.specs.spl_tree.Trees.{Tree}
+use Rattle.spl_reading.specs.spl_tree.StatementTrees as stat
+use Rattle.spl_reading.specs.spl_tree.Statements as st
 use Rattle.spl_grammar.specs.Ends.{is_stop, Ended, before}
 
 -- a token that is not the end

@@ -1,7 +1,7 @@
 -- A loop whose turns take tokens is explained turn by turn.
 use Rattle.std.proofs.Common.{ℕ, zero, suc, ◌<◌, Bool, true, false, if◌then◌else◌, List, length, arith}
-use Rattle.spl_tree.specs.Symbols.{Lexeme}
-use Rattle.spl_tree.specs.Parts.{Part}
+use Rattle.spl_reading.specs.spl_tree.Symbols.{Lexeme}
+use Rattle.spl_reading.specs.spl_tree.Parts.{Part}
 use Rattle.spl_reading.specs.Readers.{Outcome, Got, Parser, and_then, followed, pure, turns, repeat}
 use Rattle.spl_grammar.specs.Answers.{Explains, got, bad, deep}
 use Rattle.spl_grammar.proofs.LocalReaders as lr

@@ -2,10 +2,10 @@
 -- no more
 -- open than may be; and where it is too deep, the tokens up to and with that one open more.
 use Rattle.std.proofs.Common.{ℕ, ◌≡◌, ◌<◌, ◌≤◌, Bool, true, false, if◌then◌else◌, List, [], ◌∷◌, Option, Some, None, refl}
-use Rattle.spl_tree.specs.declared.symbols.Symbol.{Symbol}
-use Rattle.spl_tree.specs.declared.symbols.Symbol.TheVariants as s
-use Rattle.spl_tree.specs.Symbols.{Lexeme, Is}
-use Rattle.spl_tree.specs.OpenExpressions.{Part, Step, Opens, here, inner, OpensAt, nesting}
+use Rattle.spl_reading.specs.spl_tree.declared.symbols.Symbol.{Symbol}
+use Rattle.spl_reading.specs.spl_tree.declared.symbols.Symbol.TheVariants as s
+use Rattle.spl_reading.specs.spl_tree.Symbols.{Lexeme, Is}
+use Rattle.spl_reading.specs.spl_tree.OpenExpressions.{Part, Step, Opens, here, inner, OpensAt, nesting}
 use Rattle.spl_reading.specs.Readers.{Outcome, Got, Bad, Deep, Parser, and_then, followed, pure, refuse, by_symbol, take, allowed, same_symbol, expect, named_number, numbered}
 use Rattle.spl_reading.proofs.SameSymbol.{same_is}
 pub use Rattle.spl_grammar.specs.Answers.{Explains, got, bad, deep}

@@ -1,14 +1,14 @@
 -- What the first token of a part can be.
 use Rattle.std.proofs.Common.{ℕ, suc, ◌≡◌, ◌==◌, ◌≤◌, Bool, true, false, List, ◌∷◌, Option, Some, refl, arith, ap, ◌∙◌}
 use Rattle.std.proofs.lemmas.Bool.Decides.{nat_tests}
-use Rattle.spl_tree.specs.declared.names_and_places.At.{At}
-use Rattle.spl_tree.specs.declared.symbols.Symbol.{Symbol}
-use Rattle.spl_tree.specs.declared.symbols.Symbol.TheVariants as s
-use Rattle.spl_tree.specs.Symbols.{Lexeme, Is}
-use Rattle.spl_tree.specs.Operators.{Form, is_sign, is_number}
-use Rattle.spl_tree.specs.Expressions as g
-use Rattle.spl_tree.specs.Statements.{is_relation}
-use Rattle.spl_tree.specs.Trees as tree
+use Rattle.spl_reading.specs.spl_tree.declared.names_and_places.At.{At}
+use Rattle.spl_reading.specs.spl_tree.declared.symbols.Symbol.{Symbol}
+use Rattle.spl_reading.specs.spl_tree.declared.symbols.Symbol.TheVariants as s
+use Rattle.spl_reading.specs.spl_tree.Symbols.{Lexeme, Is}
+use Rattle.spl_reading.specs.spl_tree.Operators.{Form, is_sign, is_number}
+use Rattle.spl_reading.specs.spl_tree.Expressions as g
+use Rattle.spl_reading.specs.spl_tree.Statements.{is_relation}
+use Rattle.spl_reading.specs.spl_tree.Trees as tree
 use Rattle.spl_reading.specs.ReadExpressions.{is, operator_of}
 use Rattle.spl_reading.specs.Readers.{same_symbol, symbol_number}
 

@@ -1,10 +1,10 @@
 -- Each reader of expressions depends on no token behind the one that it stops at.
 use Rattle.std.proofs.Common.{ℕ, zero, suc, length, Bool, true, false, List, [], ◌∷◌, Option, Some, None}
-use Rattle.spl_tree.specs.declared.names_and_places.At.{At}
-use Rattle.spl_tree.specs.declared.symbols.Symbol.{Symbol}
-use Rattle.spl_tree.specs.declared.symbols.Symbol.TheVariants as s
-use Rattle.spl_tree.specs.Symbols.{Lexeme}
-use Rattle.spl_tree.specs.Trees as tree
+use Rattle.spl_reading.specs.spl_tree.declared.names_and_places.At.{At}
+use Rattle.spl_reading.specs.spl_tree.declared.symbols.Symbol.{Symbol}
+use Rattle.spl_reading.specs.spl_tree.declared.symbols.Symbol.TheVariants as s
+use Rattle.spl_reading.specs.spl_tree.Symbols.{Lexeme}
+use Rattle.spl_reading.specs.spl_tree.Trees as tree
 use Rattle.spl_reading.specs.Readers.{Parser}
 use Rattle.spl_reading.specs.ReadExpressions.{Found, constant, constant_by, signed_by, bits, field, negative_by, opening, enter, enclosed, more_arguments, arguments, named, addressed, primary_by, inverse, primary, unary_step, counted, signed_by_next, first, join, shifted, bytes, turn_by, turn, level, whole, unary, expression, within, condition, begins}
 use Rattle.spl_grammar.proofs.LocalReaders.{IsLocal, local_pure, local_refuse, local_take, local_place, local_then, local_symbol, local_if, local_allowed, local_repeat, locals, Takes, Taking, takes_take, takes_then, takes_allowed, taking, taking_none, taking_if, taking_symbol}

@@ -1,16 +1,16 @@
 -- A part of a declaration depends on no token behind it.
 use Rattle.std.proofs.Common.{ℕ, ◌≡◌, ◌<◌, ◌||◌, not, Bool, true, false, List, [], ◌∷◌, length, Option, refl, arith, ap, sym, ◌∙◌}
-use Rattle.spl_tree.specs.declared.expressions.Kind.{Kind}
-use Rattle.spl_tree.specs.Symbols.{Lexeme}
-use Rattle.spl_tree.specs.Expressions as g
-use Rattle.spl_tree.specs.Trees as tree
-use Rattle.spl_tree.specs.StatementTrees as stat
-use Rattle.spl_tree.specs.Statements as st
-use Rattle.spl_tree.specs.DeclarationTrees as decl
-use Rattle.spl_tree.specs.DeclarationTrees.{Placed}
-use Rattle.spl_tree.specs.Declarations as dl
-use Rattle.spl_tree.specs.Declarations.{Separated, Options, can_be_body, is_subroutine}
-use Rattle.spl_tree.specs.OpenDeclarations.{is_begin, begins_block}
+use Rattle.spl_reading.specs.spl_tree.declared.expressions.Kind.{Kind}
+use Rattle.spl_reading.specs.spl_tree.Symbols.{Lexeme}
+use Rattle.spl_reading.specs.spl_tree.Expressions as g
+use Rattle.spl_reading.specs.spl_tree.Trees as tree
+use Rattle.spl_reading.specs.spl_tree.StatementTrees as stat
+use Rattle.spl_reading.specs.spl_tree.Statements as st
+use Rattle.spl_reading.specs.spl_tree.DeclarationTrees as decl
+use Rattle.spl_reading.specs.spl_tree.DeclarationTrees.{Placed}
+use Rattle.spl_reading.specs.spl_tree.Declarations as dl
+use Rattle.spl_reading.specs.spl_tree.Declarations.{Separated, Options, can_be_body, is_subroutine}
+use Rattle.spl_reading.specs.spl_tree.OpenDeclarations.{is_begin, begins_block}
 use Rattle.spl_grammar.proofs.PartTokens as pt
 use Rattle.spl_grammar.proofs.StatementTokens as tk
 use Rattle.spl_grammar.proofs.MovedParts.{Swap, same, behind, along, swap_length, Moved, move_constant}

@@ -1,10 +1,10 @@
 -- A part depends on no token behind it: with other tokens there it stands as well.
 use Rattle.std.proofs.Common.{ℕ, ◌≡◌, ◌<◌, ◌≤◌, ◌+◌, Bool, false, List, ◌∷◌, length, Option, refl, arith, ap, sym, ◌∙◌, ◌⊎◌, inl, inr}
-use Rattle.spl_tree.specs.declared.names_and_places.At.{At}
-use Rattle.spl_tree.specs.Symbols.{Lexeme}
-use Rattle.spl_tree.specs.Operators.{Form, other, form_of_call}
-use Rattle.spl_tree.specs.Expressions as g
-use Rattle.spl_tree.specs.Trees as tree
+use Rattle.spl_reading.specs.spl_tree.declared.names_and_places.At.{At}
+use Rattle.spl_reading.specs.spl_tree.Symbols.{Lexeme}
+use Rattle.spl_reading.specs.spl_tree.Operators.{Form, other, form_of_call}
+use Rattle.spl_reading.specs.spl_tree.Expressions as g
+use Rattle.spl_reading.specs.spl_tree.Trees as tree
 use Rattle.spl_grammar.specs.Answers.{Agrees}
 use Rattle.spl_grammar.proofs.LocalReaders as lr
 use Rattle.spl_grammar.proofs.PartTokens as pt

@@ -1,10 +1,10 @@
 -- A part of a statement depends on no token behind it.
 use Rattle.std.proofs.Common.{◌≡◌, Bool, true, List, ◌∷◌, refl}
-use Rattle.spl_tree.specs.Symbols.{Lexeme}
-use Rattle.spl_tree.specs.Trees.{Tree}
-use Rattle.spl_tree.specs.StatementTrees as stat
-use Rattle.spl_tree.specs.StatementTrees.{closed}
-use Rattle.spl_tree.specs.Statements as st
+use Rattle.spl_reading.specs.spl_tree.Symbols.{Lexeme}
+use Rattle.spl_reading.specs.spl_tree.Trees.{Tree}
+use Rattle.spl_reading.specs.spl_tree.StatementTrees as stat
+use Rattle.spl_reading.specs.spl_tree.StatementTrees.{closed}
+use Rattle.spl_reading.specs.spl_tree.Statements as st
 use Rattle.spl_grammar.proofs.MovedParts.{Swap, same, behind, along, Moved, move, move_constant, move_arguments}
 
 -- Some part that is spelled; of a statement, one that an ELSE can follow where it could follow the given one.

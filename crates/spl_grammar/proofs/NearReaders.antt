@@ -1,8 +1,8 @@
 -- Reading a part comes to what is spelled there, unless it is too deep before the part's end.
 use Rattle.std.proofs.Common.{ℕ, suc, ◌≡◌, ◌<◌, ◌≤◌, Bool, true, false, List, ◌∷◌, length, Option, Some, if◌then◌else◌, ap, ◌∙◌, refl, arith, ◌⊎◌, inl, inr, rules}
-use Rattle.spl_tree.specs.declared.symbols.Symbol.{Symbol}
-use Rattle.spl_tree.specs.declared.symbols.Symbol.TheVariants as s
-use Rattle.spl_tree.specs.Symbols.{Lexeme, Is}
+use Rattle.spl_reading.specs.spl_tree.declared.symbols.Symbol.{Symbol}
+use Rattle.spl_reading.specs.spl_tree.declared.symbols.Symbol.TheVariants as s
+use Rattle.spl_reading.specs.spl_tree.Symbols.{Lexeme, Is}
 use Rattle.spl_reading.specs.Readers.{Outcome, Got, Bad, Parser, and_then, followed, pure, refuse, by_symbol, take, at_place, allowed, same_symbol, expect, numbered, named_number, turns, repeat}
 use Rattle.spl_grammar.proofs.LocalReaders.{Taking, turns_enough}
 pub use Rattle.spl_grammar.specs.Answers.{DeepBefore, deep}

@@ -1,10 +1,10 @@
 -- Each part of an expression has a token.
 use Rattle.std.proofs.Common.{ℕ, ◌<◌, Bool, List, length, Option, arith}
-use Rattle.spl_tree.specs.declared.names_and_places.At.{At}
-use Rattle.spl_tree.specs.Symbols.{Lexeme}
-use Rattle.spl_tree.specs.Operators.{Form}
-use Rattle.spl_tree.specs.Expressions as g
-use Rattle.spl_tree.specs.Trees as tree
+use Rattle.spl_reading.specs.spl_tree.declared.names_and_places.At.{At}
+use Rattle.spl_reading.specs.spl_tree.Symbols.{Lexeme}
+use Rattle.spl_reading.specs.spl_tree.Operators.{Form}
+use Rattle.spl_reading.specs.spl_tree.Expressions as g
+use Rattle.spl_reading.specs.spl_tree.Trees as tree
 
 -- a constant takes a token
 pub shorter_constant : {v : tree.Constant} {ts rest : List Lexeme} → g.Constant v ts rest → length rest < length ts

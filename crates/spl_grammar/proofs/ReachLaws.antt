@@ -1,12 +1,12 @@
 -- A chain goes no further than the reader: with what it can be completed with, the part would be read to its end.
 use Rattle.std.proofs.Common.{ℕ, ◌+◌, ◌/◌, ◌≡◌, ◌<◌, ◌≤◌, true, false, Bool, List, [], ◌∷◌, ◌++◌, length, None, refl, arith, ap, ◌⊎◌, inl, inr, nat_lt}
 use Rattle.std.proofs.lemmas.Bool.Decides.{nat_tests}
-use Rattle.spl_tree.specs.declared.symbols.Symbol.TheVariants as s
-use Rattle.spl_tree.specs.Symbols.{Lexeme}
-use Rattle.spl_tree.specs.OpenExpressions as op
-use Rattle.spl_tree.specs.OpenExpressions.{Opens, limit, nesting}
-use Rattle.spl_tree.specs.Parts as of_kind
-use Rattle.spl_tree.specs.Parts.{Part}
+use Rattle.spl_reading.specs.spl_tree.declared.symbols.Symbol.TheVariants as s
+use Rattle.spl_reading.specs.spl_tree.Symbols.{Lexeme}
+use Rattle.spl_reading.specs.spl_tree.OpenExpressions as op
+use Rattle.spl_reading.specs.spl_tree.OpenExpressions.{Opens, limit, nesting}
+use Rattle.spl_reading.specs.spl_tree.Parts as of_kind
+use Rattle.spl_reading.specs.spl_tree.Parts.{Part}
 use Rattle.spl_reading.specs.Readers.{Outcome, Got, Bad, Deep, Parser}
 use Rattle.spl_reading.specs.ReadExpressions.{expression, condition}
 use Rattle.spl_reading.specs.ReadStatements.{statement}

@@ -1,21 +1,21 @@
 -- What is read as options or as a heading is spelled; a fault comes behind tokens that open it.
 use Rattle.std.proofs.Common.{ℕ, ◌≡◌, ◌≤◌, Bool, true, false, List, [], ◌∷◌, ◌++◌, Option, Some, None, refl, ap, sym, ◌∙◌}
-use Rattle.spl_tree.specs.declared.expressions.Kind.{Kind}
-use Rattle.spl_tree.specs.declared.expressions.Kind.TheVariants as kind
-use Rattle.spl_tree.specs.declared.symbols.Symbol.{Symbol}
-use Rattle.spl_tree.specs.declared.symbols.Symbol.TheVariants as s
-use Rattle.spl_tree.specs.declared.symbols.Reserved.{Reserved}
-use Rattle.spl_tree.specs.declared.symbols.Reserved.TheVariants as w
-use Rattle.spl_tree.specs.Symbols.{Lexeme, Is}
-use Rattle.spl_tree.specs.Parts as part
-use Rattle.spl_tree.specs.Parts.{Part}
-use Rattle.spl_tree.specs.OpenDeclarations as od
-use Rattle.spl_tree.specs.OpenExpressions as op
-use Rattle.spl_tree.specs.OpenExpressions.{Opens, here, inner, OpensAt, nesting}
-use Rattle.spl_tree.specs.DeclarationTrees as decl
-use Rattle.spl_tree.specs.DeclarationTrees.{Placed}
-use Rattle.spl_tree.specs.Declarations as dl
-use Rattle.spl_tree.specs.Declarations.{Options, both, fit, option_of, no_options}
+use Rattle.spl_reading.specs.spl_tree.declared.expressions.Kind.{Kind}
+use Rattle.spl_reading.specs.spl_tree.declared.expressions.Kind.TheVariants as kind
+use Rattle.spl_reading.specs.spl_tree.declared.symbols.Symbol.{Symbol}
+use Rattle.spl_reading.specs.spl_tree.declared.symbols.Symbol.TheVariants as s
+use Rattle.spl_reading.specs.spl_tree.declared.symbols.Reserved.{Reserved}
+use Rattle.spl_reading.specs.spl_tree.declared.symbols.Reserved.TheVariants as w
+use Rattle.spl_reading.specs.spl_tree.Symbols.{Lexeme, Is}
+use Rattle.spl_reading.specs.spl_tree.Parts as part
+use Rattle.spl_reading.specs.spl_tree.Parts.{Part}
+use Rattle.spl_reading.specs.spl_tree.OpenDeclarations as od
+use Rattle.spl_reading.specs.spl_tree.OpenExpressions as op
+use Rattle.spl_reading.specs.spl_tree.OpenExpressions.{Opens, here, inner, OpensAt, nesting}
+use Rattle.spl_reading.specs.spl_tree.DeclarationTrees as decl
+use Rattle.spl_reading.specs.spl_tree.DeclarationTrees.{Placed}
+use Rattle.spl_reading.specs.spl_tree.Declarations as dl
+use Rattle.spl_reading.specs.spl_tree.Declarations.{Options, both, fit, option_of, no_options}
 use Rattle.spl_reading.specs.Readers.{◌>>=◌, pure, take, repeat, by_symbol}
 use Rattle.spl_reading.specs.ReadExpressions.{is}
 use Rattle.spl_reading.specs.ReadDeclarations.{names, by_token, option_among, option_behind, more_options, options, parameters, spec_names, spec_behind, spec_by, more_specs, heading_tail, heading}

@@ -1,16 +1,16 @@
 -- What is read as a constant or an operand is spelled; a fault comes behind tokens that open it.
 use Rattle.std.proofs.Common.{ℕ, zero, suc, ◌+◌, ◌≡◌, ◌==◌, ◌<◌, ◌≤◌, Bool, true, false, if◌then◌else◌, List, [], ◌∷◌, ◌++◌, length, Option, Some, None, refl, arith, ap, nat_lt, append_assoc}
 use Rattle.std.proofs.lemmas.Bool.Decides.{nat_tests}
-use Rattle.spl_tree.specs.declared.names_and_places.At.{At}
-use Rattle.spl_tree.specs.declared.expressions.Kind.{Kind}
-use Rattle.spl_tree.specs.declared.symbols.Symbol.{Symbol}
-use Rattle.spl_tree.specs.declared.symbols.Symbol.TheVariants as s
-use Rattle.spl_tree.specs.Symbols.{Lexeme, Is}
-use Rattle.spl_tree.specs.Operators.{Form, other, form_of_call, is_sign}
-use Rattle.spl_tree.specs.Expressions as g
-use Rattle.spl_tree.specs.OpenExpressions as op
-use Rattle.spl_tree.specs.OpenExpressions.{Part, Step, Opens, here, inner, OpensAt, limit, nesting}
-use Rattle.spl_tree.specs.Trees as tree
+use Rattle.spl_reading.specs.spl_tree.declared.names_and_places.At.{At}
+use Rattle.spl_reading.specs.spl_tree.declared.expressions.Kind.{Kind}
+use Rattle.spl_reading.specs.spl_tree.declared.symbols.Symbol.{Symbol}
+use Rattle.spl_reading.specs.spl_tree.declared.symbols.Symbol.TheVariants as s
+use Rattle.spl_reading.specs.spl_tree.Symbols.{Lexeme, Is}
+use Rattle.spl_reading.specs.spl_tree.Operators.{Form, other, form_of_call, is_sign}
+use Rattle.spl_reading.specs.spl_tree.Expressions as g
+use Rattle.spl_reading.specs.spl_tree.OpenExpressions as op
+use Rattle.spl_reading.specs.spl_tree.OpenExpressions.{Part, Step, Opens, here, inner, OpensAt, limit, nesting}
+use Rattle.spl_reading.specs.spl_tree.Trees as tree
 use Rattle.spl_grammar.proofs.PartTokens as pt
 use Rattle.spl_reading.specs.Readers.{Deep, Parser, and_then, followed, ◌>>=◌, ◌>>◌, by_symbol, pure, refuse, take, at_place, allowed, repeat, turns, expect}
 use Rattle.spl_reading.specs.ReadExpressions.{Found, plain, is, constant, constant_by, signed_by, bits, field, negative_by, enter, opening, enclosed, more_arguments, arguments, named, addressed, primary_by, inverse, primary, unary_step}

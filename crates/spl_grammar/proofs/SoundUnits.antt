@@ -1,21 +1,21 @@
 -- What is read as a body or a unit is spelled; a fault comes behind tokens that open it, with the nesting.
 use Rattle.std.proofs.Common.{ℕ, ◌+◌, ◌≡◌, ◌≤◌, Bool, true, false, List, [], ◌∷◌, map, refl, arith, ap, sym, ◌∙◌}
-use Rattle.spl_tree.specs.declared.symbols.Symbol.{Symbol}
-use Rattle.spl_tree.specs.declared.symbols.Symbol.TheVariants as s
-use Rattle.spl_tree.specs.declared.symbols.Reserved.TheVariants as w
-use Rattle.spl_tree.specs.Symbols.{Lexeme, Is}
-use Rattle.spl_tree.specs.Parts as part
-use Rattle.spl_tree.specs.OpenDeclarations as od
-use Rattle.spl_tree.specs.OpenDeclarations.{is_begin, begins_block}
-use Rattle.spl_tree.specs.OpenExpressions as op
-use Rattle.spl_tree.specs.OpenExpressions.{nesting}
-use Rattle.spl_tree.specs.StatementTrees as stat
-use Rattle.spl_tree.specs.Statements as st
-use Rattle.spl_tree.specs.DeclarationTrees as decl
-use Rattle.spl_tree.specs.DeclarationTrees.{UnitTree, declarations}
-use Rattle.spl_tree.specs.Declarations as dl
-use Rattle.spl_tree.specs.Declarations.{can_be_body, is_subroutine}
-use Rattle.spl_tree.specs.Units.{segment_at, Unit_of, unit}
+use Rattle.spl_reading.specs.spl_tree.declared.symbols.Symbol.{Symbol}
+use Rattle.spl_reading.specs.spl_tree.declared.symbols.Symbol.TheVariants as s
+use Rattle.spl_reading.specs.spl_tree.declared.symbols.Reserved.TheVariants as w
+use Rattle.spl_reading.specs.spl_tree.Symbols.{Lexeme, Is}
+use Rattle.spl_reading.specs.spl_tree.Parts as part
+use Rattle.spl_reading.specs.spl_tree.OpenDeclarations as od
+use Rattle.spl_reading.specs.spl_tree.OpenDeclarations.{is_begin, begins_block}
+use Rattle.spl_reading.specs.spl_tree.OpenExpressions as op
+use Rattle.spl_reading.specs.spl_tree.OpenExpressions.{nesting}
+use Rattle.spl_reading.specs.spl_tree.StatementTrees as stat
+use Rattle.spl_reading.specs.spl_tree.Statements as st
+use Rattle.spl_reading.specs.spl_tree.DeclarationTrees as decl
+use Rattle.spl_reading.specs.spl_tree.DeclarationTrees.{UnitTree, declarations}
+use Rattle.spl_reading.specs.spl_tree.Declarations as dl
+use Rattle.spl_reading.specs.spl_tree.Declarations.{can_be_body, is_subroutine}
+use Rattle.spl_reading.specs.spl_tree.Units.{segment_at, Unit_of, unit}
 use Rattle.spl_reading.specs.Readers.{Parser, followed, and_then, ◌>>=◌, pure, refuse, take, expect, same_symbol, symbol_number, reserved_number}
 use Rattle.spl_reading.specs.ReadExpressions.{is}
 use Rattle.spl_reading.specs.ReadStatements.{statement, statement_list}

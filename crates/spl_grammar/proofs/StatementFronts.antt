@@ -1,19 +1,19 @@
 -- What is spelled at the front of a statement is read: references, targets, effects, calls.
 use Rattle.std.proofs.Common.{ℕ, ◌-◌, ◌≡◌, Bool, true, false, if◌then◌else◌, List, [], ◌∷◌, refl, arith, ap, ◌∙◌, inl, inr}
-use Rattle.spl_tree.specs.declared.names_and_places.At.{At}
-use Rattle.spl_tree.specs.declared.symbols.Symbol.{Symbol}
-use Rattle.spl_tree.specs.declared.symbols.Symbol.TheVariants as s
-use Rattle.spl_tree.specs.declared.symbols.Reserved.{Reserved}
-use Rattle.spl_tree.specs.declared.symbols.Reserved.TheVariants as w
-use Rattle.spl_tree.specs.Symbols.{Lexeme, Is}
-use Rattle.spl_tree.specs.Operators.{binds}
-use Rattle.spl_tree.specs.Expressions as g
-use Rattle.spl_tree.specs.Trees as tree
-use Rattle.spl_tree.specs.Trees.{Tree, Trees, trees}
-use Rattle.spl_tree.specs.StatementTrees as stat
-use Rattle.spl_tree.specs.StatementTrees.{closed, statements}
-use Rattle.spl_tree.specs.Statements as st
-use Rattle.spl_tree.specs.Statements.{class_of, is_relation}
+use Rattle.spl_reading.specs.spl_tree.declared.names_and_places.At.{At}
+use Rattle.spl_reading.specs.spl_tree.declared.symbols.Symbol.{Symbol}
+use Rattle.spl_reading.specs.spl_tree.declared.symbols.Symbol.TheVariants as s
+use Rattle.spl_reading.specs.spl_tree.declared.symbols.Reserved.{Reserved}
+use Rattle.spl_reading.specs.spl_tree.declared.symbols.Reserved.TheVariants as w
+use Rattle.spl_reading.specs.spl_tree.Symbols.{Lexeme, Is}
+use Rattle.spl_reading.specs.spl_tree.Operators.{binds}
+use Rattle.spl_reading.specs.spl_tree.Expressions as g
+use Rattle.spl_reading.specs.spl_tree.Trees as tree
+use Rattle.spl_reading.specs.spl_tree.Trees.{Tree, Trees, trees}
+use Rattle.spl_reading.specs.spl_tree.StatementTrees as stat
+use Rattle.spl_reading.specs.spl_tree.StatementTrees.{closed, statements}
+use Rattle.spl_reading.specs.spl_tree.Statements as st
+use Rattle.spl_reading.specs.spl_tree.Statements.{class_of, is_relation}
 use Rattle.spl_reading.specs.Readers.{Outcome, Got, Parser, by_symbol, pure, refuse, same_symbol, symbol_number, reserved_number}
 use Rattle.spl_reading.specs.ReadExpressions.{is, operator_of, enclosed, within, expression, condition}
 use Rattle.spl_reading.specs.ReadStatements.{indexed, reference, source_behind, source, while_or_until, move, scan, effect, begins_effect, if_test, value, assigned, field_assigned, behind_reference, is_single, with_arguments, named_statement, address_assigned, statement_by, statement_step}

@@ -1,8 +1,8 @@
 -- What follows from the laws of the readers of statements.
 use Rattle.std.proofs.Common.{ℕ, ◌≡◌, List, ◌∷◌, length, arith, sym, ◌∙◌}
-use Rattle.spl_tree.specs.Symbols.{Lexeme}
-use Rattle.spl_tree.specs.StatementTrees as stat
-use Rattle.spl_tree.specs.Statements as st
+use Rattle.spl_reading.specs.spl_tree.Symbols.{Lexeme}
+use Rattle.spl_reading.specs.spl_tree.StatementTrees as stat
+use Rattle.spl_reading.specs.spl_tree.Statements as st
 use Rattle.spl_reading.specs.Readers.{Bad}
 use Rattle.spl_reading.specs.ReadStatements.{statement}
 use Rattle.spl_grammar.specs.Following.{After}

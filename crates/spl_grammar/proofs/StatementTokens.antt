@@ -1,12 +1,12 @@
 -- The tokens of statements and of their parts; no more is open in them than there are tokens before.
 use Rattle.std.proofs.Common.{ℕ, ◌+◌, ◌<◌, ◌≤◌, List, length, arith}
-use Rattle.spl_tree.specs.Symbols.{Lexeme}
-use Rattle.spl_tree.specs.Trees.{Tree}
-use Rattle.spl_tree.specs.StatementTrees as stat
-use Rattle.spl_tree.specs.Statements as st
-use Rattle.spl_tree.specs.Parts.{Part}
-use Rattle.spl_tree.specs.OpenStatements as op
-use Rattle.spl_tree.specs.OpenStatements.{StatementStep}
+use Rattle.spl_reading.specs.spl_tree.Symbols.{Lexeme}
+use Rattle.spl_reading.specs.spl_tree.Trees.{Tree}
+use Rattle.spl_reading.specs.spl_tree.StatementTrees as stat
+use Rattle.spl_reading.specs.spl_tree.Statements as st
+use Rattle.spl_reading.specs.spl_tree.Parts.{Part}
+use Rattle.spl_reading.specs.spl_tree.OpenStatements as op
+use Rattle.spl_reading.specs.spl_tree.OpenStatements.{StatementStep}
 use Rattle.spl_grammar.proofs.PartTokens as pt
 
 pub shorter_expression : {e : Tree} {ts rest : List Lexeme} → st.Expression e ts rest → length rest < length ts

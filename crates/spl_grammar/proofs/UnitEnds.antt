@@ -1,11 +1,11 @@
 -- A list that ends has one end of the text: no chain of a unit goes over it, and a unit that is read goes up to it.
 use Rattle.std.proofs.Common.{ℕ, ◌≡◌, ◌≤◌, false, List, [], ◌∷◌, ◌++◌, length, refl, arith, ap, sym, ◌∙◌, inr}
-use Rattle.spl_tree.specs.declared.symbols.Symbol.TheVariants as s
-use Rattle.spl_tree.specs.Symbols.{Lexeme, Is}
-use Rattle.spl_tree.specs.DeclarationTrees.{UnitTree}
-use Rattle.spl_tree.specs.OpenExpressions as op
-use Rattle.spl_tree.specs.Parts as part
-use Rattle.spl_tree.specs.Parts.{Part}
+use Rattle.spl_reading.specs.spl_tree.declared.symbols.Symbol.TheVariants as s
+use Rattle.spl_reading.specs.spl_tree.Symbols.{Lexeme, Is}
+use Rattle.spl_reading.specs.spl_tree.DeclarationTrees.{UnitTree}
+use Rattle.spl_reading.specs.spl_tree.OpenExpressions as op
+use Rattle.spl_reading.specs.spl_tree.Parts as part
+use Rattle.spl_reading.specs.spl_tree.Parts.{Part}
 use Rattle.spl_reading.specs.Readers.{Outcome, Got}
 use Rattle.spl_reading.specs.ReadDeclarations.{unit}
 use Rattle.spl_grammar.specs.Answers.{Explains, got, bad, deep, end_of}

@@ -1,10 +1,10 @@
 -- What follows from the laws of the reader of units.
 use Rattle.std.proofs.Common.{ℕ, ◌≡◌, ◌+◌, ◌≤◌, List, [], ◌∷◌, length, arith, ap, sym, ◌∙◌, ◌⊎◌, inl, inr}
-use Rattle.spl_tree.specs.Symbols.{Lexeme}
-use Rattle.spl_tree.specs.DeclarationTrees.{UnitTree}
-use Rattle.spl_tree.specs.Parts as part
-use Rattle.spl_tree.specs.OpenExpressions.{Part, Opens, limit, nesting}
-use Rattle.spl_tree.specs.Units.{Unit_of}
+use Rattle.spl_reading.specs.spl_tree.Symbols.{Lexeme}
+use Rattle.spl_reading.specs.spl_tree.DeclarationTrees.{UnitTree}
+use Rattle.spl_reading.specs.spl_tree.Parts as part
+use Rattle.spl_reading.specs.spl_tree.OpenExpressions.{Part, Opens, limit, nesting}
+use Rattle.spl_reading.specs.spl_tree.Units.{Unit_of}
 use Rattle.spl_reading.specs.Readers.{Outcome, Got, Bad, Deep}
 use Rattle.spl_reading.specs.ReadDeclarations.{unit}
 use Rattle.spl_grammar.specs.Answers.{DeepBefore, Agrees, Explains, Completes, end_of, got, bad, deep}

@@ -1,6 +1,6 @@
 -- No chain of a declaration or of a unit goes further than its reader.
 use Rattle.std.proofs.Common.{ℕ, Bool, [], ◌∷◌, refl, inr}
-use Rattle.spl_tree.specs.Parts as part
+use Rattle.spl_reading.specs.spl_tree.Parts as part
 use Rattle.spl_reading.specs.ReadDeclarations.{unit}
 use Rattle.spl_grammar.specs.Answers.{ChainsReach}
 use Rattle.spl_reading.specs.ReadDeclarations.{bodies, declaration_of}

@@ -1,13 +1,13 @@
 -- A list has at most one verdict, at one place; and in a list that ends the reader's answer is the verdict.
 use Rattle.std.proofs.Common.{ℕ, ◌≡◌, ◌<◌, ◌≤◌, Bool, true, false, List, [], ◌∷◌, ◌++◌, length, refl, arith, ap, inr, nat_lt}
 use Rattle.std.proofs.lemmas.Bool.Decides.{nat_tests}
-use Rattle.spl_tree.specs.Symbols.{Lexeme}
-use Rattle.spl_tree.specs.DeclarationTrees.{UnitTree}
-use Rattle.spl_tree.specs.OpenExpressions as op
-use Rattle.spl_tree.specs.OpenExpressions.{OpensAt, limit, nesting}
-use Rattle.spl_tree.specs.Parts as part
-use Rattle.spl_tree.specs.Parts.{Part}
-use Rattle.spl_tree.specs.Units.{Unit_of}
+use Rattle.spl_reading.specs.spl_tree.Symbols.{Lexeme}
+use Rattle.spl_reading.specs.spl_tree.DeclarationTrees.{UnitTree}
+use Rattle.spl_reading.specs.spl_tree.OpenExpressions as op
+use Rattle.spl_reading.specs.spl_tree.OpenExpressions.{OpensAt, limit, nesting}
+use Rattle.spl_reading.specs.spl_tree.Parts as part
+use Rattle.spl_reading.specs.spl_tree.Parts.{Part}
+use Rattle.spl_reading.specs.spl_tree.Units.{Unit_of}
 use Rattle.spl_reading.specs.Readers.{Outcome, Got, Bad, Deep}
 use Rattle.spl_reading.specs.ReadDeclarations.{unit}
 use Rattle.spl_grammar.specs.Answers.{DeepBefore, deep, Agrees, here, there, Reaches, sinks, goes_on}

@@ -1,11 +1,11 @@
 -- The end of the text: a list of tokens that ends, and how far a unit goes in it.
 use Rattle.std.specs.Prelude.{ℕ, ◌≡◌, Bool, true, false, List, [], ◌∷◌}
-use Rattle.spl_tree.specs.declared.symbols.Symbol.{Symbol}
-use Rattle.spl_tree.specs.declared.symbols.Symbol.TheVariants as s
-use Rattle.spl_tree.specs.Symbols.{Lexeme, Is}
-use Rattle.spl_tree.specs.DeclarationTrees.{UnitTree}
-use Rattle.spl_tree.specs.Parts as part
-use Rattle.spl_tree.specs.OpenExpressions.{Part, Opens}
+use Rattle.spl_reading.specs.spl_tree.declared.symbols.Symbol.{Symbol}
+use Rattle.spl_reading.specs.spl_tree.declared.symbols.Symbol.TheVariants as s
+use Rattle.spl_reading.specs.spl_tree.Symbols.{Lexeme, Is}
+use Rattle.spl_reading.specs.spl_tree.DeclarationTrees.{UnitTree}
+use Rattle.spl_reading.specs.spl_tree.Parts as part
+use Rattle.spl_reading.specs.spl_tree.OpenExpressions.{Part, Opens}
 use Rattle.spl_reading.specs.Readers.{Got}
 use Rattle.spl_reading.specs.ReadDeclarations.{unit}
 

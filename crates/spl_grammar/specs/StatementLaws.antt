@@ -1,10 +1,10 @@
 -- The laws of statements: how the grammar and what is read by it determine each other.
 use Rattle.std.specs.Prelude.{ℕ, ◌≡◌, ◌+◌, ◌⊎◌, List, ◌∷◌, length}
-use Rattle.spl_tree.specs.Symbols.{Lexeme}
-use Rattle.spl_tree.specs.Parts as part
-use Rattle.spl_tree.specs.OpenExpressions.{Part, Opens, limit}
-use Rattle.spl_tree.specs.StatementTrees as stat
-use Rattle.spl_tree.specs.Statements as st
+use Rattle.spl_reading.specs.spl_tree.Symbols.{Lexeme}
+use Rattle.spl_reading.specs.spl_tree.Parts as part
+use Rattle.spl_reading.specs.spl_tree.OpenExpressions.{Part, Opens, limit}
+use Rattle.spl_reading.specs.spl_tree.StatementTrees as stat
+use Rattle.spl_reading.specs.spl_tree.Statements as st
 use Rattle.spl_reading.specs.Readers.{Got, Bad}
 use Rattle.spl_reading.specs.ReadStatements.{statement}
 use Rattle.spl_grammar.specs.Following.{After}

@@ -1,17 +1,17 @@
 -- The laws of units.
 use Rattle.std.specs.Prelude.{ℕ, Bool, true, ◌≡◌, ◌+◌, ◌≤◌, ◌||◌, not, if◌then◌else◌, ◌++◌, ◌⊎◌, ◌↔◌, List, [], ◌∷◌, map}
-use Rattle.spl_tree.specs.declared.tokens.Lexed.{Lexed}
-use Rattle.spl_tree.specs.declared.units.SplUnit.{SplUnit}
-use Rattle.spl_tree.specs.Symbols.{Lexeme}
-use Rattle.spl_tree.specs.DeclarationTrees.{UnitTree}
-use Rattle.spl_tree.specs.DeclarationTrees as decl
-use Rattle.spl_tree.specs.Declarations as dl
-use Rattle.spl_tree.specs.Declarations.{is_subroutine}
-use Rattle.spl_tree.specs.Parts as part
-use Rattle.spl_tree.specs.OpenExpressions.{Part, Opens, limit, nesting}
-use Rattle.spl_tree.specs.Units.{Unit_of}
-use Rattle.spl_tree.specs.Views.{letters}
-use Rattle.spl_tree.specs.Spells.{Spells, unit_tree}
+use Rattle.spl_reading.specs.spl_tree.declared.tokens.Lexed.{Lexed}
+use Rattle.spl_reading.specs.spl_tree.declared.units.SplUnit.{SplUnit}
+use Rattle.spl_reading.specs.spl_tree.Symbols.{Lexeme}
+use Rattle.spl_reading.specs.spl_tree.DeclarationTrees.{UnitTree}
+use Rattle.spl_reading.specs.spl_tree.DeclarationTrees as decl
+use Rattle.spl_reading.specs.spl_tree.Declarations as dl
+use Rattle.spl_reading.specs.spl_tree.Declarations.{is_subroutine}
+use Rattle.spl_reading.specs.spl_tree.Parts as part
+use Rattle.spl_reading.specs.spl_tree.OpenExpressions.{Part, Opens, limit, nesting}
+use Rattle.spl_reading.specs.spl_tree.Units.{Unit_of}
+use Rattle.spl_reading.specs.spl_tree.Views.{letters}
+use Rattle.spl_reading.specs.spl_tree.Spells.{Spells, unit_tree}
 use Rattle.spl_reading.specs.Readers.{Got, Bad, Parser, refuse}
 use Rattle.spl_reading.specs.ReadDeclarations.{BodyRead, declaration, body, bodies, declaration_of, unit}
 use Rattle.spl_grammar.specs.Answers.{DeepBefore, Agrees, Explains, Completes, ChainsReach, DeepFirst, Longest, FaultFirst}

@@ -1,11 +1,11 @@
 -- What a list of tokens comes to as a unit: it spells one; or there is a first token that no unit goes on with; or a first
 -- one at which more is open than may be.
 use Rattle.std.specs.Prelude.{ℕ, ◌≡◌, ◌↔◌, ◌<◌, ◌≤◌, ◌++◌, List, [], ◌∷◌, length}
-use Rattle.spl_tree.specs.Symbols.{Lexeme}
-use Rattle.spl_tree.specs.DeclarationTrees.{UnitTree}
-use Rattle.spl_tree.specs.Parts as part
-use Rattle.spl_tree.specs.OpenExpressions.{Part, Opens, OpensAt, limit, nesting}
-use Rattle.spl_tree.specs.Units.{Unit_of}
+use Rattle.spl_reading.specs.spl_tree.Symbols.{Lexeme}
+use Rattle.spl_reading.specs.spl_tree.DeclarationTrees.{UnitTree}
+use Rattle.spl_reading.specs.spl_tree.Parts as part
+use Rattle.spl_reading.specs.spl_tree.OpenExpressions.{Part, Opens, OpensAt, limit, nesting}
+use Rattle.spl_reading.specs.spl_tree.Units.{Unit_of}
 use Rattle.spl_reading.specs.Readers.{Outcome, Got, Bad, Deep}
 use Rattle.spl_reading.specs.ReadDeclarations.{unit}
 use Rattle.spl_grammar.specs.Answers.{Agrees}

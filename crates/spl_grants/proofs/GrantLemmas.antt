@@ -3,27 +3,27 @@ use Rattle.std.proofs.Common.{◌≡◌, ℕ, zero, suc, ◌+◌, ◌-◌, ◌/�
 use Rattle.std.specs.Prelude.{nat_lt, nat_le, ◌&&◌, min, take, if◌then◌else◌, Ok, Err}
 use Rattle.std.proofs.lemmas.Bool.{ltb-true, ltb-false, lt-ltb}
 use Rattle.std.proofs.lemmas.List.{append-nil}
-use Rattle.hp_word.specs.declared.endings.Ending.TheVariants.{Running, Trapped}
-use Rattle.hp_word.specs.declared.endings.Trap.TheVariants.{StackOverflow}
-use Rattle.hp_instr.specs.declared.instruction.Instr.TheVariants as i
-use Rattle.hp_session.specs.State.{Machine, Outcome as Row, word, without}
-use Rattle.hp_word_rows.specs.WordRows.{count_row}
-use Rattle.hp_flat.specs.Step.{at_left}
-use Rattle.hp_yields.proofs.WordYields as rows
-use Rattle.spl_branch.specs.declared.pieces.Piece.TheVariants.{Do}
-use Rattle.spl_code.specs.Constants.{constant}
-use Rattle.spl_code.specs.Instructions.{LDI, LDNI, LSL, ORI}
+use Rattle.spl_body_code.specs.hp_word.declared.endings.Ending.TheVariants.{Running, Trapped}
+use Rattle.spl_body_code.specs.hp_word.declared.endings.Trap.TheVariants.{StackOverflow}
+use Rattle.spl_body_code.specs.hp_instr.declared.instruction.Instr.TheVariants as i
+use Rattle.spl_values.specs.hp_session.State.{Machine, Outcome as Row, word, without}
+use Rattle.spl_values.specs.hp_word_rows.WordRows.{count_row}
+use Rattle.spl_values.specs.hp_flat.Step.{at_left}
+use Rattle.spl_values.proofs.hp_yields_proofs.WordYields as rows
+use Rattle.spl_body_code.specs.spl_branch.declared.pieces.Piece.TheVariants.{Do}
+use Rattle.spl_body_code.specs.spl_code.Constants.{constant}
+use Rattle.spl_body_code.specs.spl_code.Instructions.{LDI, LDNI, LSL, ORI}
 use Rattle.spl_body_code.specs.Frames.{ROOM, granted}
-use Rattle.spl_follow.specs.Spots.{Spot, spot, pos, landed, on, Ground}
-use Rattle.spl_follow.specs.Leading.{Leads}
-use Rattle.spl_follow.specs.Matching.{Outer, outer}
-use Rattle.spl_follow.specs.Following.{Rate, Tally, Goes}
-use Rattle.spl_follow.specs.Doing.{going, doing}
-use Rattle.spl_follow.specs.Standing.{Sites, Stands, due_after}
-use Rattle.spl_follow.specs.Rooms.{Grants}
-use Rattle.spl_follow.specs.Yielding.{Becomes, Yields}
-use Rattle.spl_follow.proofs.PartLemmas.{stand_from_place}
-use Rattle.spl_follow.proofs.WayLemmas.{goes_on, goes_wider}
+use Rattle.spl_values.specs.spl_follow.Spots.{Spot, spot, pos, landed, on, Ground}
+use Rattle.spl_values.specs.spl_follow.Leading.{Leads}
+use Rattle.spl_values.specs.spl_follow.Matching.{Outer, outer}
+use Rattle.spl_values.specs.spl_follow.Following.{Rate, Tally, Goes}
+use Rattle.spl_values.specs.spl_follow.Doing.{going, doing}
+use Rattle.spl_values.specs.spl_follow.Standing.{Sites, Stands, due_after}
+use Rattle.spl_values.specs.spl_follow.Rooms.{Grants}
+use Rattle.spl_values.specs.spl_follow.Yielding.{Becomes, Yields}
+use Rattle.spl_values.proofs.spl_follow_proofs.PartLemmas.{stand_from_place}
+use Rattle.spl_values.proofs.spl_follow_proofs.WayLemmas.{goes_on, goes_wider}
 use Rattle.spl_values.proofs.GiveLemmas.{last_leads}
 use Rattle.spl_grants.specs.Laws.{GrantedPiecesGrant}
 use Rattle.spl_grants.proofs.StepLemmas.{all, under, step_goes, step_traps, Holds, holds_runs, holds_top, holds_one}

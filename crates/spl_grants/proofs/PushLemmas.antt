@@ -3,26 +3,26 @@ use Rattle.std.proofs.Common.{◌≡◌, ℕ, ◌-◌, ◌*◌, ◌/◌, ◌%◌
 use Rattle.std.specs.Prelude.{◌^◌, nat_lt, if◌then◌else◌, bit_or, Ok, Err}
 use Rattle.std.proofs.lemmas.Bool.{ltb-true}
 use Rattle.std.proofs.lemmas.Bool.Decides.{nat_tests}
-use Rattle.hp_word.specs.Bits.{shifted}
-use Rattle.hp_word.proofs.ShiftLemmas.{shifted-Lsl}
-use Rattle.hp_word.specs.declared.endings.Ending.TheVariants.{Running, Trapped}
-use Rattle.hp_word.specs.declared.endings.Trap.TheVariants.{StackOverflow}
-use Rattle.hp_instr.specs.declared.instruction.Instr.TheVariants as i
-use Rattle.hp_session.specs.State.{Machine, Outcome as Row, word, pushing}
-use Rattle.hp_word_rows.specs.WordRows.{minus, shift_of, shifting, immediate_row}
-use Rattle.hp_flat.specs.Step.{at_left}
-use Rattle.hp_yields.proofs.WordYields as rows
-use Rattle.spl_branch.specs.declared.pieces.Piece.TheVariants.{Do}
-use Rattle.spl_code.specs.Constants.{constant}
-use Rattle.spl_code.specs.Instructions.{LDI, LDNI, LSL, ORI}
-use Rattle.spl_follow.specs.Spots.{Spot, spot, pos, landed, Point, on, Ground}
-use Rattle.spl_follow.specs.Leading.{Leads}
-use Rattle.spl_follow.specs.Matching.{outer}
-use Rattle.spl_follow.specs.Following.{Rate, Tally, Goes}
-use Rattle.spl_follow.specs.Doing.{going, doing}
-use Rattle.spl_follow.specs.Standing.{Sites, Stands}
-use Rattle.spl_follow.specs.Yielding.{Yields}
-use Rattle.spl_follow.proofs.WayLemmas.{goes_on, goes_wider}
+use Rattle.spl_body_code.specs.hp_word.Bits.{shifted}
+use Rattle.spl_body_code.proofs.hp_word_proofs.ShiftLemmas.{shifted-Lsl}
+use Rattle.spl_body_code.specs.hp_word.declared.endings.Ending.TheVariants.{Running, Trapped}
+use Rattle.spl_body_code.specs.hp_word.declared.endings.Trap.TheVariants.{StackOverflow}
+use Rattle.spl_body_code.specs.hp_instr.declared.instruction.Instr.TheVariants as i
+use Rattle.spl_values.specs.hp_session.State.{Machine, Outcome as Row, word, pushing}
+use Rattle.spl_values.specs.hp_word_rows.WordRows.{minus, shift_of, shifting, immediate_row}
+use Rattle.spl_values.specs.hp_flat.Step.{at_left}
+use Rattle.spl_values.proofs.hp_yields_proofs.WordYields as rows
+use Rattle.spl_body_code.specs.spl_branch.declared.pieces.Piece.TheVariants.{Do}
+use Rattle.spl_body_code.specs.spl_code.Constants.{constant}
+use Rattle.spl_body_code.specs.spl_code.Instructions.{LDI, LDNI, LSL, ORI}
+use Rattle.spl_values.specs.spl_follow.Spots.{Spot, spot, pos, landed, Point, on, Ground}
+use Rattle.spl_values.specs.spl_follow.Leading.{Leads}
+use Rattle.spl_values.specs.spl_follow.Matching.{outer}
+use Rattle.spl_values.specs.spl_follow.Following.{Rate, Tally, Goes}
+use Rattle.spl_values.specs.spl_follow.Doing.{going, doing}
+use Rattle.spl_values.specs.spl_follow.Standing.{Sites, Stands}
+use Rattle.spl_values.specs.spl_follow.Yielding.{Yields}
+use Rattle.spl_values.proofs.spl_follow_proofs.WayLemmas.{goes_on, goes_wider}
 use Rattle.spl_values.proofs.ConstantLemmas.{minus_is, bytes_joined}
 use Rattle.spl_values.proofs.GiveLemmas.{last_leads}
 use Rattle.spl_grants.proofs.StepLemmas.{step_goes, step_traps, Holds, holds_runs, holds_top, holds_one, row_holds, row_replaces}

@@ -3,19 +3,19 @@ use Rattle.std.proofs.Common.{◌≡◌, ℕ, ◌+◌, ◌-◌, ◌<◌, ◌≤�
 use Rattle.std.specs.Prelude.{None, Ok, Err, take, slice_index}
 use Rattle.std.proofs.lemmas.List.{append-nil, length-append}
 use Rattle.std.proofs.Math.Seq.{take-length}
-use Rattle.hp_word.specs.declared.endings.Ending.TheVariants.{Running, Trapped}
-use Rattle.hp_word.specs.declared.endings.Trap.{Trap}
-use Rattle.hp_word.specs.declared.endings.Trap.TheVariants.{StackOverflow}
-use Rattle.hp_session.specs.State.{Machine, Outcome as Row, word}
-use Rattle.spl_meaning.specs.States.{State}
-use Rattle.spl_follow.specs.Spots.{Spot, spot, pos, landed, on, Ground}
-use Rattle.spl_follow.specs.Leading.{Leads}
-use Rattle.spl_follow.specs.Matching.{Outer, outer}
-use Rattle.spl_follow.specs.Following.{Rate, Tally, Goes}
-use Rattle.spl_follow.specs.Doing.{going}
-use Rattle.spl_follow.specs.Yielding.{Yields}
-use Rattle.spl_follow.proofs.RowLemmas.{no_print}
-use Rattle.spl_follow.proofs.WayLemmas.{goes_on, goes_wider, lead}
+use Rattle.spl_body_code.specs.hp_word.declared.endings.Ending.TheVariants.{Running, Trapped}
+use Rattle.spl_body_code.specs.hp_word.declared.endings.Trap.{Trap}
+use Rattle.spl_body_code.specs.hp_word.declared.endings.Trap.TheVariants.{StackOverflow}
+use Rattle.spl_values.specs.hp_session.State.{Machine, Outcome as Row, word}
+use Rattle.spl_body_code.specs.spl_meaning.States.{State}
+use Rattle.spl_values.specs.spl_follow.Spots.{Spot, spot, pos, landed, on, Ground}
+use Rattle.spl_values.specs.spl_follow.Leading.{Leads}
+use Rattle.spl_values.specs.spl_follow.Matching.{Outer, outer}
+use Rattle.spl_values.specs.spl_follow.Following.{Rate, Tally, Goes}
+use Rattle.spl_values.specs.spl_follow.Doing.{going}
+use Rattle.spl_values.specs.spl_follow.Yielding.{Yields}
+use Rattle.spl_values.proofs.spl_follow_proofs.RowLemmas.{no_print}
+use Rattle.spl_values.proofs.spl_follow_proofs.WayLemmas.{goes_on, goes_wider, lead}
 
 -- ---- stacks
 

@@ -1,10 +1,10 @@
 -- The law of this crate.
 use Rattle.std.specs.Prelude.{ℕ, ◌≤◌}
 use Rattle.spl_body_code.specs.Frames.{granted}
-use Rattle.spl_follow.specs.Spots.{Spot, on, Ground}
-use Rattle.spl_follow.specs.Following.{Rate}
-use Rattle.spl_follow.specs.Standing.{Sites, Stands}
-use Rattle.spl_follow.specs.Rooms.{Grants}
+use Rattle.spl_values.specs.spl_follow.Spots.{Spot, on, Ground}
+use Rattle.spl_values.specs.spl_follow.Following.{Rate}
+use Rattle.spl_values.specs.spl_follow.Standing.{Sites, Stands}
+use Rattle.spl_values.specs.spl_follow.Rooms.{Grants}
 
 -- Where the code at a body's entry stands, that grants the room: some words.
 abbrev pub GrantedPiecesGrant : Type 0

@@ -1,8 +1,8 @@
 -- Loops over items: the cells that are put from one on.
 use Rattle.std.proofs.Common.{◌≡◌, ◌<◌, ◌≤◌, ℕ, ◌+◌, Bool, List, [], ◌∷◌, ◌++◌, map, drop, length, get_or, Option, refl, ◌∙◌}
-use Rattle.spl_meaning.specs.Places.{Place, Cell, Initial, stored, viewed, cell_word, put_cells, put_initials, put_values}
-use Rattle.spl_meaning.specs.Runs.{global_address}
-use Rattle.spl_lists.proofs.NameWalks.{onward, onward_end}
+use Rattle.spl_sorts.specs.spl_meaning.Places.{Place, Cell, Initial, stored, viewed, cell_word, put_cells, put_initials, put_values}
+use Rattle.spl_sorts.specs.spl_meaning.Runs.{global_address}
+use Rattle.spl_places.proofs.spl_lists_proofs.NameWalks.{onward, onward_end}
 use Rattle.spl_places.specs.declared.data.Datum.{Datum}
 use Rattle.spl_places.specs.ListedData.{datum_of}
 use Rattle.spl_initials.specs.Cells.{Found, item_cell, cells_by}

@@ -6,12 +6,12 @@ use Rattle.spl_tree.specs.declared.declarations.Decl.{Decl}
 use Rattle.spl_tree.specs.DeclarationTrees.{declarations}
 use Rattle.spl_tree.specs.Views.{letters}
 use Rattle.spl_tree.specs.Spells.{item_tree, shape_tree, declaration}
-use Rattle.spl_meaning.specs.Names.{Names}
-use Rattle.spl_meaning.specs.Tables.{shaped}
-use Rattle.spl_meaning.specs.Places.{put_initials}
-use Rattle.spl_meaning.specs.Runs.{global_address}
-use Rattle.spl_found.specs.OwnNames.{over, with_name, behind_declaration}
-use Rattle.spl_lists.proofs.NameWalks.{onward, onward_end}
+use Rattle.spl_sorts.specs.spl_meaning.Names.{Names}
+use Rattle.spl_sorts.specs.spl_meaning.Tables.{shaped}
+use Rattle.spl_sorts.specs.spl_meaning.Places.{put_initials}
+use Rattle.spl_sorts.specs.spl_meaning.Runs.{global_address}
+use Rattle.spl_places.specs.spl_found.OwnNames.{over, with_name, behind_declaration}
+use Rattle.spl_places.proofs.spl_lists_proofs.NameWalks.{onward, onward_end}
 use Rattle.spl_places.proofs.DataWalks.{behind_step, behind_end, declarations_step, declarations_end}
 use Rattle.spl_initials.specs.Cells.{Found, item_initial, initials_of_items, initials_of_declaration, initials_by}
 use Rattle.spl_initials.proofs.CellWalks.{initials_both}

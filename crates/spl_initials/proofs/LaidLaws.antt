@@ -4,11 +4,11 @@ use Rattle.std.specs.Prelude.{if◌then◌else◌}
 use Rattle.spl_tree.specs.declared.expressions.Kind.{Kind}
 use Rattle.spl_tree.specs.DeclarationTrees as decl
 use Rattle.spl_tree.specs.DeclarationTrees.{Item, Declaration, Declarations}
-use Rattle.spl_meaning.specs.Names as n
-use Rattle.spl_meaning.specs.Names.{Names, Sort, Table, find, within, same_flag, constant_or_zero}
-use Rattle.spl_meaning.specs.Tables.{declared, shaped, with_declaration}
-use Rattle.spl_meaning.specs.Places.{Place, Array, Cell, Initial, Starts, is_own, only, cell_of, cells_among, start_of, initial_at, item_initials, declaration_initials, initials_among, places_from, arrays_from, laid}
-use Rattle.spl_found.proofs.OwnNames.{find_declared, find_declaration}
+use Rattle.spl_sorts.specs.spl_meaning.Names as n
+use Rattle.spl_sorts.specs.spl_meaning.Names.{Names, Sort, Table, find, within, same_flag, constant_or_zero}
+use Rattle.spl_sorts.specs.spl_meaning.Tables.{declared, shaped, with_declaration}
+use Rattle.spl_sorts.specs.spl_meaning.Places.{Place, Array, Cell, Initial, Starts, is_own, only, cell_of, cells_among, start_of, initial_at, item_initials, declaration_initials, initials_among, places_from, arrays_from, laid}
+use Rattle.spl_places.proofs.spl_found_proofs.OwnNames.{find_declared, find_declaration}
 use Rattle.spl_places.specs.ListedData.{Datum}
 use Rattle.spl_places.specs.Held.{is_data, held, named}
 use Rattle.spl_places.proofs.ProgramLaws.{places_held, arrays_held}

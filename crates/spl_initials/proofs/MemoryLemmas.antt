@@ -5,7 +5,7 @@ use Rattle.std.specs.List.{slice_get}
 use Rattle.std.proofs.lemmas.Bool.Decides.{nat_tests}
 use Rattle.std.proofs.lemmas.List.{set_past}
 use Rattle.std.proofs.lemmas.Option.{slice_get_past, slice_get-get_or}
-use Rattle.spl_meaning.specs.Places.{stored, changed, word_or_zero}
+use Rattle.spl_sorts.specs.spl_meaning.Places.{stored, changed, word_or_zero}
 use Rattle.spl_initials.specs.Memory.{memory_of}
 
 same_zero : nat_eq 0 0 ≡ true

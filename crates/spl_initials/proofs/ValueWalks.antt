@@ -3,9 +3,9 @@ use Rattle.std.proofs.Common.{◌≡◌, ◌<◌, ◌≤◌, ℕ, ◌+◌, List,
 use Rattle.spl_tree.specs.declared.expressions.Kind.{Kind}
 use Rattle.spl_tree.specs.declared.expressions.Const.{Const}
 use Rattle.spl_tree.specs.Views.{constant}
-use Rattle.spl_meaning.specs.Names.{Names, constant_or_zero}
-use Rattle.spl_meaning.specs.Places.{put_value, put_values}
-use Rattle.spl_lists.proofs.NameWalks.{onward, onward_end}
+use Rattle.spl_sorts.specs.spl_meaning.Names.{Names, constant_or_zero}
+use Rattle.spl_sorts.specs.spl_meaning.Places.{put_value, put_values}
+use Rattle.spl_places.proofs.spl_lists_proofs.NameWalks.{onward, onward_end}
 
 pub constant_step : (names : Names) (k : Kind) (a : ℕ) (list : List Const) (i : ℕ) (x : Const) (mem : ℕ → Option ℕ) → i < length list → x ≡ get_or list i x
     → put_values k a i (map (constant_or_zero names) (map constant (drop i list))) mem

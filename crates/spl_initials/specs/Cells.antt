@@ -3,11 +3,11 @@ use Rattle.std.specs.Prelude.{ℕ, Bool, false, if◌then◌else◌, List, [], �
 use Rattle.spl_tree.specs.declared.expressions.Kind.{Kind}
 use Rattle.spl_tree.specs.DeclarationTrees as decl
 use Rattle.spl_tree.specs.DeclarationTrees.{Item, Declaration, Declarations}
-use Rattle.spl_meaning.specs.Names as n
-use Rattle.spl_meaning.specs.Names.{Names, Sort, find, same_flag, constant_or_zero}
-use Rattle.spl_meaning.specs.Tables.{shaped}
-use Rattle.spl_meaning.specs.Places.{Place, Array, Cell, Initial, is_own, is_byte_kind, cell_with, start_of, initial_at}
-use Rattle.spl_found.specs.OwnNames.{over, with_name, behind_declaration}
+use Rattle.spl_sorts.specs.spl_meaning.Names as n
+use Rattle.spl_sorts.specs.spl_meaning.Names.{Names, Sort, find, same_flag, constant_or_zero}
+use Rattle.spl_sorts.specs.spl_meaning.Tables.{shaped}
+use Rattle.spl_sorts.specs.spl_meaning.Places.{Place, Array, Cell, Initial, is_own, is_byte_kind, cell_with, start_of, initial_at}
+use Rattle.spl_places.specs.spl_found.OwnNames.{over, with_name, behind_declaration}
 use Rattle.spl_places.specs.ListedData.{Datum}
 use Rattle.spl_places.specs.declared.places.ListPlaces.{ListPlaces}
 use Rattle.spl_places.specs.NameMaps.{entries_of, shown}

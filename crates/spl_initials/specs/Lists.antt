@@ -1,7 +1,7 @@
 -- Places and arrays of a list by its items.
 use Rattle.std.specs.Prelude.{ℕ, List, map}
-use Rattle.spl_meaning.specs.Names.{find}
-use Rattle.spl_meaning.specs.Places.{Place, Starts, places_from, arrays_from}
+use Rattle.spl_sorts.specs.spl_meaning.Names.{find}
+use Rattle.spl_sorts.specs.spl_meaning.Places.{Place, Starts, places_from, arrays_from}
 use Rattle.spl_places.specs.ListedData.{Datum}
 use Rattle.spl_places.specs.Held.{named}
 use Rattle.spl_places.specs.declared.places.Starts as code

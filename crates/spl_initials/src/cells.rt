@@ -1,9 +1,9 @@
 //! Cells of arrays and of views of arrays.
 ghost use Rattle.std.specs.Prelude.{◌≡◌, map, option_map};
 ghost use Rattle.spl_tree.specs.Views.{letters};
-ghost use Rattle.spl_meaning.specs.Names as n;
-ghost use Rattle.spl_meaning.specs.Places as places;
-ghost use Rattle.spl_meaning.specs.Runs as runs;
+ghost use Rattle.spl_sorts.specs.spl_meaning.Names as n;
+ghost use Rattle.spl_sorts.specs.spl_meaning.Places as places;
+ghost use Rattle.spl_sorts.specs.spl_meaning.Runs as runs;
 ghost use Rattle.spl_sorts.specs.Sorts.{sort_of};
 ghost use Rattle.spl_places.specs.ListedData.{datum_of};
 ghost use Rattle.spl_places.specs.Spots.{spot_of, array_of};

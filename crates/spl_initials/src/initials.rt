@@ -4,11 +4,11 @@ ghost use Rattle.spl_tree.specs.DeclarationTrees as decl;
 ghost use Rattle.spl_tree.specs.Spells as view;
 ghost use Rattle.spl_tree.specs.Spells.{item_tree};
 ghost use Rattle.spl_tree.specs.Views as trees;
-ghost use Rattle.spl_meaning.specs.Names as n;
-ghost use Rattle.spl_meaning.specs.Names.{find};
-ghost use Rattle.spl_meaning.specs.Places as places;
-ghost use Rattle.spl_meaning.specs.Runs as runs;
-ghost use Rattle.spl_found.specs.OwnNames.{behind_items, behind_declaration, behind_declarations};
+ghost use Rattle.spl_sorts.specs.spl_meaning.Names as n;
+ghost use Rattle.spl_sorts.specs.spl_meaning.Names.{find};
+ghost use Rattle.spl_sorts.specs.spl_meaning.Places as places;
+ghost use Rattle.spl_sorts.specs.spl_meaning.Runs as runs;
+ghost use Rattle.spl_places.specs.spl_found.OwnNames.{behind_items, behind_declaration, behind_declarations};
 ghost use Rattle.spl_sorts.specs.Tables.{table_of, names_of};
 ghost use Rattle.spl_places.specs.Spots.{spot_of, array_of};
 ghost use Rattle.spl_initials.specs.Memory.{memory_of};
@@ -16,7 +16,7 @@ ghost use Rattle.spl_initials.specs.Cells.{found_in, item_initial, initials_of_i
 
 use crate::cells::{array_named, global_address, place_named};
 use crate::values::put_constants;
-use spl_lists::{Data, declare, seen};
+use spl_places::spl_lists::{Data, declare, seen};
 use spl_places::{Array, ListPlaces, Place, declare_all, shaped_here};
 use spl_sorts::{Names, Table};
 use spl_tree::{Const, Decl, Item, Kind};

@@ -1,8 +1,8 @@
 //! The cells and initial values of a list of declarations are those of its items.
 ghost use Rattle.std.specs.Prelude.{◌≡◌, ℕ, Bool, List, map};
 ghost use Rattle.spl_tree.specs.DeclarationTrees.{Declarations};
-ghost use Rattle.spl_meaning.specs.Names.{Names, Sort, Table, find};
-ghost use Rattle.spl_meaning.specs.Places.{Place, Starts, laid};
+ghost use Rattle.spl_sorts.specs.spl_meaning.Names.{Names, Sort, Table, find};
+ghost use Rattle.spl_sorts.specs.spl_meaning.Places.{Place, Starts, laid};
 ghost use Rattle.spl_places.specs.ListedData.{Datum};
 ghost use Rattle.spl_places.specs.Held.{held, named};
 ghost use Rattle.spl_initials.specs.Cells.{cells_by, initials_by};

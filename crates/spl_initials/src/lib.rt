@@ -13,4 +13,6 @@ pub use initials::put_initials;
 pub use laws::lists_are_laid;
 pub use lists::{list_cells, list_initials};
 pub use memory::{put_byte, store, word_at};
+pub use spl_places;
+pub use spl_places::{spl_depths, spl_lists};
 pub use values::{put_constants, put_value};

@@ -2,9 +2,9 @@
 ghost use Rattle.std.specs.Prelude.{◌≡◌, OnOk, IfOk, map};
 ghost use Rattle.spl_tree.specs.DeclarationTrees as decl;
 ghost use Rattle.spl_tree.specs.Spells as view;
-ghost use Rattle.spl_meaning.specs.Names.{find};
-ghost use Rattle.spl_meaning.specs.Places as places;
-ghost use Rattle.spl_meaning.specs.Runs as runs;
+ghost use Rattle.spl_sorts.specs.spl_meaning.Names.{find};
+ghost use Rattle.spl_sorts.specs.spl_meaning.Places as places;
+ghost use Rattle.spl_sorts.specs.spl_meaning.Runs as runs;
 ghost use Rattle.spl_sorts.specs.Tables.{table_of};
 ghost use Rattle.spl_places.specs.ListedData.{datum_of};
 ghost use Rattle.spl_places.specs.Spots.{place_in, behind_data};

@@ -2,7 +2,7 @@
 ghost use Rattle.std.specs.Prelude.{◌≡◌, ◌<◌, ◌%◌, ◌/◌};
 ghost use Rattle.hp_word.specs.Words.{word_of, double_of};
 ghost use Rattle.hp_word.specs.Bytes.{high_word, low_word, with_byte};
-ghost use Rattle.spl_meaning.specs.Places as places;
+ghost use Rattle.spl_sorts.specs.spl_meaning.Places as places;
 ghost use Rattle.spl_initials.specs.Memory.{memory_of};
 
 /// A whole number modulo 65,536.

@@ -1,8 +1,8 @@
 //! Initial values of each kind, one behind the other.
 ghost use Rattle.std.specs.Prelude.{◌≡◌, map};
 ghost use Rattle.spl_tree.specs.Views as trees;
-ghost use Rattle.spl_meaning.specs.Names as n;
-ghost use Rattle.spl_meaning.specs.Places as places;
+ghost use Rattle.spl_sorts.specs.spl_meaning.Names as n;
+ghost use Rattle.spl_sorts.specs.spl_meaning.Places as places;
 ghost use Rattle.spl_sorts.specs.Tables.{names_of};
 ghost use Rattle.spl_initials.specs.Memory.{memory_of};
 

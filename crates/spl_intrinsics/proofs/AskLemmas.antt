@@ -2,39 +2,39 @@
 use Rattle.std.proofs.Common.{◌≡◌, ℕ, zero, suc, ◌+◌, ◌-◌, ◌≤◌, true, List, [], ◌∷◌, ◌++◌, length, replicate, refl, sym, ap, subst, ◌∙◌, arith}
 use Rattle.std.specs.Prelude.{drop, take}
 use Rattle.std.proofs.lemmas.List.{append-nil, length-drop, length-take-le, take-append-drop}
-use Rattle.hp_word.specs.declared.intrinsics.Intrinsic.{Intrinsic}
-use Rattle.hp_word.specs.declared.intrinsics.Intrinsic.TheVariants as which
-use Rattle.hp_word.specs.Intrinsics.{parameter_words, answer_words}
-use Rattle.hp_instr.specs.declared.instruction.Instr.TheVariants as i
-use Rattle.hp_session.specs.State.{Machine}
-use Rattle.spl_branch.specs.declared.pieces.Piece.{Piece}
-use Rattle.spl_branch.specs.declared.pieces.Piece.TheVariants.{Call}
-use Rattle.spl_meaning.specs.Laws.{IsFront}
-use Rattle.spl_meaning.specs.Names.{intrinsic_profile}
-use Rattle.spl_meaning.specs.Operations.{kept}
-use Rattle.spl_meaning.specs.References.{Setting}
-use Rattle.spl_meaning.specs.Serving as run
-use Rattle.spl_meaning.specs.States.{Data, State, Begun, Outcome, done, then_go}
-use Rattle.spl_code.specs.Calls.{result_room, result_taken}
-use Rattle.spl_code.specs.Instructions.{DEL, DDEL}
-use Rattle.spl_code.specs.Parts.{Part, Wanted, pieces, nothing, ◌⨟◌, wanted_place, with_wanted}
+use Rattle.spl_statement_code.specs.hp_word.declared.intrinsics.Intrinsic.{Intrinsic}
+use Rattle.spl_statement_code.specs.hp_word.declared.intrinsics.Intrinsic.TheVariants as which
+use Rattle.spl_statement_code.specs.hp_word.Intrinsics.{parameter_words, answer_words}
+use Rattle.spl_statement_code.specs.hp_instr.declared.instruction.Instr.TheVariants as i
+use Rattle.spl_endings.specs.hp_session.State.{Machine}
+use Rattle.spl_statement_code.specs.spl_branch.declared.pieces.Piece.{Piece}
+use Rattle.spl_statement_code.specs.spl_branch.declared.pieces.Piece.TheVariants.{Call}
+use Rattle.spl_statement_code.specs.spl_meaning.Laws.{IsFront}
+use Rattle.spl_statement_code.specs.spl_meaning.Names.{intrinsic_profile}
+use Rattle.spl_statement_code.specs.spl_meaning.Operations.{kept}
+use Rattle.spl_statement_code.specs.spl_meaning.References.{Setting}
+use Rattle.spl_statement_code.specs.spl_meaning.Serving as run
+use Rattle.spl_statement_code.specs.spl_meaning.States.{Data, State, Begun, Outcome, done, then_go}
+use Rattle.spl_statement_code.specs.spl_code.Calls.{result_room, result_taken}
+use Rattle.spl_statement_code.specs.spl_code.Instructions.{DEL, DDEL}
+use Rattle.spl_statement_code.specs.spl_code.Parts.{Part, Wanted, pieces, nothing, ◌⨟◌, wanted_place, with_wanted}
 use Rattle.spl_statement_code.specs.Statements.{result_dropped}
-use Rattle.spl_frames.specs.Words.{AreWords}
-use Rattle.spl_follow.specs.Spots.{Spot, pos, Point, on, Ground}
-use Rattle.spl_follow.specs.Leading.{Leads}
-use Rattle.spl_follow.specs.Matching.{Stand, IsValue, IsAnswer}
-use Rattle.spl_follow.specs.Following.{tally_with, Follows, NoExit}
-use Rattle.spl_follow.specs.Doing.{calling}
-use Rattle.spl_follow.specs.Standing.{Sites, Stands, IsClosed}
-use Rattle.spl_follow.specs.Parts.{Ready}
-use Rattle.spl_follow.specs.Simulating.{Surroundings}
-use Rattle.spl_follow.proofs.FollowLemmas.{bind_follows}
-use Rattle.spl_follow.proofs.KeepLemmas.{kept_top, kept_stack}
-use Rattle.spl_follow.proofs.PartLemmas.{stand_in_order}
-use Rattle.spl_follow.proofs.StackLemmas.{stand_last}
-use Rattle.spl_follow.proofs.StandLemmas.{closed_last}
-use Rattle.spl_values.specs.Reached.{IsWhole}
-use Rattle.spl_values.proofs.SumLemmas.{front_on}
+use Rattle.spl_endings.specs.spl_frames.Words.{AreWords}
+use Rattle.spl_endings.specs.spl_follow.Spots.{Spot, pos, Point, on, Ground}
+use Rattle.spl_endings.specs.spl_follow.Leading.{Leads}
+use Rattle.spl_endings.specs.spl_follow.Matching.{Stand, IsValue, IsAnswer}
+use Rattle.spl_endings.specs.spl_follow.Following.{tally_with, Follows, NoExit}
+use Rattle.spl_endings.specs.spl_follow.Doing.{calling}
+use Rattle.spl_endings.specs.spl_follow.Standing.{Sites, Stands, IsClosed}
+use Rattle.spl_endings.specs.spl_follow.Parts.{Ready}
+use Rattle.spl_endings.specs.spl_follow.Simulating.{Surroundings}
+use Rattle.spl_endings.proofs.spl_follow_proofs.FollowLemmas.{bind_follows}
+use Rattle.spl_endings.proofs.spl_follow_proofs.KeepLemmas.{kept_top, kept_stack}
+use Rattle.spl_endings.proofs.spl_follow_proofs.PartLemmas.{stand_in_order}
+use Rattle.spl_endings.proofs.spl_follow_proofs.StackLemmas.{stand_last}
+use Rattle.spl_endings.proofs.spl_follow_proofs.StandLemmas.{closed_last}
+use Rattle.spl_operands.specs.spl_values.Reached.{IsWhole}
+use Rattle.spl_operands.proofs.spl_values_proofs.SumLemmas.{front_on}
 use Rattle.spl_endings.proofs.WantLemmas.{wanted_there, wanted_keeps}
 use Rattle.spl_intrinsics.specs.Laws.{Asks}
 use Rattle.spl_intrinsics.specs.Calls.{asked, IsAsked}

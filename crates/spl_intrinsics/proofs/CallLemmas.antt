@@ -4,34 +4,34 @@ use Rattle.std.specs.Prelude.{Err, drop, take, slice_get, slice_index, nat_le, n
 use Rattle.std.proofs.Math.ListN.{drop_of_length-le}
 use Rattle.std.proofs.Math.Seq.{drop-cons, drop-append_seam}
 use Rattle.std.proofs.lemmas.List.{append-nil, append_assoc, length-append}
-use Rattle.hp_word.specs.declared.arithmetic.Code.{Code}
-use Rattle.hp_word.specs.declared.endings.Ending.{Ending}
-use Rattle.hp_word.specs.declared.endings.Ending.TheVariants.{Running}
-use Rattle.hp_word.specs.declared.endings.Trap.TheVariants.{Mode, Bounds, OutputLimit}
-use Rattle.hp_word.specs.declared.intrinsics.Intrinsic.{Intrinsic}
-use Rattle.hp_word.specs.Intrinsics.{Effect, called, parameter_words, answer_words, taken_words, is_in_bounds, has_room}
-use Rattle.hp_instr.specs.declared.instruction.Instr.TheVariants as op
-use Rattle.hp_session.specs.State.{Machine, Outcome as Row}
-use Rattle.hp_call_rows.specs.GateRows as row
-use Rattle.hp_call_rows.specs.GateRows.{stack_byte, effect, ending_or, code_or, after_call, served}
-use Rattle.hp_flat.specs.Step.{at_left, ended}
-use Rattle.hp_call_yields.proofs.GateYields.{intrinsic_done, intrinsic_out, intrinsic_full}
-use Rattle.spl_meaning.specs.References.{Setting}
-use Rattle.spl_meaning.specs.Serving.{byte_of, touched, all_below, all_data, with_bytes, with_print, lines_taken, carried_out, answered}
-use Rattle.spl_meaning.specs.States.{Data, State, Begun, trapped, ends, strays, step_of, stepping, printed_size, all_printed}
-use Rattle.spl_frames.specs.Words.{AreWords}
-use Rattle.spl_frames.proofs.Steady.{BytesOf}
-use Rattle.spl_frames.proofs.WordFacts.{IsWord, line_bytes, called_right}
-use Rattle.spl_follow.specs.Spots.{Spot, pos, landed, Point, Ground, as_print, print_between}
-use Rattle.spl_follow.specs.Leading.{Leads}
-use Rattle.spl_follow.specs.Matching.{Outer, outer, expected, Matched, Stand, Coded, Shows, IsAnswer}
-use Rattle.spl_follow.specs.Following.{Rate, Tally, tally, tally_with, Goes, Follows, NoExit}
-use Rattle.spl_follow.specs.Doing.{Way, going, calling, procedure_called}
-use Rattle.spl_follow.proofs.FollowLemmas.{widen}
-use Rattle.spl_follow.proofs.KeepLemmas.{kept_on, kept_top, matched_length}
-use Rattle.spl_follow.proofs.RowLemmas.{shown, stray_here, row_trap}
-use Rattle.spl_follow.proofs.StackLemmas.{replaced_length, beneath, stand_behind}
-use Rattle.spl_follow.proofs.WayLemmas.{goes_wider, lead_printing}
+use Rattle.spl_statement_code.specs.hp_word.declared.arithmetic.Code.{Code}
+use Rattle.spl_statement_code.specs.hp_word.declared.endings.Ending.{Ending}
+use Rattle.spl_statement_code.specs.hp_word.declared.endings.Ending.TheVariants.{Running}
+use Rattle.spl_statement_code.specs.hp_word.declared.endings.Trap.TheVariants.{Mode, Bounds, OutputLimit}
+use Rattle.spl_statement_code.specs.hp_word.declared.intrinsics.Intrinsic.{Intrinsic}
+use Rattle.spl_statement_code.specs.hp_word.Intrinsics.{Effect, called, parameter_words, answer_words, taken_words, is_in_bounds, has_room}
+use Rattle.spl_statement_code.specs.hp_instr.declared.instruction.Instr.TheVariants as op
+use Rattle.spl_endings.specs.hp_session.State.{Machine, Outcome as Row}
+use Rattle.spl_endings.specs.hp_call_rows.GateRows as row
+use Rattle.spl_endings.specs.hp_call_rows.GateRows.{stack_byte, effect, ending_or, code_or, after_call, served}
+use Rattle.spl_endings.specs.hp_flat.Step.{at_left, ended}
+use Rattle.spl_endings.proofs.hp_call_yields_proofs.GateYields.{intrinsic_done, intrinsic_out, intrinsic_full}
+use Rattle.spl_statement_code.specs.spl_meaning.References.{Setting}
+use Rattle.spl_statement_code.specs.spl_meaning.Serving.{byte_of, touched, all_below, all_data, with_bytes, with_print, lines_taken, carried_out, answered}
+use Rattle.spl_statement_code.specs.spl_meaning.States.{Data, State, Begun, trapped, ends, strays, step_of, stepping, printed_size, all_printed}
+use Rattle.spl_endings.specs.spl_frames.Words.{AreWords}
+use Rattle.spl_endings.proofs.spl_frames_proofs.Steady.{BytesOf}
+use Rattle.spl_endings.proofs.spl_frames_proofs.WordFacts.{IsWord, line_bytes, called_right}
+use Rattle.spl_endings.specs.spl_follow.Spots.{Spot, pos, landed, Point, Ground, as_print, print_between}
+use Rattle.spl_endings.specs.spl_follow.Leading.{Leads}
+use Rattle.spl_endings.specs.spl_follow.Matching.{Outer, outer, expected, Matched, Stand, Coded, Shows, IsAnswer}
+use Rattle.spl_endings.specs.spl_follow.Following.{Rate, Tally, tally, tally_with, Goes, Follows, NoExit}
+use Rattle.spl_endings.specs.spl_follow.Doing.{Way, going, calling, procedure_called}
+use Rattle.spl_endings.proofs.spl_follow_proofs.FollowLemmas.{widen}
+use Rattle.spl_endings.proofs.spl_follow_proofs.KeepLemmas.{kept_on, kept_top, matched_length}
+use Rattle.spl_endings.proofs.spl_follow_proofs.RowLemmas.{shown, stray_here, row_trap}
+use Rattle.spl_endings.proofs.spl_follow_proofs.StackLemmas.{replaced_length, beneath, stand_behind}
+use Rattle.spl_endings.proofs.spl_follow_proofs.WayLemmas.{goes_wider, lead_printing}
 use Rattle.spl_endings.specs.Gates.{Served}
 use Rattle.spl_intrinsics.specs.Laws.{Asks, IntrinsicsAnswer}
 use Rattle.spl_intrinsics.proofs.EffectLemmas.{Alike, calls_alike, calls_same, Answers, calls_answer, bounds_are, not_below, data_below, bytes_agree, data_parts}

@@ -2,20 +2,20 @@
 use Rattle.std.proofs.Common.{◌≡◌, ℕ, ◌+◌, ◌/◌, ◌<◌, ◌≤◌, ◌*◌, ◌==◌, Bool, true, false, List, [], ◌∷◌, ◌++◌, map, length, Option, None, Some, refl, sym, ap, ◌∙◌, arith, ℤ, pos, negsuc}
 use Rattle.std.specs.Prelude.{if◌then◌else◌, nat_lt, is_some, slice_index}
 use Rattle.std.proofs.lemmas.Bool.{and_parts, and_from, false≢true, ltb-true, lt-ltb}
-use Rattle.hp_word.specs.declared.arithmetic.Code.TheVariants.{Equal}
-use Rattle.hp_word.specs.declared.endings.Ending.TheVariants.{Running}
-use Rattle.hp_word.specs.declared.intrinsics.Intrinsic.{Intrinsic}
-use Rattle.hp_word.specs.declared.intrinsics.Intrinsic.TheVariants as which
-use Rattle.hp_word.specs.declared.numbers.Number.{Number}
-use Rattle.hp_word.specs.declared.numbers.Number.TheVariants.{Value, TooLarge, BadForm}
-use Rattle.hp_word.specs.Bytes.{byte_at, double}
-use Rattle.hp_word.specs.Texts.{number, decimal_text_of, octal_text_of}
-use Rattle.hp_word.specs.Words.{signed, signed_double}
-use Rattle.hp_word.specs.Intrinsics as gate
-use Rattle.hp_word.specs.Intrinsics.{Effect, addresses, bytes_of_length, called, answer_words, is_in_bounds}
-use Rattle.hp_call_rows.specs.GateRows.{stack_byte}
-use Rattle.spl_meaning.specs.Places.{word_or_zero}
-use Rattle.spl_meaning.specs.Serving.{byte_of, touched, all_below, all_data}
+use Rattle.spl_statement_code.specs.hp_word.declared.arithmetic.Code.TheVariants.{Equal}
+use Rattle.spl_statement_code.specs.hp_word.declared.endings.Ending.TheVariants.{Running}
+use Rattle.spl_statement_code.specs.hp_word.declared.intrinsics.Intrinsic.{Intrinsic}
+use Rattle.spl_statement_code.specs.hp_word.declared.intrinsics.Intrinsic.TheVariants as which
+use Rattle.spl_statement_code.specs.hp_word.declared.numbers.Number.{Number}
+use Rattle.spl_statement_code.specs.hp_word.declared.numbers.Number.TheVariants.{Value, TooLarge, BadForm}
+use Rattle.spl_statement_code.specs.hp_word.Bytes.{byte_at, double}
+use Rattle.spl_statement_code.specs.hp_word.Texts.{number, decimal_text_of, octal_text_of}
+use Rattle.spl_statement_code.specs.hp_word.Words.{signed, signed_double}
+use Rattle.spl_statement_code.specs.hp_word.Intrinsics as gate
+use Rattle.spl_statement_code.specs.hp_word.Intrinsics.{Effect, addresses, bytes_of_length, called, answer_words, is_in_bounds}
+use Rattle.spl_endings.specs.hp_call_rows.GateRows.{stack_byte}
+use Rattle.spl_statement_code.specs.spl_meaning.Places.{word_or_zero}
+use Rattle.spl_statement_code.specs.spl_meaning.Serving.{byte_of, touched, all_below, all_data}
 use Rattle.spl_intrinsics.specs.Laws.{is_answered}
 
 -- ---- numbers that are read

@@ -1,48 +1,48 @@
 -- Calls of intrinsics as statements: the answer is deleted, or stored in a variable.
 use Rattle.std.proofs.Common.{◌≡◌, ℕ, ◌+◌, ◌-◌, ◌≤◌, true, false, List, [], ◌∷◌, length, Some, slice_index, refl, sym, ap, subst, ◌∙◌, arith}
 use Rattle.std.proofs.lemmas.Bool.{false≢true}
-use Rattle.hp_word.specs.declared.arithmetic.Code.{Code}
-use Rattle.hp_word.specs.declared.intrinsics.Intrinsic.{Intrinsic}
-use Rattle.hp_word.specs.Intrinsics.{answer_words}
-use Rattle.hp_instr.specs.declared.instruction.Instr.TheVariants as i
-use Rattle.hp_instr.specs.Instructions.{op}
-use Rattle.hp_session.specs.State.{Machine, word}
-use Rattle.hp_stack_rows.specs.StackRows.{operated}
-use Rattle.hp_flat.specs.Step.{at_left}
-use Rattle.hp_yields.proofs.StackYields as rows
-use Rattle.spl_tree.specs.declared.expressions.Kind.{Kind}
-use Rattle.spl_tree.specs.declared.expressions.Kind.TheVariants as kind
-use Rattle.spl_tree.specs.declared.names_and_places.At.{At}
-use Rattle.spl_branch.specs.declared.pieces.Piece.{Piece}
-use Rattle.spl_branch.specs.declared.pieces.Piece.TheVariants.{Begin, Do}
-use Rattle.spl_meaning.specs.Names.{intrinsic_profile}
-use Rattle.spl_meaning.specs.Kinds.{width}
-use Rattle.spl_meaning.specs.Operations.{kept}
-use Rattle.spl_meaning.specs.Places.{Place, data_word, above_base, below_base, below_return}
-use Rattle.spl_meaning.specs.References.{Setting, address_of, variable_located, store}
-use Rattle.spl_meaning.specs.Serving as run
-use Rattle.spl_meaning.specs.States.{Data, State, Outcome, done, then_go, stopping}
-use Rattle.spl_meaning.specs.Statements.{value_dropped}
-use Rattle.spl_code.specs.Operands.{mode_of}
-use Rattle.spl_code.specs.Parts.{Part, pieces, piece, nothing, ◌⨟◌}
+use Rattle.spl_statement_code.specs.hp_word.declared.arithmetic.Code.{Code}
+use Rattle.spl_statement_code.specs.hp_word.declared.intrinsics.Intrinsic.{Intrinsic}
+use Rattle.spl_statement_code.specs.hp_word.Intrinsics.{answer_words}
+use Rattle.spl_statement_code.specs.hp_instr.declared.instruction.Instr.TheVariants as i
+use Rattle.spl_statement_code.specs.hp_instr.Instructions.{op}
+use Rattle.spl_endings.specs.hp_session.State.{Machine, word}
+use Rattle.spl_endings.specs.hp_stack_rows.StackRows.{operated}
+use Rattle.spl_endings.specs.hp_flat.Step.{at_left}
+use Rattle.spl_endings.proofs.hp_yields_proofs.StackYields as rows
+use Rattle.spl_statement_code.specs.spl_tree.declared.expressions.Kind.{Kind}
+use Rattle.spl_statement_code.specs.spl_tree.declared.expressions.Kind.TheVariants as kind
+use Rattle.spl_statement_code.specs.spl_tree.declared.names_and_places.At.{At}
+use Rattle.spl_statement_code.specs.spl_branch.declared.pieces.Piece.{Piece}
+use Rattle.spl_statement_code.specs.spl_branch.declared.pieces.Piece.TheVariants.{Begin, Do}
+use Rattle.spl_statement_code.specs.spl_meaning.Names.{intrinsic_profile}
+use Rattle.spl_statement_code.specs.spl_meaning.Kinds.{width}
+use Rattle.spl_statement_code.specs.spl_meaning.Operations.{kept}
+use Rattle.spl_statement_code.specs.spl_meaning.Places.{Place, data_word, above_base, below_base, below_return}
+use Rattle.spl_statement_code.specs.spl_meaning.References.{Setting, address_of, variable_located, store}
+use Rattle.spl_statement_code.specs.spl_meaning.Serving as run
+use Rattle.spl_statement_code.specs.spl_meaning.States.{Data, State, Outcome, done, then_go, stopping}
+use Rattle.spl_statement_code.specs.spl_meaning.Statements.{value_dropped}
+use Rattle.spl_statement_code.specs.spl_code.Operands.{mode_of}
+use Rattle.spl_statement_code.specs.spl_code.Parts.{Part, pieces, piece, nothing, ◌⨟◌}
 use Rattle.spl_statement_code.specs.Statements.{result_dropped}
-use Rattle.spl_follow.specs.Spots.{Spot, pos, Point, on, Ground}
-use Rattle.spl_follow.specs.Leading.{Leads}
-use Rattle.spl_follow.specs.Matching.{Matched, Coded, IsAnswer}
-use Rattle.spl_follow.specs.Following.{Rate, tally, tally_with, Follows, NoExit}
-use Rattle.spl_follow.specs.Doing.{doing}
-use Rattle.spl_follow.specs.Standing.{Sites, Stands}
-use Rattle.spl_follow.specs.Parts.{Completes, Leaving}
-use Rattle.spl_follow.specs.Simulating.{Surroundings, Performs}
-use Rattle.spl_follow.proofs.FollowLemmas.{bind_follows, no_exit, widen}
-use Rattle.spl_follow.proofs.KeepLemmas.{kept_top, kept_stack}
-use Rattle.spl_follow.proofs.PartLemmas.{stand_in_order, statements_begin_noted}
-use Rattle.spl_follow.proofs.RowLemmas.{row_drops}
-use Rattle.spl_follow.proofs.StackLemmas.{stand_at}
-use Rattle.spl_follow.proofs.WayLemmas.{goes_none}
-use Rattle.spl_values.specs.Reached.{is_word_kind, is_reached}
-use Rattle.spl_values.proofs.GiveLemmas.{last_leads}
-use Rattle.spl_values.proofs.VariableLemmas.{place_found}
+use Rattle.spl_endings.specs.spl_follow.Spots.{Spot, pos, Point, on, Ground}
+use Rattle.spl_endings.specs.spl_follow.Leading.{Leads}
+use Rattle.spl_endings.specs.spl_follow.Matching.{Matched, Coded, IsAnswer}
+use Rattle.spl_endings.specs.spl_follow.Following.{Rate, tally, tally_with, Follows, NoExit}
+use Rattle.spl_endings.specs.spl_follow.Doing.{doing}
+use Rattle.spl_endings.specs.spl_follow.Standing.{Sites, Stands}
+use Rattle.spl_endings.specs.spl_follow.Parts.{Completes, Leaving}
+use Rattle.spl_endings.specs.spl_follow.Simulating.{Surroundings, Performs}
+use Rattle.spl_endings.proofs.spl_follow_proofs.FollowLemmas.{bind_follows, no_exit, widen}
+use Rattle.spl_endings.proofs.spl_follow_proofs.KeepLemmas.{kept_top, kept_stack}
+use Rattle.spl_endings.proofs.spl_follow_proofs.PartLemmas.{stand_in_order, statements_begin_noted}
+use Rattle.spl_endings.proofs.spl_follow_proofs.RowLemmas.{row_drops}
+use Rattle.spl_endings.proofs.spl_follow_proofs.StackLemmas.{stand_at}
+use Rattle.spl_endings.proofs.spl_follow_proofs.WayLemmas.{goes_none}
+use Rattle.spl_operands.specs.spl_values.Reached.{is_word_kind, is_reached}
+use Rattle.spl_operands.proofs.spl_values_proofs.GiveLemmas.{last_leads}
+use Rattle.spl_operands.proofs.spl_values_proofs.VariableLemmas.{place_found}
 use Rattle.spl_operands.specs.Operands.{Finds, Storing}
 use Rattle.spl_operands.proofs.StoreLemmas.{storing, store_follows}
 use Rattle.spl_intrinsics.specs.Calls.{asked, IsAsked, CallsPerform, AnswersAssigned}

@@ -1,39 +1,39 @@
 -- The words on top of which a call is made: room for its answer, and then the words of its parameters.
 use Rattle.std.proofs.Common.{◌≡◌, ℕ, zero, suc, ◌+◌, ◌-◌, ◌≤◌, List, [], ◌∷◌, ◌++◌, length, replicate, refl, ap, subst, arith}
 use Rattle.std.specs.Prelude.{drop}
-use Rattle.hp_word.specs.declared.intrinsics.Intrinsic.{Intrinsic}
-use Rattle.hp_word.specs.declared.intrinsics.Intrinsic.TheVariants as which
-use Rattle.hp_word.specs.Intrinsics.{answer_words}
-use Rattle.hp_instr.specs.declared.instruction.Instr.TheVariants as i
-use Rattle.hp_instr.specs.Instructions.{op}
-use Rattle.hp_session.specs.State.{Machine, Outcome as Row}
-use Rattle.hp_stack_rows.specs.StackRows.{operated}
-use Rattle.hp_yields.proofs.StackYields as rows
-use Rattle.spl_branch.specs.declared.pieces.Piece.{Piece}
-use Rattle.spl_meaning.specs.Names.{intrinsic_profile}
-use Rattle.spl_meaning.specs.References.{Setting}
-use Rattle.spl_meaning.specs.States.{State, Begun, Outcome, done, leaves, spent, ends, strays, then_go}
-use Rattle.spl_code.specs.Code.{as_value}
-use Rattle.spl_code.specs.Calls.{result_room}
-use Rattle.spl_code.specs.Instructions.{ZERO, DZRO}
-use Rattle.spl_code.specs.Parts.{Part, pieces, ◌⨟◌}
-use Rattle.spl_frames.specs.Words.{AreWords}
-use Rattle.spl_follow.specs.Spots.{Spot, pos, Point, on, Ground}
-use Rattle.spl_follow.specs.Leading.{Leads}
-use Rattle.spl_follow.specs.Matching.{Outer, Matched, IsValue}
-use Rattle.spl_follow.specs.Following.{Rate, tally_with, NoExit}
-use Rattle.spl_follow.specs.Doing.{going, doing}
-use Rattle.spl_follow.specs.Yielding.{Yields}
-use Rattle.spl_follow.specs.Parts.{Ready, Gives}
-use Rattle.spl_follow.specs.Simulating.{Surroundings, Simulates}
-use Rattle.spl_follow.proofs.FollowLemmas.{go_done, widen}
-use Rattle.spl_follow.proofs.KeepLemmas.{kept_same, value_ready}
-use Rattle.spl_follow.proofs.PartLemmas.{stand_in_order, values_follow}
-use Rattle.spl_follow.proofs.RowLemmas.{row_value}
-use Rattle.spl_values.specs.Reached.{IsWhole}
-use Rattle.spl_values.proofs.GiveLemmas.{last_leads}
-use Rattle.spl_values.proofs.SumLemmas.{front_on}
-use Rattle.spl_values.proofs.WholeLemmas.{whole_pieces, whole_then, whole_first, first_simulates, same_simulates}
+use Rattle.spl_statement_code.specs.hp_word.declared.intrinsics.Intrinsic.{Intrinsic}
+use Rattle.spl_statement_code.specs.hp_word.declared.intrinsics.Intrinsic.TheVariants as which
+use Rattle.spl_statement_code.specs.hp_word.Intrinsics.{answer_words}
+use Rattle.spl_statement_code.specs.hp_instr.declared.instruction.Instr.TheVariants as i
+use Rattle.spl_statement_code.specs.hp_instr.Instructions.{op}
+use Rattle.spl_endings.specs.hp_session.State.{Machine, Outcome as Row}
+use Rattle.spl_endings.specs.hp_stack_rows.StackRows.{operated}
+use Rattle.spl_endings.proofs.hp_yields_proofs.StackYields as rows
+use Rattle.spl_statement_code.specs.spl_branch.declared.pieces.Piece.{Piece}
+use Rattle.spl_statement_code.specs.spl_meaning.Names.{intrinsic_profile}
+use Rattle.spl_statement_code.specs.spl_meaning.References.{Setting}
+use Rattle.spl_statement_code.specs.spl_meaning.States.{State, Begun, Outcome, done, leaves, spent, ends, strays, then_go}
+use Rattle.spl_statement_code.specs.spl_code.Code.{as_value}
+use Rattle.spl_statement_code.specs.spl_code.Calls.{result_room}
+use Rattle.spl_statement_code.specs.spl_code.Instructions.{ZERO, DZRO}
+use Rattle.spl_statement_code.specs.spl_code.Parts.{Part, pieces, ◌⨟◌}
+use Rattle.spl_endings.specs.spl_frames.Words.{AreWords}
+use Rattle.spl_endings.specs.spl_follow.Spots.{Spot, pos, Point, on, Ground}
+use Rattle.spl_endings.specs.spl_follow.Leading.{Leads}
+use Rattle.spl_endings.specs.spl_follow.Matching.{Outer, Matched, IsValue}
+use Rattle.spl_endings.specs.spl_follow.Following.{Rate, tally_with, NoExit}
+use Rattle.spl_endings.specs.spl_follow.Doing.{going, doing}
+use Rattle.spl_endings.specs.spl_follow.Yielding.{Yields}
+use Rattle.spl_endings.specs.spl_follow.Parts.{Ready, Gives}
+use Rattle.spl_endings.specs.spl_follow.Simulating.{Surroundings, Simulates}
+use Rattle.spl_endings.proofs.spl_follow_proofs.FollowLemmas.{go_done, widen}
+use Rattle.spl_endings.proofs.spl_follow_proofs.KeepLemmas.{kept_same, value_ready}
+use Rattle.spl_endings.proofs.spl_follow_proofs.PartLemmas.{stand_in_order, values_follow}
+use Rattle.spl_endings.proofs.spl_follow_proofs.RowLemmas.{row_value}
+use Rattle.spl_operands.specs.spl_values.Reached.{IsWhole}
+use Rattle.spl_operands.proofs.spl_values_proofs.GiveLemmas.{last_leads}
+use Rattle.spl_operands.proofs.spl_values_proofs.SumLemmas.{front_on}
+use Rattle.spl_operands.proofs.spl_values_proofs.WholeLemmas.{whole_pieces, whole_then, whole_first, first_simulates, same_simulates}
 
 -- ---- values
 

@@ -5,12 +5,12 @@ use Rattle.std.proofs.Math.Logic.{⊎_elim}
 use Rattle.std.proofs.lemmas.Bool.{and_parts, and_from, false≢true, eqb-true, eq-eqb}
 use Rattle.std.proofs.lemmas.List.{length-set, get_or-set_same, get_or-set_other}
 use Rattle.std.proofs.lemmas.Option.{none-some}
-use Rattle.hp_word.specs.Bytes.{with_byte}
-use Rattle.hp_call_rows.specs.GateRows as row
-use Rattle.spl_meaning.specs.Places.{changed, stored, word_or_zero, put_byte}
-use Rattle.spl_meaning.specs.Serving.{with_bytes, all_data}
-use Rattle.spl_frames.proofs.Steady.{BytesOf}
-use Rattle.spl_frames.proofs.WordFacts.{IsWord}
+use Rattle.spl_statement_code.specs.hp_word.Bytes.{with_byte}
+use Rattle.spl_endings.specs.hp_call_rows.GateRows as row
+use Rattle.spl_statement_code.specs.spl_meaning.Places.{changed, stored, word_or_zero, put_byte}
+use Rattle.spl_statement_code.specs.spl_meaning.Serving.{with_bytes, all_data}
+use Rattle.spl_endings.proofs.spl_frames_proofs.Steady.{BytesOf}
+use Rattle.spl_endings.proofs.spl_frames_proofs.WordFacts.{IsWord}
 
 -- ---- one word
 

@@ -1,23 +1,23 @@
 -- The code of a call of an intrinsic, and the laws of such calls as statements, over the code of their arguments.
 use Rattle.std.specs.Prelude.{◌≡◌, ℕ, ◌+◌, ◌≤◌, true, false, List, [], Some}
-use Rattle.hp_word.specs.declared.intrinsics.Intrinsic.{Intrinsic}
-use Rattle.hp_word.specs.Intrinsics.{parameter_words, answer_words}
-use Rattle.spl_tree.specs.declared.expressions.Kind.{Kind}
-use Rattle.spl_tree.specs.declared.names_and_places.At.{At}
-use Rattle.spl_branch.specs.declared.pieces.Piece.TheVariants.{Begin}
-use Rattle.spl_meaning.specs.Names.{intrinsic_named, intrinsic_profile}
-use Rattle.spl_meaning.specs.Operations.{kept}
-use Rattle.spl_meaning.specs.Places.{Place}
-use Rattle.spl_meaning.specs.References.{its_own, address_of, variable_located, store}
-use Rattle.spl_meaning.specs.Serving.{served}
-use Rattle.spl_meaning.specs.States.{State, Outcome, then_go, stopping}
-use Rattle.spl_meaning.specs.Statements.{value_dropped}
-use Rattle.spl_code.specs.Code.{as_value, calling}
-use Rattle.spl_code.specs.Parts.{Part, pieces, piece, nothing, ◌⨟◌, call_wanted}
-use Rattle.spl_code.specs.Stores.{stored}
+use Rattle.spl_statement_code.specs.hp_word.declared.intrinsics.Intrinsic.{Intrinsic}
+use Rattle.spl_statement_code.specs.hp_word.Intrinsics.{parameter_words, answer_words}
+use Rattle.spl_statement_code.specs.spl_tree.declared.expressions.Kind.{Kind}
+use Rattle.spl_statement_code.specs.spl_tree.declared.names_and_places.At.{At}
+use Rattle.spl_statement_code.specs.spl_branch.declared.pieces.Piece.TheVariants.{Begin}
+use Rattle.spl_statement_code.specs.spl_meaning.Names.{intrinsic_named, intrinsic_profile}
+use Rattle.spl_statement_code.specs.spl_meaning.Operations.{kept}
+use Rattle.spl_statement_code.specs.spl_meaning.Places.{Place}
+use Rattle.spl_statement_code.specs.spl_meaning.References.{its_own, address_of, variable_located, store}
+use Rattle.spl_statement_code.specs.spl_meaning.Serving.{served}
+use Rattle.spl_statement_code.specs.spl_meaning.States.{State, Outcome, then_go, stopping}
+use Rattle.spl_statement_code.specs.spl_meaning.Statements.{value_dropped}
+use Rattle.spl_statement_code.specs.spl_code.Code.{as_value, calling}
+use Rattle.spl_statement_code.specs.spl_code.Parts.{Part, pieces, piece, nothing, ◌⨟◌, call_wanted}
+use Rattle.spl_statement_code.specs.spl_code.Stores.{stored}
 use Rattle.spl_statement_code.specs.Statements.{result_dropped}
-use Rattle.spl_follow.specs.Simulating.{Surroundings, Simulates, Performs}
-use Rattle.spl_values.specs.Reached.{is_word_kind, is_reached, IsWhole}
+use Rattle.spl_endings.specs.spl_follow.Simulating.{Surroundings, Simulates, Performs}
+use Rattle.spl_operands.specs.spl_values.Reached.{is_word_kind, is_reached, IsWhole}
 use Rattle.spl_endings.specs.Gates.{GatesLead}
 use Rattle.spl_intrinsics.specs.Laws.{is_answered}
 

@@ -1,19 +1,19 @@
 -- The law of this crate: a call of an intrinsic that answers, behind the words of its parameters.
 use Rattle.std.specs.Prelude.{◌≡◌, ℕ, ◌+◌, ◌-◌, ◌≤◌, Bool, true, false, List, length}
-use Rattle.hp_word.specs.declared.intrinsics.Intrinsic.{Intrinsic}
-use Rattle.hp_word.specs.declared.intrinsics.Intrinsic.TheVariants as gate
-use Rattle.hp_word.specs.Intrinsics.{parameter_words, answer_words}
-use Rattle.hp_instr.specs.declared.instruction.Instr.TheVariants as op
-use Rattle.hp_session.specs.State.{Machine}
-use Rattle.spl_meaning.specs.References.{Setting}
-use Rattle.spl_meaning.specs.Serving.{served}
-use Rattle.spl_meaning.specs.States.{Data, State, Begun}
-use Rattle.spl_frames.specs.Words.{AreWords}
-use Rattle.spl_follow.specs.Spots.{Spot, spot, pos, Point, Ground}
-use Rattle.spl_follow.specs.Leading.{Leads}
-use Rattle.spl_follow.specs.Matching.{Matched, Kept, Stand, IsAnswer}
-use Rattle.spl_follow.specs.Following.{Rate, tally_with, Owes, Follows, NoExit}
-use Rattle.spl_follow.specs.Doing.{Way, calling}
+use Rattle.spl_statement_code.specs.hp_word.declared.intrinsics.Intrinsic.{Intrinsic}
+use Rattle.spl_statement_code.specs.hp_word.declared.intrinsics.Intrinsic.TheVariants as gate
+use Rattle.spl_statement_code.specs.hp_word.Intrinsics.{parameter_words, answer_words}
+use Rattle.spl_statement_code.specs.hp_instr.declared.instruction.Instr.TheVariants as op
+use Rattle.spl_endings.specs.hp_session.State.{Machine}
+use Rattle.spl_statement_code.specs.spl_meaning.References.{Setting}
+use Rattle.spl_statement_code.specs.spl_meaning.Serving.{served}
+use Rattle.spl_statement_code.specs.spl_meaning.States.{Data, State, Begun}
+use Rattle.spl_endings.specs.spl_frames.Words.{AreWords}
+use Rattle.spl_endings.specs.spl_follow.Spots.{Spot, spot, pos, Point, Ground}
+use Rattle.spl_endings.specs.spl_follow.Leading.{Leads}
+use Rattle.spl_endings.specs.spl_follow.Matching.{Matched, Kept, Stand, IsAnswer}
+use Rattle.spl_endings.specs.spl_follow.Following.{Rate, tally_with, Owes, Follows, NoExit}
+use Rattle.spl_endings.specs.spl_follow.Doing.{Way, calling}
 use Rattle.spl_endings.specs.Gates.{Served}
 
 -- the intrinsics that answer: all but those that end the session

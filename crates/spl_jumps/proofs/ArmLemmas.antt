@@ -2,33 +2,33 @@
 use Rattle.std.proofs.Common.{◌≡◌, ℕ, zero, suc, ◌+◌, ◌-◌, ◌≤◌, Bool, true, false, List, [], ◌∷◌, ◌++◌, refl, sym, subst, arith}
 use Rattle.std.specs.Prelude.{if◌then◌else◌}
 use Rattle.std.proofs.lemmas.Bool.{false≢true}
-use Rattle.hp_instr.specs.declared.instruction.Instr.TheVariants as i
-use Rattle.hp_session.specs.State.{Machine}
-use Rattle.spl_branch.specs.declared.pieces.Piece.{Piece}
-use Rattle.spl_branch.specs.declared.pieces.Piece.TheVariants.{Mark}
-use Rattle.spl_meaning.specs.Laws.{IsFront}
-use Rattle.spl_meaning.specs.States.{State, Outcome, to_label, back, done, leaves, spent, ends, strays, code_dropped}
-use Rattle.spl_meaning.specs.Statements.{landing}
-use Rattle.spl_code.specs.Instructions.{LDI, DEL, BR}
-use Rattle.spl_code.specs.Parts.{Part, Wanted}
-use Rattle.spl_statement_code.specs.Instructions.{LSUB}
-use Rattle.spl_follow.specs.Spots.{Spot, pos, on}
-use Rattle.spl_follow.specs.Matching.{Arrives}
-use Rattle.spl_follow.specs.Following.{tally, Follows}
-use Rattle.spl_follow.specs.Leading.{Leads}
-use Rattle.spl_follow.specs.Doing.{turning}
-use Rattle.spl_follow.specs.Standing.{Stands}
-use Rattle.spl_follow.specs.Parts.{Begins, Runs, Completes, Leaving}
-use Rattle.spl_follow.specs.Simulating.{Surroundings}
-use Rattle.spl_follow.proofs.FollowLemmas.{dropped_follows}
-use Rattle.spl_follow.proofs.KeepLemmas.{arrives_begins}
-use Rattle.spl_follow.proofs.PartLemmas.{stand_in_order}
-use Rattle.spl_follow.proofs.RowLemmas.{row_branches}
-use Rattle.spl_follow.proofs.StandLemmas.{stands_le}
-use Rattle.spl_follow.proofs.WayLemmas.{goes_wider}
-use Rattle.spl_control.specs.Laws.{Settles, bearing}
-use Rattle.spl_control.proofs.ControlLemmas.{landings_by, leaves_within, own_label, other_label}
-use Rattle.spl_values.proofs.SumLemmas.{front_on}
+use Rattle.spl_choices.specs.hp_instr.declared.instruction.Instr.TheVariants as i
+use Rattle.spl_choices.specs.hp_session.State.{Machine}
+use Rattle.spl_choices.specs.spl_branch.declared.pieces.Piece.{Piece}
+use Rattle.spl_choices.specs.spl_branch.declared.pieces.Piece.TheVariants.{Mark}
+use Rattle.spl_choices.specs.spl_meaning.Laws.{IsFront}
+use Rattle.spl_choices.specs.spl_meaning.States.{State, Outcome, to_label, back, done, leaves, spent, ends, strays, code_dropped}
+use Rattle.spl_choices.specs.spl_meaning.Statements.{landing}
+use Rattle.spl_choices.specs.spl_code.Instructions.{LDI, DEL, BR}
+use Rattle.spl_choices.specs.spl_code.Parts.{Part, Wanted}
+use Rattle.spl_choices.specs.spl_statement_code.Instructions.{LSUB}
+use Rattle.spl_choices.specs.spl_follow.Spots.{Spot, pos, on}
+use Rattle.spl_choices.specs.spl_follow.Matching.{Arrives}
+use Rattle.spl_choices.specs.spl_follow.Following.{tally, Follows}
+use Rattle.spl_choices.specs.spl_follow.Leading.{Leads}
+use Rattle.spl_choices.specs.spl_follow.Doing.{turning}
+use Rattle.spl_choices.specs.spl_follow.Standing.{Stands}
+use Rattle.spl_choices.specs.spl_follow.Parts.{Begins, Runs, Completes, Leaving}
+use Rattle.spl_choices.specs.spl_follow.Simulating.{Surroundings}
+use Rattle.spl_choices.proofs.spl_follow_proofs.FollowLemmas.{dropped_follows}
+use Rattle.spl_choices.proofs.spl_follow_proofs.KeepLemmas.{arrives_begins}
+use Rattle.spl_choices.proofs.spl_follow_proofs.PartLemmas.{stand_in_order}
+use Rattle.spl_choices.proofs.spl_follow_proofs.RowLemmas.{row_branches}
+use Rattle.spl_choices.proofs.spl_follow_proofs.StandLemmas.{stands_le}
+use Rattle.spl_choices.proofs.spl_follow_proofs.WayLemmas.{goes_wider}
+use Rattle.spl_choices.specs.spl_control.Laws.{Settles, bearing}
+use Rattle.spl_choices.proofs.spl_control_proofs.ControlLemmas.{landings_by, leaves_within, own_label, other_label}
+use Rattle.spl_choices.proofs.spl_values_proofs.SumLemmas.{front_on}
 use Rattle.spl_choices.proofs.PartLemmas.{settles_after}
 use Rattle.spl_choices.proofs.CaseLemmas.{arm_joined}
 use Rattle.spl_jumps.specs.Laws.{LeadsOn, PerformsAt, listing, ChoosesAt, NoArmChoosesAt, ArmsChooseAt, ArmsLand}

@@ -1,31 +1,31 @@
 -- Jumps: the words that do not wait at the mark are deleted, and BR leads there.
 use Rattle.std.proofs.Common.{◌≡◌, ℕ, zero, suc, ◌+◌, ◌-◌, ◌*◌, ◌≤◌, Bool, true, false, List, [], ◌∷◌, ◌++◌, length, refl, sym, ap, subst, arith}
 use Rattle.std.specs.Prelude.{Option, Some, None, min, replicate, nat_le, ◌/◌, ◌%◌, if◌then◌else◌}
-use Rattle.hp_word.specs.declared.arithmetic.Code.{Code}
-use Rattle.hp_instr.specs.declared.instruction.Instr.TheVariants as i
-use Rattle.hp_session.specs.State.{Machine}
-use Rattle.hp_word_rows.specs.WordRows.{count_row}
-use Rattle.hp_flat.specs.Step.{at_left}
-use Rattle.hp_yields.proofs.WordYields as rows
-use Rattle.spl_tree.specs.declared.names_and_places.At.{At}
-use Rattle.spl_meaning.specs.References.{Setting}
-use Rattle.spl_meaning.specs.States.{Data, State, Begun, Exit, leaves}
-use Rattle.spl_code.specs.Instructions.{BR}
-use Rattle.spl_statement_code.specs.Instructions.{SUBS}
-use Rattle.spl_statement_code.specs.Landings.{dropped}
-use Rattle.spl_follow.specs.Spots.{Spot, spot, pos, Point, on, Ground}
-use Rattle.spl_follow.specs.Leading.{Leads}
-use Rattle.spl_follow.specs.Matching.{Matched, Kept, Arrives, Coded}
-use Rattle.spl_follow.specs.Following.{Rate, tally, tally_with, Owes, Goes, Follows}
-use Rattle.spl_follow.specs.Doing.{doing}
-use Rattle.spl_follow.specs.Standing.{Sites, Stands, IsClosed}
-use Rattle.spl_follow.specs.Parts.{Ready, Completes, Leaving}
-use Rattle.spl_follow.specs.Simulating.{Surroundings}
-use Rattle.spl_follow.proofs.KeepLemmas.{kept_same, kept_lower}
-use Rattle.spl_follow.proofs.PartLemmas.{stand_in_order, statements_begin_noted}
-use Rattle.spl_follow.proofs.RowLemmas.{row_drops, row_branches}
-use Rattle.spl_follow.proofs.StandLemmas.{closed_last, stands_le}
-use Rattle.spl_follow.proofs.WayLemmas.{goes_on}
+use Rattle.spl_choices.specs.hp_word.declared.arithmetic.Code.{Code}
+use Rattle.spl_choices.specs.hp_instr.declared.instruction.Instr.TheVariants as i
+use Rattle.spl_choices.specs.hp_session.State.{Machine}
+use Rattle.spl_choices.specs.hp_word_rows.WordRows.{count_row}
+use Rattle.spl_choices.specs.hp_flat.Step.{at_left}
+use Rattle.spl_choices.proofs.hp_yields_proofs.WordYields as rows
+use Rattle.spl_choices.specs.spl_tree.declared.names_and_places.At.{At}
+use Rattle.spl_choices.specs.spl_meaning.References.{Setting}
+use Rattle.spl_choices.specs.spl_meaning.States.{Data, State, Begun, Exit, leaves}
+use Rattle.spl_choices.specs.spl_code.Instructions.{BR}
+use Rattle.spl_choices.specs.spl_statement_code.Instructions.{SUBS}
+use Rattle.spl_choices.specs.spl_statement_code.Landings.{dropped}
+use Rattle.spl_choices.specs.spl_follow.Spots.{Spot, spot, pos, Point, on, Ground}
+use Rattle.spl_choices.specs.spl_follow.Leading.{Leads}
+use Rattle.spl_choices.specs.spl_follow.Matching.{Matched, Kept, Arrives, Coded}
+use Rattle.spl_choices.specs.spl_follow.Following.{Rate, tally, tally_with, Owes, Goes, Follows}
+use Rattle.spl_choices.specs.spl_follow.Doing.{doing}
+use Rattle.spl_choices.specs.spl_follow.Standing.{Sites, Stands, IsClosed}
+use Rattle.spl_choices.specs.spl_follow.Parts.{Ready, Completes, Leaving}
+use Rattle.spl_choices.specs.spl_follow.Simulating.{Surroundings}
+use Rattle.spl_choices.proofs.spl_follow_proofs.KeepLemmas.{kept_same, kept_lower}
+use Rattle.spl_choices.proofs.spl_follow_proofs.PartLemmas.{stand_in_order, statements_begin_noted}
+use Rattle.spl_choices.proofs.spl_follow_proofs.RowLemmas.{row_drops, row_branches}
+use Rattle.spl_choices.proofs.spl_follow_proofs.StandLemmas.{closed_last, stands_le}
+use Rattle.spl_choices.proofs.spl_follow_proofs.WayLemmas.{goes_on}
 use Rattle.spl_jumps.specs.Laws.{JumpsPerform}
 
 -- ---- words that are deleted

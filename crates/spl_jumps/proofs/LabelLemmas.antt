@@ -3,26 +3,26 @@ use Rattle.std.proofs.Common.{◌≡◌, ℕ, ◌+◌, ◌-◌, ◌≤◌, Bool,
 use Rattle.std.specs.Prelude.{Option, min, if◌then◌else◌}
 use Rattle.std.specs.Cmp.Lexicographic.{same_text}
 use Rattle.std.proofs.lemmas.Bool.{false≢true}
-use Rattle.hp_word.specs.declared.arithmetic.Code.{Code}
-use Rattle.hp_instr.specs.declared.instruction.Instr.TheVariants as i
-use Rattle.hp_session.specs.State.{Machine}
-use Rattle.spl_branch.specs.declared.pieces.Piece.TheVariants.{Do, Mark}
-use Rattle.spl_meaning.specs.Laws.{IsFront}
-use Rattle.spl_meaning.specs.Names.{same_name}
-use Rattle.spl_meaning.specs.States.{State, to_label, Outcome, beginning}
-use Rattle.spl_code.specs.Parts.{Part, Wanted}
-use Rattle.spl_follow.specs.Spots.{Spot, pos, on}
-use Rattle.spl_follow.specs.Matching.{Coded}
-use Rattle.spl_follow.specs.Following.{tally, Follows}
-use Rattle.spl_follow.specs.Standing.{Stands}
-use Rattle.spl_follow.specs.Parts.{Ready, Begins, Runs, Completes, Leaving}
-use Rattle.spl_follow.specs.Simulating.{Surroundings, Performs}
-use Rattle.spl_follow.proofs.FollowLemmas.{then_follows, tail_follows, weaken}
-use Rattle.spl_follow.proofs.KeepLemmas.{kept_same, arrives_after, arrives_begins}
-use Rattle.spl_follow.proofs.RowLemmas.{row_idle}
-use Rattle.spl_follow.proofs.PartLemmas.{statements_begin_plain}
-use Rattle.spl_follow.proofs.StandLemmas.{stands_le}
-use Rattle.spl_follow.proofs.WayLemmas.{goes_none}
+use Rattle.spl_choices.specs.hp_word.declared.arithmetic.Code.{Code}
+use Rattle.spl_choices.specs.hp_instr.declared.instruction.Instr.TheVariants as i
+use Rattle.spl_choices.specs.hp_session.State.{Machine}
+use Rattle.spl_choices.specs.spl_branch.declared.pieces.Piece.TheVariants.{Do, Mark}
+use Rattle.spl_choices.specs.spl_meaning.Laws.{IsFront}
+use Rattle.spl_choices.specs.spl_meaning.Names.{same_name}
+use Rattle.spl_choices.specs.spl_meaning.States.{State, to_label, Outcome, beginning}
+use Rattle.spl_choices.specs.spl_code.Parts.{Part, Wanted}
+use Rattle.spl_choices.specs.spl_follow.Spots.{Spot, pos, on}
+use Rattle.spl_choices.specs.spl_follow.Matching.{Coded}
+use Rattle.spl_choices.specs.spl_follow.Following.{tally, Follows}
+use Rattle.spl_choices.specs.spl_follow.Standing.{Stands}
+use Rattle.spl_choices.specs.spl_follow.Parts.{Ready, Begins, Runs, Completes, Leaving}
+use Rattle.spl_choices.specs.spl_follow.Simulating.{Surroundings, Performs}
+use Rattle.spl_choices.proofs.spl_follow_proofs.FollowLemmas.{then_follows, tail_follows, weaken}
+use Rattle.spl_choices.proofs.spl_follow_proofs.KeepLemmas.{kept_same, arrives_after, arrives_begins}
+use Rattle.spl_choices.proofs.spl_follow_proofs.RowLemmas.{row_idle}
+use Rattle.spl_choices.proofs.spl_follow_proofs.PartLemmas.{statements_begin_plain}
+use Rattle.spl_choices.proofs.spl_follow_proofs.StandLemmas.{stands_le}
+use Rattle.spl_choices.proofs.spl_follow_proofs.WayLemmas.{goes_none}
 use Rattle.spl_jumps.specs.Laws.{LabelledPerform, UnreachedPerform, LeadsOn, PerformsAt, UnlabelledPerformAt, LabelledPerformAt}
 
 -- where code ends

@@ -2,28 +2,28 @@
 use Rattle.std.proofs.Common.{◌≡◌, ℕ, ◌+◌, ◌-◌, ◌≤◌, Bool, true, false, List, [], ◌∷◌, refl, sym, subst, arith}
 use Rattle.std.specs.Prelude.{Option, min, if◌then◌else◌}
 use Rattle.std.proofs.lemmas.Bool.{false≢true}
-use Rattle.hp_word.specs.declared.arithmetic.Code.{Code}
-use Rattle.hp_instr.specs.declared.instruction.Instr.TheVariants as i
-use Rattle.hp_session.specs.State.{Machine}
-use Rattle.spl_branch.specs.declared.pieces.Piece.TheVariants.{Do}
-use Rattle.spl_meaning.specs.Laws.{IsFront}
-use Rattle.spl_meaning.specs.States.{State, Outcome, to_label, then_go, code_dropped}
-use Rattle.spl_meaning.specs.Statements.{landing}
-use Rattle.spl_code.specs.Parts.{Part, Wanted}
-use Rattle.spl_follow.specs.Spots.{Spot, pos, on}
-use Rattle.spl_follow.specs.Matching.{Coded}
-use Rattle.spl_follow.specs.Following.{tally, Follows}
-use Rattle.spl_follow.specs.Standing.{Stands}
-use Rattle.spl_follow.specs.Parts.{Ready, Begins, RunsAll, Completes, Leaving}
-use Rattle.spl_follow.specs.Simulating.{Surroundings, PerformsAll}
-use Rattle.spl_follow.proofs.FollowLemmas.{then_follows, weaken, dropped_follows}
-use Rattle.spl_follow.proofs.KeepLemmas.{kept_same, arrives_after, arrives_begins}
-use Rattle.spl_follow.proofs.RowLemmas.{row_idle}
-use Rattle.spl_follow.proofs.PartLemmas.{stand_in_order, stand_from_place, statements_begin_plain, statements_follow}
-use Rattle.spl_control.specs.Laws.{bearing}
-use Rattle.spl_control.proofs.ControlLemmas.{leaves_below, leaves_sooner, landings}
-use Rattle.spl_values.proofs.GiveLemmas.{last_leads}
-use Rattle.spl_values.proofs.SumLemmas.{front_on}
+use Rattle.spl_choices.specs.hp_word.declared.arithmetic.Code.{Code}
+use Rattle.spl_choices.specs.hp_instr.declared.instruction.Instr.TheVariants as i
+use Rattle.spl_choices.specs.hp_session.State.{Machine}
+use Rattle.spl_choices.specs.spl_branch.declared.pieces.Piece.TheVariants.{Do}
+use Rattle.spl_choices.specs.spl_meaning.Laws.{IsFront}
+use Rattle.spl_choices.specs.spl_meaning.States.{State, Outcome, to_label, then_go, code_dropped}
+use Rattle.spl_choices.specs.spl_meaning.Statements.{landing}
+use Rattle.spl_choices.specs.spl_code.Parts.{Part, Wanted}
+use Rattle.spl_choices.specs.spl_follow.Spots.{Spot, pos, on}
+use Rattle.spl_choices.specs.spl_follow.Matching.{Coded}
+use Rattle.spl_choices.specs.spl_follow.Following.{tally, Follows}
+use Rattle.spl_choices.specs.spl_follow.Standing.{Stands}
+use Rattle.spl_choices.specs.spl_follow.Parts.{Ready, Begins, RunsAll, Completes, Leaving}
+use Rattle.spl_choices.specs.spl_follow.Simulating.{Surroundings, PerformsAll}
+use Rattle.spl_choices.proofs.spl_follow_proofs.FollowLemmas.{then_follows, weaken, dropped_follows}
+use Rattle.spl_choices.proofs.spl_follow_proofs.KeepLemmas.{kept_same, arrives_after, arrives_begins}
+use Rattle.spl_choices.proofs.spl_follow_proofs.RowLemmas.{row_idle}
+use Rattle.spl_choices.proofs.spl_follow_proofs.PartLemmas.{stand_in_order, stand_from_place, statements_begin_plain, statements_follow}
+use Rattle.spl_choices.specs.spl_control.Laws.{bearing}
+use Rattle.spl_choices.proofs.spl_control_proofs.ControlLemmas.{leaves_below, leaves_sooner, landings}
+use Rattle.spl_choices.proofs.spl_values_proofs.GiveLemmas.{last_leads}
+use Rattle.spl_choices.proofs.spl_values_proofs.SumLemmas.{front_on}
 use Rattle.spl_jumps.specs.Laws.{PerformsAt, PerformsFrom, NothingPerformsFrom, ListsPerformFrom, ListsLand, BlocksPerform}
 use Rattle.spl_jumps.proofs.LabelLemmas.{stays}
 

@@ -2,24 +2,24 @@
 use Rattle.std.proofs.Common.{◌≡◌, ℕ, ◌-◌, ◌≤◌, Bool, true, false, List, [], ◌∷◌, ◌++◌, Option, Some, None, refl, sym, ap, subst, ◌∙◌, arith}
 use Rattle.std.specs.Prelude.{is_some, if◌then◌else◌}
 use Rattle.std.proofs.lemmas.Bool.{false≢true, eqb-true}
-use Rattle.spl_branch.specs.declared.pieces.Piece.TheVariants.{Begin, Mark}
-use Rattle.spl_tree.specs.declared.names_and_places.At.{At}
-use Rattle.spl_tree.specs.StatementTrees as stat
-use Rattle.spl_tree.specs.StatementTrees.{Statement, Statements}
-use Rattle.spl_meaning.specs.Names.{same_name}
-use Rattle.spl_meaning.specs.StatementRules.{has_name, own_labels, list_labels}
-use Rattle.spl_meaning.specs.States.{State, to_label, Outcome, leaves, beginning, stopping}
-use Rattle.spl_meaning.specs.Statements.{bears, bears_among}
-use Rattle.spl_code.specs.Instructions.{BR}
-use Rattle.spl_code.specs.Parts.{Part, piece, nothing, ◌⨟◌}
-use Rattle.spl_statement_code.specs.Landings.{Landing, dropped, jump, gone_to, landed}
-use Rattle.spl_statement_code.specs.Instructions.{SUBS}
-use Rattle.spl_statement_code.specs.Statements.{idle}
-use Rattle.spl_follow.specs.Simulating.{Surroundings, Performs}
-use Rattle.spl_follow.proofs.StandLemmas.{closed_last}
-use Rattle.spl_values.specs.Reached.{IsWhole}
-use Rattle.spl_values.proofs.VariableLemmas.{both}
-use Rattle.spl_values.proofs.WholeLemmas.{whole_pieces, whole_then}
+use Rattle.spl_choices.specs.spl_branch.declared.pieces.Piece.TheVariants.{Begin, Mark}
+use Rattle.spl_choices.specs.spl_tree.declared.names_and_places.At.{At}
+use Rattle.spl_choices.specs.spl_tree.StatementTrees as stat
+use Rattle.spl_choices.specs.spl_tree.StatementTrees.{Statement, Statements}
+use Rattle.spl_choices.specs.spl_meaning.Names.{same_name}
+use Rattle.spl_choices.specs.spl_meaning.StatementRules.{has_name, own_labels, list_labels}
+use Rattle.spl_choices.specs.spl_meaning.States.{State, to_label, Outcome, leaves, beginning, stopping}
+use Rattle.spl_choices.specs.spl_meaning.Statements.{bears, bears_among}
+use Rattle.spl_choices.specs.spl_code.Instructions.{BR}
+use Rattle.spl_choices.specs.spl_code.Parts.{Part, piece, nothing, ◌⨟◌}
+use Rattle.spl_choices.specs.spl_statement_code.Landings.{Landing, dropped, jump, gone_to, landed}
+use Rattle.spl_choices.specs.spl_statement_code.Instructions.{SUBS}
+use Rattle.spl_choices.specs.spl_statement_code.Statements.{idle}
+use Rattle.spl_choices.specs.spl_follow.Simulating.{Surroundings, Performs}
+use Rattle.spl_choices.proofs.spl_follow_proofs.StandLemmas.{closed_last}
+use Rattle.spl_choices.specs.spl_values.Reached.{IsWhole}
+use Rattle.spl_choices.proofs.spl_values_proofs.VariableLemmas.{both}
+use Rattle.spl_choices.proofs.spl_values_proofs.WholeLemmas.{whole_pieces, whole_then}
 use Rattle.spl_jumps.specs.Landed.{is_landing, is_landed, are_landed, MayJump}
 use Rattle.spl_jumps.specs.Laws.{PerformsAt, listing}
 use Rattle.spl_jumps.proofs.JumpLemmas.{jumps}

@@ -1,11 +1,11 @@
 -- Labels and jumps in a tree: which lead somewhere, and what they find around them.
 use Rattle.std.specs.Prelude.{◌≡◌, ℕ, ◌+◌, ◌≤◌, ◌==◌, ◌&&◌, Bool, true, false, List, ◌++◌, Option, Some, None, is_some}
-use Rattle.spl_tree.specs.StatementTrees as stat
-use Rattle.spl_tree.specs.StatementTrees.{Statement, Statements}
-use Rattle.spl_meaning.specs.StatementRules.{has_name, list_labels}
-use Rattle.spl_meaning.specs.States.{to_label}
-use Rattle.spl_statement_code.specs.Landings.{Landing}
-use Rattle.spl_follow.specs.Simulating.{Surroundings}
+use Rattle.spl_choices.specs.spl_tree.StatementTrees as stat
+use Rattle.spl_choices.specs.spl_tree.StatementTrees.{Statement, Statements}
+use Rattle.spl_choices.specs.spl_meaning.StatementRules.{has_name, list_labels}
+use Rattle.spl_choices.specs.spl_meaning.States.{to_label}
+use Rattle.spl_choices.specs.spl_statement_code.Landings.{Landing}
+use Rattle.spl_choices.specs.spl_follow.Simulating.{Surroundings}
 
 -- a label leads to where so many words wait
 abbrev pub is_landing : Option Landing → ℕ → Bool

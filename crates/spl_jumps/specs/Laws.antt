@@ -1,24 +1,24 @@
 -- The laws of this crate: jumps, statements that bear labels, and the lists that take jumps, over their parts as variables.
 use Rattle.std.specs.Prelude.{◌≡◌, ℕ, ◌+◌, ◌-◌, ◌≤◌, Bool, true, false, if◌then◌else◌, List, [], ◌∷◌, ◌++◌}
-use Rattle.hp_session.specs.State.{Machine}
-use Rattle.spl_tree.specs.declared.names_and_places.At.{At}
-use Rattle.spl_branch.specs.declared.pieces.Piece.TheVariants.{Begin, Mark}
-use Rattle.spl_meaning.specs.Laws.{IsFront}
-use Rattle.spl_meaning.specs.Names.{same_name}
-use Rattle.spl_meaning.specs.States.{Data, State, Exit, to_label, Outcome, leaves, then_go, stopping, beginning, code_dropped}
-use Rattle.spl_meaning.specs.Statements.{landing}
-use Rattle.spl_code.specs.Instructions.{DEL}
-use Rattle.spl_code.specs.Parts.{Part, Wanted, piece, nothing, ◌⨟◌}
-use Rattle.spl_statement_code.specs.Landings.{jump}
-use Rattle.spl_statement_code.specs.Statements.{idle, arm}
-use Rattle.spl_follow.specs.Spots.{Spot, pos, on}
-use Rattle.spl_follow.specs.Matching.{Arrives}
-use Rattle.spl_follow.specs.Following.{tally, Goes}
-use Rattle.spl_follow.specs.Standing.{Stands, due_after}
-use Rattle.spl_follow.specs.Parts.{Begins, Runs, RunsAll}
-use Rattle.spl_follow.specs.Simulating.{Surroundings, Performs, PerformsAll}
-use Rattle.spl_control.specs.Laws.{bearing}
-use Rattle.spl_values.specs.Reached.{IsWhole}
+use Rattle.spl_choices.specs.hp_session.State.{Machine}
+use Rattle.spl_choices.specs.spl_tree.declared.names_and_places.At.{At}
+use Rattle.spl_choices.specs.spl_branch.declared.pieces.Piece.TheVariants.{Begin, Mark}
+use Rattle.spl_choices.specs.spl_meaning.Laws.{IsFront}
+use Rattle.spl_choices.specs.spl_meaning.Names.{same_name}
+use Rattle.spl_choices.specs.spl_meaning.States.{Data, State, Exit, to_label, Outcome, leaves, then_go, stopping, beginning, code_dropped}
+use Rattle.spl_choices.specs.spl_meaning.Statements.{landing}
+use Rattle.spl_choices.specs.spl_code.Instructions.{DEL}
+use Rattle.spl_choices.specs.spl_code.Parts.{Part, Wanted, piece, nothing, ◌⨟◌}
+use Rattle.spl_choices.specs.spl_statement_code.Landings.{jump}
+use Rattle.spl_choices.specs.spl_statement_code.Statements.{idle, arm}
+use Rattle.spl_choices.specs.spl_follow.Spots.{Spot, pos, on}
+use Rattle.spl_choices.specs.spl_follow.Matching.{Arrives}
+use Rattle.spl_choices.specs.spl_follow.Following.{tally, Goes}
+use Rattle.spl_choices.specs.spl_follow.Standing.{Stands, due_after}
+use Rattle.spl_choices.specs.spl_follow.Parts.{Begins, Runs, RunsAll}
+use Rattle.spl_choices.specs.spl_follow.Simulating.{Surroundings, Performs, PerformsAll}
+use Rattle.spl_choices.specs.spl_control.Laws.{bearing}
+use Rattle.spl_choices.specs.spl_values.Reached.{IsWhole}
 use Rattle.spl_choices.specs.Laws.{Chooses}
 
 -- A jump is a statement that is noted and leaves its list by a way out, to whose mark it leads: of the words that wait it deletes those that do

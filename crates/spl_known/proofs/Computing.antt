@@ -1,14 +1,14 @@
 -- What computes when a known program is run.
 use Rattle.std.specs.Prelude.{ℕ}
-use Rattle.hp_word.specs.Words as w
-use Rattle.hp_word.specs.Bits as bits
-use Rattle.hp_word.specs.Bytes as bytes
-use Rattle.hp_word.specs.Texts as numbers
-use Rattle.hp_word.specs.Intrinsics as gate
-use Rattle.spl_tree.specs.Operators as ops
-use Rattle.spl_tree.specs.Statements as stat
-use Rattle.spl_tree.specs.StatementTrees as trees
-use Rattle.spl_tree.specs.Declarations as decl
+use Rattle.spl_meaning.specs.hp_word.Words as w
+use Rattle.spl_meaning.specs.hp_word.Bits as bits
+use Rattle.spl_meaning.specs.hp_word.Bytes as bytes
+use Rattle.spl_meaning.specs.hp_word.Texts as numbers
+use Rattle.spl_meaning.specs.hp_word.Intrinsics as gate
+use Rattle.spl_meaning.specs.spl_tree.Operators as ops
+use Rattle.spl_meaning.specs.spl_tree.Statements as stat
+use Rattle.spl_meaning.specs.spl_tree.StatementTrees as trees
+use Rattle.spl_meaning.specs.spl_tree.Declarations as decl
 use Rattle.spl_cuts.specs.Commands as commands
 use Rattle.spl_cuts.specs.Reading as cutread
 use Rattle.spl_reading.specs.Readers as rd

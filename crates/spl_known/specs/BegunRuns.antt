@@ -1,6 +1,6 @@
 -- Statements that runs begin: each program by its text, with their numbers, lines, columns and condition codes, and some words.
 use Rattle.std.specs.Prelude.{List, [], ◌∷◌, Some, None}
-use Rattle.hp_word.specs.declared.arithmetic.Code.TheVariants.{Greater}
+use Rattle.spl_meaning.specs.hp_word.declared.arithmetic.Code.TheVariants.{Greater}
 use Rattle.spl_known.specs.Programs.{KnownBegun}
 
 -- a loop, its body three times, and the call; I stands at 0 and K at 1

@@ -1,12 +1,12 @@
 -- Units that pass a limit, and some that just keep it, each made of many like parts: number n stands in column n.
 use Rattle.std.specs.Prelude.{ℕ, zero, suc, ◌≡◌, Bool, true, false, List, [], ◌∷◌, ◌++◌, Option, Some, None}
-use Rattle.spl_tree.specs.declared.names_and_places.At.{At}
-use Rattle.spl_tree.specs.declared.expressions.Kind.{Kind}
-use Rattle.spl_tree.specs.declared.expressions.Kind.TheVariants as kind
-use Rattle.spl_tree.specs.Trees as tree
-use Rattle.spl_tree.specs.Trees.{Tree, trees}
-use Rattle.spl_tree.specs.DeclarationTrees as decl
-use Rattle.spl_tree.specs.DeclarationTrees.{Placed, Heading, Item, Declaration, declarations}
+use Rattle.spl_meaning.specs.spl_tree.declared.names_and_places.At.{At}
+use Rattle.spl_meaning.specs.spl_tree.declared.expressions.Kind.{Kind}
+use Rattle.spl_meaning.specs.spl_tree.declared.expressions.Kind.TheVariants as kind
+use Rattle.spl_meaning.specs.spl_tree.Trees as tree
+use Rattle.spl_meaning.specs.spl_tree.Trees.{Tree, trees}
+use Rattle.spl_meaning.specs.spl_tree.DeclarationTrees as decl
+use Rattle.spl_meaning.specs.spl_tree.DeclarationTrees.{Placed, Heading, Item, Declaration, declarations}
 use Rattle.spl_meaning.specs.Tables.{Source}
 use Rattle.spl_meaning.specs.Limits.{Full, Sized, Use, passing, use_limits, first_among, first_full}
 

@@ -1,9 +1,9 @@
 -- From the texts of units to their run: what is said of some programs, each by its text.
 use Rattle.std.specs.Prelude.{ℕ, suc, ◌≡◌, List, [], ◌∷◌, ◌++◌, map, codes, Option, Some, None, Result, Ok, Err}
 use Prim.Native.String.{String}
-use Rattle.hp_word.specs.declared.arithmetic.Code.{Code}
-use Rattle.spl_tree.specs.declared.names_and_places.At.{At}
-use Rattle.spl_tree.specs.DeclarationTrees.{UnitTree}
+use Rattle.spl_meaning.specs.hp_word.declared.arithmetic.Code.{Code}
+use Rattle.spl_meaning.specs.spl_tree.declared.names_and_places.At.{At}
+use Rattle.spl_meaning.specs.spl_tree.DeclarationTrees.{UnitTree}
 use Rattle.spl_cuts.specs.Signs.{Listed}
 use Rattle.spl_cuts.specs.Lexemes.{lexemes}
 use Rattle.spl_cuts.specs.Reading.{read_text}

@@ -1,7 +1,7 @@
 -- Runs of arrays, pointers, views and parameters by reference: each program by its text, with the point at which its run is after some steps.
 use Rattle.std.specs.Prelude.{pos, List, [], ◌∷◌, codes}
-use Rattle.hp_word.specs.declared.endings.Ending.TheVariants.{Quit, Trapped}
-use Rattle.hp_word.specs.declared.endings.Trap.TheVariants.{Bounds}
+use Rattle.spl_meaning.specs.hp_word.declared.endings.Ending.TheVariants.{Quit, Trapped}
+use Rattle.spl_meaning.specs.hp_word.declared.endings.Trap.TheVariants.{Bounds}
 use Rattle.spl_meaning.specs.Runs.{stands, stray}
 use Rattle.spl_known.specs.Programs.{Known, usual, general}
 

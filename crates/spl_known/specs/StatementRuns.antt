@@ -1,7 +1,7 @@
 -- Runs of statements: each program by its text, with the point at which its run is after some steps.
 use Rattle.std.specs.Prelude.{pos, negsuc, List, [], ◌∷◌, codes}
-use Rattle.hp_word.specs.declared.endings.Ending.TheVariants.{Running, Terminated, Quit, Trapped}
-use Rattle.hp_word.specs.declared.endings.Trap.TheVariants.{IntegerOverflow}
+use Rattle.spl_meaning.specs.hp_word.declared.endings.Ending.TheVariants.{Running, Terminated, Quit, Trapped}
+use Rattle.spl_meaning.specs.hp_word.declared.endings.Trap.TheVariants.{IntegerOverflow}
 use Rattle.spl_meaning.specs.Runs.{stands}
 use Rattle.spl_known.specs.Programs.{Known, usual, general}
 

@@ -2,15 +2,15 @@
 use Rattle.std.proofs.Common.{◌≡◌, ℕ, zero, suc, ◌+◌, rules, not, Bool, true, false, List, [], ◌∷◌, ◌++◌, map, length, Option, Some, refl, sym, ap, subst, ◌∙◌}
 use Rattle.std.specs.Prelude.{if◌then◌else◌}
 use Rattle.std.proofs.lemmas.List.{map-append}
-use Rattle.spl_tree.specs.declared.names_and_places.At.{At}
-use Rattle.spl_tree.specs.StatementTrees as stat
-use Rattle.spl_tree.specs.StatementTrees.{Statement, Statements}
-use Rattle.spl_tree.specs.DeclarationTrees.{Placed}
-use Rattle.spl_meaning.specs.Names.{Table, find, same_name}
-use Rattle.spl_meaning.specs.Faults.{Fault, unless}
-use Rattle.spl_meaning.specs.StatementRules.{all_labels, all_labels_of, is_listed, repeated, label_faults}
-use Rattle.spl_statement_code.specs.Landings.{Landing, Context}
-use Rattle.spl_statement_code.specs.Labels.{mark_of, marks_of}
+use Rattle.spl_module_code.specs.spl_tree.declared.names_and_places.At.{At}
+use Rattle.spl_module_code.specs.spl_tree.StatementTrees as stat
+use Rattle.spl_module_code.specs.spl_tree.StatementTrees.{Statement, Statements}
+use Rattle.spl_module_code.specs.spl_tree.DeclarationTrees.{Placed}
+use Rattle.spl_module_code.specs.spl_meaning.Names.{Table, find, same_name}
+use Rattle.spl_module_code.specs.spl_meaning.Faults.{Fault, unless}
+use Rattle.spl_module_code.specs.spl_meaning.StatementRules.{all_labels, all_labels_of, is_listed, repeated, label_faults}
+use Rattle.spl_module_code.specs.spl_statement_code.Landings.{Landing, Context}
+use Rattle.spl_module_code.specs.spl_statement_code.Labels.{mark_of, marks_of}
 use Rattle.spl_module_code.specs.LabelsOfBodies.{Label, labels_in, labels_among, landed_from}
 use Rattle.spl_label_marks.specs.Laws.{Lead, LabelsLead}
 

@@ -1,7 +1,7 @@
 -- A part with marks for labels, behind so many marks.
 use Rattle.std.proofs.Common.{◌≡◌, ℕ, suc, ◌+◌, [], ◌∷◌, length, ap, ◌∙◌, arith}
-use Rattle.spl_code.specs.Parts.{Written}
-use Rattle.spl_statement_code.specs.Landings.{Landing}
+use Rattle.spl_module_code.specs.spl_code.Parts.{Written}
+use Rattle.spl_module_code.specs.spl_statement_code.Landings.{Landing}
 use Rattle.spl_module_code.specs.LabelsOfBodies.{landed_from}
 use Rattle.spl_label_marks.specs.Laws.{with_more, LabelledPartsAre}
 

@@ -1,10 +1,10 @@
 -- The laws of this crate: each label of a body has its own mark, where none stands twice; and what a part with marks for labels is.
 use Rattle.std.specs.Prelude.{◌≡◌, ℕ, suc, ◌+◌, List, [], ◌∷◌, length, Option, Some}
-use Rattle.spl_tree.specs.StatementTrees.{Statements}
-use Rattle.spl_meaning.specs.Names.{Table, find}
-use Rattle.spl_meaning.specs.StatementRules.{label_faults}
-use Rattle.spl_code.specs.Parts.{Part, Written, Wanted}
-use Rattle.spl_statement_code.specs.Landings.{Landing}
+use Rattle.spl_module_code.specs.spl_tree.StatementTrees.{Statements}
+use Rattle.spl_module_code.specs.spl_meaning.Names.{Table, find}
+use Rattle.spl_module_code.specs.spl_meaning.StatementRules.{label_faults}
+use Rattle.spl_module_code.specs.spl_code.Parts.{Part, Written, Wanted}
+use Rattle.spl_module_code.specs.spl_statement_code.Landings.{Landing}
 use Rattle.spl_module_code.specs.LabelsOfBodies.{Label, labels_among, with_landings, landed_from}
 
 -- labels lead to the marks from one on

@@ -1,1 +1,9 @@
 pub mod Laws
+-- Passed on from the crates below.
+pub use Rattle.spl_module_code.specs.spl_body_code
+pub use Rattle.spl_module_code.specs.spl_code
+pub use Rattle.spl_module_code.specs as spl_module_code
+pub use Rattle.spl_module_code.specs.spl_modules
+pub use Rattle.spl_module_code.specs.spl_places
+pub use Rattle.spl_module_code.specs.spl_scopes
+pub use Rattle.spl_module_code.specs.spl_statement_code

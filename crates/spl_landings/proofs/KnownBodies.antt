@@ -1,25 +1,25 @@
 -- The statements of bodies, worked by hand.
 use Rattle.std.specs.Prelude.{◌≡◌, ℕ, true, false, List, [], ◌∷◌, codes, refl}
 use Prim.Native.String.{String}
-use Rattle.hp_instr.specs.declared.instruction.Mode.TheVariants.{QPlus}
+use Rattle.spl_branch.specs.hp_instr.declared.instruction.Mode.TheVariants.{QPlus}
 use Rattle.spl_tree.specs.declared.names_and_places.At.{At}
 use Rattle.spl_tree.specs.declared.expressions.Kind.TheVariants as kind
 use Rattle.spl_tree.specs.Trees as tree
 use Rattle.spl_tree.specs.StatementTrees as stat
 use Rattle.spl_tree.specs.StatementTrees.{Statement, statements}
-use Rattle.spl_meaning.specs.Names.{Sort, find, simple}
-use Rattle.spl_meaning.specs.Places.{Place, above_base}
-use Rattle.spl_meaning.specs.Bodies.{Body}
-use Rattle.spl_meaning.specs.Faults.{fault}
-use Rattle.spl_meaning.specs.StatementRules.{label_faults}
+use Rattle.spl_gen_stmt.specs.spl_meaning.Names.{Sort, find, simple}
+use Rattle.spl_gen_stmt.specs.spl_meaning.Places.{Place, above_base}
+use Rattle.spl_gen_stmt.specs.spl_meaning.Bodies.{Body}
+use Rattle.spl_gen_stmt.specs.spl_meaning.Faults.{fault}
+use Rattle.spl_gen_stmt.specs.spl_meaning.StatementRules.{label_faults}
 use Rattle.spl_branch.specs.declared.pieces.Piece.{Piece}
 use Rattle.spl_branch.specs.declared.pieces.Piece.TheVariants.{Mark, Begin}
-use Rattle.spl_code.specs.Instructions.{LDI, LDNI, STOR, LRA, BR, BRE}
-use Rattle.spl_code.specs.Parts.{Written}
-use Rattle.spl_code.specs.Calls.{Scope}
-use Rattle.spl_statement_code.specs.Instructions.{SUBS, TBA, MTBA}
-use Rattle.spl_scopes.specs.Entries.{Owner, Entry}
-use Rattle.spl_module_code.specs.Bodies.{body_statements, statements_scope}
+use Rattle.spl_label_marks.specs.spl_code.Instructions.{LDI, LDNI, STOR, LRA, BR, BRE}
+use Rattle.spl_label_marks.specs.spl_code.Parts.{Written}
+use Rattle.spl_label_marks.specs.spl_code.Calls.{Scope}
+use Rattle.spl_label_marks.specs.spl_statement_code.Instructions.{SUBS, TBA, MTBA}
+use Rattle.spl_label_marks.specs.spl_scopes.Entries.{Owner, Entry}
+use Rattle.spl_label_marks.specs.spl_module_code.Bodies.{body_statements, statements_scope}
 use Rattle.spl_landings.specs.Bodies.{statements_part}
 
 -- I, a local item

@@ -1,12 +1,12 @@
 -- The statements of a body, as a part of code.
 use Rattle.std.specs.Prelude.{ℕ}
 use Rattle.spl_tree.specs.StatementTrees.{Statements}
-use Rattle.spl_meaning.specs.Names.{Table, find}
-use Rattle.spl_code.specs.Parts.{Part}
-use Rattle.spl_code.specs.Calls.{Scope}
-use Rattle.spl_statement_code.specs.Landings.{Landing, Context}
-use Rattle.spl_statement_code.specs.Statements.{listed}
-use Rattle.spl_module_code.specs.LabelsOfBodies.{labels_among, with_landings}
+use Rattle.spl_gen_stmt.specs.spl_meaning.Names.{Table, find}
+use Rattle.spl_label_marks.specs.spl_code.Parts.{Part}
+use Rattle.spl_label_marks.specs.spl_code.Calls.{Scope}
+use Rattle.spl_label_marks.specs.spl_statement_code.Landings.{Landing, Context}
+use Rattle.spl_label_marks.specs.spl_statement_code.Statements.{listed}
+use Rattle.spl_label_marks.specs.spl_module_code.LabelsOfBodies.{labels_among, with_landings}
 
 -- what the statements of a body are made with, where its labels lead as a table has it, and RETURN to a mark
 abbrev pub context_with : Scope → Table Landing → ℕ → Context

@@ -1,10 +1,10 @@
 -- What the layout of a program is.
 use Rattle.std.specs.Prelude.{◌≡◌, List}
-use Rattle.spl_meaning.specs.Tables.{Source}
-use Rattle.spl_meaning.specs.Places.{put_cells, put_initials}
-use Rattle.spl_meaning.specs.Bodies.{data_words, program_of}
-use Rattle.spl_meaning.specs.Runs.{global_address, zeros}
-use Rattle.spl_initials.specs.Memory.{memory_of}
+use Rattle.spl_sound.specs.spl_meaning.Tables.{Source}
+use Rattle.spl_sound.specs.spl_meaning.Places.{put_cells, put_initials}
+use Rattle.spl_sound.specs.spl_meaning.Bodies.{data_words, program_of}
+use Rattle.spl_sound.specs.spl_meaning.Runs.{global_address, zeros}
+use Rattle.spl_entries.specs.spl_initials.Memory.{memory_of}
 use Rattle.spl_entries.specs.Entries.{entries_of}
 use Rattle.spl_rooms.specs.Rooms.{rooms_of}
 use Rattle.spl_layout.specs.declared.layouts.Layout.{Layout}

@@ -1,12 +1,12 @@
 //! The layout of a program.
 ghost use Rattle.std.specs.Prelude.{◌≡◌, IfOk, IfErr, map, None};
-ghost use Rattle.spl_meaning.specs.Limits.{first_full};
+ghost use Rattle.spl_sound.specs.spl_meaning.Limits.{first_full};
 ghost use Rattle.spl_sound.specs.Spelled.{source_of};
 ghost use Rattle.spl_limits.specs.Answers.{IsFull};
 ghost use Rattle.spl_layout.specs.Layouts.{IsLayout};
 
 use spl_entries::Place;
-use spl_globals::data_words;
+use spl_entries::spl_globals::data_words;
 use spl_limits::{LimitFault, limits};
 use spl_rooms::{Room, rooms};
 use spl_sound::Sound;

@@ -1,4 +1,7 @@
 //! The levels of operators, from an operand up to a whole expression or condition.
+//!
+//! At a fault a part that was read is dropped by a call of `drop`. A `?` writes out the drop of all that it lets go, which
+//! of an expression is long, and each rule is proved with it.
 ghost use Rattle.std.specs.Prelude.{◌≡◌, ◌+◌, ◌-◌, ◌/◌, ◌<◌, ◌≤◌, ◌==◌, ◌&&◌, if◌then◌else◌, not, suc, Bool, IfOk, IsTrue, OnOk, None, true, false};
 ghost use Rattle.spl_tree.specs.Operators as operators;
 ghost use Rattle.spl_tree.specs.Trees as tree;
@@ -7,6 +10,7 @@ ghost use Rattle.spl_reading.specs.Readers as readers;
 ghost use Rattle.spl_reading.specs.ReadExpressions as spec;
 ghost use Rattle.spl_tokens.specs.Reads.{Reads, lexeme, shown, paired, peeked, same_as};
 ghost use Rattle.spl_levels.specs.Parts.{form, tree_of, operand, found};
+ghost use Rattle.spl_levels.specs.Pieces as pieces;
 ghost use Rattle.spl_levels.specs.Nests.{Nests, counted_bytes, level, turn, first, term, join, bytes, whole};
 
 use crate::comparison::Comparison;
@@ -50,7 +54,7 @@ fn signed(alloc: Global, op: u8, of: Part, at: At) -> Result<Part, AllocError>
     ensures shape { IfOk result (λ p. form p ≡ operators.other) }
     ensures tree { IfOk result (λ p. tree_of p ≡ tree.Tree.unary (operators.sign_number op) (tree_of of) at) }
 {
-    let of = Box::new(alloc, of.into_expr(alloc)?)?;
+    let of = of.into_box(alloc)?;
     Ok(Part::Other(Expr::Unary {
         op: op - binary::PLUS,
         of,
@@ -63,14 +67,31 @@ fn joined(alloc: Global, op: u8, left: Part, right: Part, at: At) -> Result<Part
     ensures shape { IfOk result (λ p. form p ≡ operators.other) }
     ensures tree { IfOk result (λ p. tree_of p ≡ tree.Tree.binary op (tree_of left) (tree_of right) at) }
 {
-    let left = Box::new(alloc, left.into_expr(alloc)?)?;
-    let right = Box::new(alloc, right.into_expr(alloc)?)?;
-    Ok(Part::Other(Expr::Binary {
-        op,
-        left,
-        right,
-        at,
-    }))
+    match left.into_box(alloc) {
+        Ok(left) => {
+            let right = right.into_box(alloc)?;
+            Ok(Part::Other(Expr::Binary {
+                op,
+                left,
+                right,
+                at,
+            }))
+        }
+        Err(error) => {
+            drop(right);
+            Err(error)
+        }
+    }
+}
+
+/// A shift, by its number and how far it goes.
+fn shifted_by(alloc: Global, of: Part, amount: (u8, Const), at: At) -> Result<Part, AllocError>
+    ensures shape { IfOk result (λ p. form p ≡ operators.other) }
+    ensures tree { IfOk result (λ p. tree_of p ≡ tree.Tree.shift amount.0 (tree_of of) (view.constant amount.1) at) }
+{
+    let of = of.into_box(alloc)?;
+    let (kind, by) = amount;
+    Ok(Part::Other(Expr::Shift { kind, of, by, at }))
 }
 
 /// The place of a part: that of the minus that belongs to its number, or else of its first token.
@@ -175,7 +196,22 @@ impl<F: Fn(Global, &mut Tokens<'_>, u8, u8, Option<At>) -> Result<Part, Fault> +
         Ok(Found { count, part })
     }
 
-    #[tactic(auto, using(spl_tokens::proofs::Steps::steps), unfolding(spl_reading::specs::Readers::pure, spl_reading::specs::Readers::refuse, spl_reading::specs::Readers::followed, spl_reading::specs::Readers::and_then, crate::specs::Parts::operand, crate::specs::Parts::found, spl_reading::specs::ReadExpressions::shifted))]
+    #[tactic(auto, using(spl_tokens::proofs::Steps::steps), unfolding(spl_reading::specs::Readers::pure, spl_reading::specs::Readers::refuse, spl_reading::specs::Readers::followed, spl_reading::specs::Readers::and_then, crate::specs::Pieces::amount))]
+    /// The number of a shift and how far it goes, from its mark on, behind so many operators.
+    fn amount(&self, tokens: &mut Tokens<'_>, count: u16) -> Result<(u8, Const), Fault>
+        requires room { self.now.taken + count / 8 ≤ self.now.room }
+        ensures read { Reads pieces.shift (pieces.amount self.now.condition self.now.room self.now.taken count tokens.old) result tokens.new }
+        ensures fits { OnOk result (self.now.taken + suc count / 8 ≤ self.now.room) }
+    {
+        self.counted(tokens, count)?;
+        let kind = shift_kind(tokens)?;
+        tokens.expect(Symbol::Open)?;
+        let by = constant(self.alloc, tokens)?;
+        tokens.expect(Symbol::Close)?;
+        Ok((kind, by))
+    }
+
+    #[tactic(auto, using(spl_tokens::proofs::Steps::steps, crate::proofs::PieceLemmas::shifted_is), unfolding(spl_reading::specs::Readers::pure, spl_reading::specs::Readers::followed, spl_reading::specs::Readers::and_then, crate::specs::Parts::found))]
     /// A shift of what was read, from its mark on.
     fn shifted(&self, tokens: &mut Tokens<'_>, of: Found, at: At) -> Result<(bool, Found), Fault>
         requires room { self.now.taken + of.count / 8 ≤ self.now.room }
@@ -183,20 +219,17 @@ impl<F: Fn(Global, &mut Tokens<'_>, u8, u8, Option<At>) -> Result<Part, Fault> +
         ensures fits { IfOk result (λ f. self.now.taken + f.1.count / 8 ≤ self.now.room) }
     {
         let Found { count, part } = of;
-        self.counted(tokens, count)?;
-        let kind = shift_kind(tokens)?;
-        tokens.expect(Symbol::Open)?;
-        let by = constant(self.alloc, tokens)?;
-        tokens.expect(Symbol::Close)?;
-        let of = Box::new(self.alloc, part.into_expr(self.alloc)?)?;
-        let part = Part::Other(Expr::Shift { kind, of, by, at });
-        Ok((
-            true,
-            Found {
-                count: count + 1,
-                part,
-            },
-        ))
+        match self.amount(tokens, count) {
+            Ok(amount) => {
+                let part = shifted_by(self.alloc, part, amount, at)?;
+                let count = count + 1;
+                Ok((true, Found { count, part }))
+            }
+            Err(fault) => {
+                drop(part);
+                Err(fault)
+            }
+        }
     }
 
     #[tactic(auto, using(spl_tokens::proofs::Steps::steps), unfolding(spl_reading::specs::Readers::pure, spl_reading::specs::Readers::refuse, spl_reading::specs::Readers::followed, spl_reading::specs::Readers::and_then, crate::specs::Parts::operand, crate::specs::Parts::found, spl_reading::specs::ReadExpressions::level))]
@@ -297,6 +330,7 @@ impl<F: Fn(Global, &mut Tokens<'_>, u8, u8, Option<At>) -> Result<Part, Fault> +
             }
             of = next;
         }
+        drop(of);
         Err(Fault::Syntax)
     }
 
@@ -316,7 +350,13 @@ impl<F: Fn(Global, &mut Tokens<'_>, u8, u8, Option<At>) -> Result<Part, Fault> +
         ensures read { Reads (paired found) (turn self.now.condition self.now.room self.now.taken height at (found of) tokens.old) result tokens.new }
         ensures fits { IfOk result (λ f. self.now.taken + f.1.count / 8 ≤ self.now.room) }
     {
-        let next = tokens.peek()?;
+        let next = match tokens.peek() {
+            Ok(next) => next,
+            Err(fault) => {
+                drop(of);
+                return Err(fault);
+            }
+        };
         if binds(operator_of(next)) == height + 1 {
             self.join(tokens, height, next, of, at)
         } else if height == 0 && same(next, Symbol::Ampersand) {
@@ -348,8 +388,20 @@ impl<F: Fn(Global, &mut Tokens<'_>, u8, u8, Option<At>) -> Result<Part, Fault> +
         ensures fits { IfOk result (λ f. self.now.taken + f.1.count / 8 ≤ self.now.room) }
     {
         let Found { count, part } = of;
-        self.counted(tokens, count)?;
-        let right = self.level(tokens, height, count + 1, None)?;
+        match self.counted(tokens, count) {
+            Ok(_) => {}
+            Err(fault) => {
+                drop(part);
+                return Err(fault);
+            }
+        }
+        let right = match self.level(tokens, height, count + 1, None) {
+            Ok(right) => right,
+            Err(fault) => {
+                drop(part);
+                return Err(fault);
+            }
+        };
         let part = combined(self.alloc, height, operator_of(next), part, right.part, at)?;
         Ok((
             height != 3,
@@ -377,19 +429,13 @@ impl<F: Fn(Global, &mut Tokens<'_>, u8, u8, Option<At>) -> Result<Part, Fault> +
         }
     }
 
-    #[tactic(auto, using(spl_tokens::proofs::Steps::steps), unfolding(spl_reading::specs::Readers::pure, spl_reading::specs::Readers::refuse, spl_reading::specs::Readers::followed, spl_reading::specs::Readers::and_then, crate::specs::Parts::operand, crate::specs::Parts::found, spl_reading::specs::ReadExpressions::bytes))]
-    /// The number of bytes of a comparison, from its comma on.
+    #[tactic(auto, using(spl_tokens::proofs::Steps::steps), unfolding(spl_reading::specs::Readers::pure, spl_reading::specs::Readers::refuse, spl_reading::specs::Readers::followed, spl_reading::specs::Readers::and_then, crate::specs::Pieces::length))]
+    /// The number of bytes of a comparison behind so many operators, from its comma on.
     #[cycle(level)]
-    fn bytes(
-        &self,
-        tokens: &mut Tokens<'_>,
-        count: u16,
-        of: Comparison,
-    ) -> Result<(bool, Found), Fault>
+    fn length(&self, tokens: &mut Tokens<'_>, count: u16) -> Result<Expr, Fault>
         requires nests { Nests (suc self.now.room) (F.pre self.now.operand) (F.post self.now.operand) }
         requires room { self.now.taken + count / 8 ≤ self.now.room }
-        ensures read { Reads (paired found) (bytes self.now.room self.now.taken (found (record { count = count; part = Part.Comparison of })) tokens.old) result tokens.new }
-        ensures fits { IfOk result (λ f. self.now.taken + f.1.count / 8 ≤ self.now.room) }
+        ensures { Reads view.expression (pieces.length self.now.room (self.now.taken + count / 8) tokens.old) result tokens.new }
     {
         let room = self.room;
         let taken = self.taken + (count / 8) as u8;
@@ -403,9 +449,39 @@ impl<F: Fn(Global, &mut Tokens<'_>, u8, u8, Option<At>) -> Result<Part, Fault> +
             operand: self.operand,
         };
         let bytes = inside.whole(tokens)?;
-        tokens.expect(Symbol::Close)?;
-        let part = measured(self.alloc, of, bytes)?;
-        Ok((true, Found { count, part }))
+        match tokens.expect(Symbol::Close) {
+            Ok(_) => Ok(bytes),
+            Err(fault) => {
+                drop(bytes);
+                Err(fault)
+            }
+        }
+    }
+
+    #[tactic(auto, using(spl_tokens::proofs::Steps::steps, crate::proofs::PieceLemmas::bytes_is), unfolding(spl_reading::specs::Readers::pure, spl_reading::specs::Readers::followed, spl_reading::specs::Readers::and_then, crate::specs::Parts::found))]
+    /// A comparison with its number of bytes, from its comma on.
+    #[cycle(level)]
+    fn bytes(
+        &self,
+        tokens: &mut Tokens<'_>,
+        count: u16,
+        of: Comparison,
+    ) -> Result<(bool, Found), Fault>
+        requires nests { Nests (suc self.now.room) (F.pre self.now.operand) (F.post self.now.operand) }
+        requires room { self.now.taken + count / 8 ≤ self.now.room }
+        ensures read { Reads (paired found) (bytes self.now.room self.now.taken (found (record { count = count; part = Part.Comparison of })) tokens.old) result tokens.new }
+        ensures fits { IfOk result (λ f. self.now.taken + f.1.count / 8 ≤ self.now.room) }
+    {
+        match self.length(tokens, count) {
+            Ok(bytes) => {
+                let part = measured(self.alloc, of, bytes)?;
+                Ok((true, Found { count, part }))
+            }
+            Err(fault) => {
+                drop(of);
+                Err(fault)
+            }
+        }
     }
 
     #[tactic(auto, using(spl_tokens::proofs::Steps::steps), unfolding(spl_reading::specs::Readers::pure, spl_reading::specs::Readers::refuse, spl_reading::specs::Readers::followed, spl_reading::specs::Readers::and_then, crate::specs::Parts::operand, crate::specs::Parts::found))]

@@ -2,21 +2,23 @@
 ghost use Rattle.std.specs.Prelude.{◌≡◌, ◌<◌, ◌≤◌, map, None, OnOk};
 ghost use Rattle.spl_tree.specs.declared.symbols.Symbol.{Symbol};
 ghost use Rattle.spl_tree.specs.Operators as operators;
+ghost use Rattle.spl_tree.specs.Trees as tree;
 ghost use Rattle.spl_tree.specs.Views as view;
 ghost use Rattle.spl_reading.specs.Readers.{by_symbol};
 ghost use Rattle.spl_reading.specs.Readers as readers;
 ghost use Rattle.spl_reading.specs.ReadExpressions as spec;
-ghost use Rattle.spl_tokens.specs.Reads.{Reads, lexeme, shown, paired};
+ghost use Rattle.spl_tokens.specs.Reads.{Reads, lexeme, shown, paired, peeked};
 ghost use Rattle.spl_levels.specs.Parts.{operand, expressions};
+ghost use Rattle.spl_levels.specs.Pieces as pieces;
 ghost use Rattle.spl_levels.specs.Nests.{Nests, inner, negated_at, enclosed, more_arguments, arguments, named, addressed, transfer, atom, primary, inverse, operand_at};
 
 use crate::levels::Levels;
 use crate::parts::{
-    Part, address, called, element_address, enclosing, inverted, number, string, transferred,
-    truth, variable, wide,
+    Part, address, called, element_address, enclosing, field_of, inverted, number, string,
+    transferred, truth, variable, wide,
 };
 use spl_tokens::{Fault, Tokens, constant, name, same, text};
-use spl_tree::{At, Expr, Kind, Symbol, Token};
+use spl_tree::{At, Const, Expr, Kind, Symbol, Token};
 use std::alloc::Global;
 
 /// The rules of operands, where so many constructs may be opened.
@@ -28,10 +30,11 @@ pub struct Operands<F> {
     pub operand: F,
 }
 
-#[tactic(auto, using(spl_tokens::proofs::Steps::steps), unfolding(spl_reading::specs::Readers::pure, spl_reading::specs::Readers::refuse, spl_reading::specs::Readers::followed, spl_reading::specs::Readers::and_then, crate::specs::Parts::operand, spl_reading::specs::ReadExpressions::bits))]
-/// A bit field of what was read, from its dot on.
-fn bits(alloc: Global, tokens: &mut Tokens<'_>, of: Part, at: At) -> Result<Part, Fault>
-    ensures { Reads operand (spec.bits at (operand of) tokens.old) result tokens.new }
+#[tactic(auto, using(spl_tokens::proofs::Steps::steps), unfolding(spl_reading::specs::Readers::pure, spl_reading::specs::Readers::refuse, spl_reading::specs::Readers::followed, spl_reading::specs::Readers::and_then, crate::specs::Pieces::extent))]
+/// The start and the length of a bit field, from its dot on. What they are taken of stays with the caller, which drops it
+/// once at a fault.
+fn extent(alloc: Global, tokens: &mut Tokens<'_>) -> Result<(Const, Const), Fault>
+    ensures { Reads pieces.extents (pieces.extent tokens.old) result tokens.new }
 {
     tokens.expect(Symbol::Dot)?;
     tokens.expect(Symbol::Open)?;
@@ -39,13 +42,21 @@ fn bits(alloc: Global, tokens: &mut Tokens<'_>, of: Part, at: At) -> Result<Part
     tokens.expect(Symbol::Colon)?;
     let length = constant(alloc, tokens)?;
     tokens.expect(Symbol::Close)?;
-    let of = Box::new(alloc, of.into_expr(alloc)?)?;
-    Ok(Part::Other(Expr::Field {
-        of,
-        start,
-        length,
-        at,
-    }))
+    Ok((start, length))
+}
+
+#[tactic(auto, using(spl_tokens::proofs::Steps::steps, crate::proofs::PieceLemmas::bits_is), unfolding(spl_reading::specs::Readers::pure, spl_reading::specs::Readers::followed, spl_reading::specs::Readers::and_then, crate::specs::Parts::operand))]
+/// A bit field of what was read, from its dot on.
+fn bits(alloc: Global, tokens: &mut Tokens<'_>, of: Part, at: At) -> Result<Part, Fault>
+    ensures { Reads operand (spec.bits at (operand of) tokens.old) result tokens.new }
+{
+    match extent(alloc, tokens) {
+        Ok(extent) => Ok(field_of(alloc, of, extent, at)?),
+        Err(fault) => {
+            drop(of);
+            Err(fault)
+        }
+    }
 }
 
 #[tactic(auto, using(spl_tokens::proofs::Steps::steps), unfolding(spl_reading::specs::Readers::pure, spl_reading::specs::Readers::refuse, spl_reading::specs::Readers::followed, spl_reading::specs::Readers::and_then, crate::specs::Parts::operand, spl_reading::specs::ReadExpressions::field))]
@@ -53,7 +64,14 @@ fn bits(alloc: Global, tokens: &mut Tokens<'_>, of: Part, at: At) -> Result<Part
 fn field(alloc: Global, tokens: &mut Tokens<'_>, of: Part, at: At) -> Result<Part, Fault>
     ensures { Reads operand (spec.field at (operand of) tokens.old) result tokens.new }
 {
-    if same(tokens.peek()?, Symbol::Dot) {
+    let next = match tokens.peek() {
+        Ok(next) => next,
+        Err(fault) => {
+            drop(of);
+            return Err(fault);
+        }
+    };
+    if same(next, Symbol::Dot) {
         bits(alloc, tokens, of, at)
     } else {
         Ok(of)
@@ -123,6 +141,42 @@ pub fn opening<'a>(tokens: &mut Tokens<'a>, room: u8, taken: u8) -> Result<&'a T
     }
 }
 
+/// A number of one word, which stands next.
+#[tactic(auto, using(spl_tokens::proofs::Steps::steps), unfolding(spl_reading::specs::Readers::pure, spl_reading::specs::Readers::refuse, spl_reading::specs::Readers::followed, spl_reading::specs::Readers::and_then))]
+fn number_next(tokens: &mut Tokens<'_>, value: u16) -> Result<Part, Fault>
+    ensures { Reads operand (readers.followed readers.take (λ _. readers.pure (spec.plain operators.other (tree.Tree.number value))) tokens.old) result tokens.new }
+{
+    tokens.take()?;
+    Ok(number(value))
+}
+
+/// A number of two words, which stands next.
+#[tactic(auto, using(spl_tokens::proofs::Steps::steps), unfolding(spl_reading::specs::Readers::pure, spl_reading::specs::Readers::refuse, spl_reading::specs::Readers::followed, spl_reading::specs::Readers::and_then))]
+fn wide_next(tokens: &mut Tokens<'_>, value: u32) -> Result<Part, Fault>
+    ensures { Reads operand (readers.followed readers.take (λ _. readers.pure (spec.plain operators.other (tree.Tree.wide value))) tokens.old) result tokens.new }
+{
+    tokens.take()?;
+    Ok(wide(value))
+}
+
+/// TRUE or FALSE, which stands next.
+#[tactic(auto, using(spl_tokens::proofs::Steps::steps), unfolding(spl_reading::specs::Readers::pure, spl_reading::specs::Readers::refuse, spl_reading::specs::Readers::followed, spl_reading::specs::Readers::and_then))]
+fn truth_next(tokens: &mut Tokens<'_>, value: bool) -> Result<Part, Fault>
+    ensures { Reads operand (readers.followed readers.take (λ _. readers.pure (spec.plain operators.other (tree.Tree.truth value))) tokens.old) result tokens.new }
+{
+    tokens.take()?;
+    Ok(truth(value))
+}
+
+/// A string, which stands next.
+#[tactic(auto, using(spl_tokens::proofs::Steps::steps), unfolding(spl_reading::specs::Readers::pure, spl_reading::specs::Readers::refuse, spl_reading::specs::Readers::followed, spl_reading::specs::Readers::and_then))]
+fn string_next(alloc: Global, tokens: &mut Tokens<'_>) -> Result<Part, Fault>
+    requires { peeked tokens.old ≡ readers.Got Symbol.Text tokens.old }
+    ensures { Reads operand (readers.followed readers.take (λ t. readers.pure (spec.plain operators.other (tree.Tree.text t.letters))) tokens.old) result tokens.new }
+{
+    Ok(string(text(alloc, tokens.take()?)?))
+}
+
 impl<F: Fn(Global, &mut Tokens<'_>, u8, u8, Option<At>) -> Result<Part, Fault> + Copy> Operands<F> {
     /// An expression inside a construct.
     #[tactic(auto, using(crate::proofs::LevelLemmas::within_is))]
@@ -149,8 +203,13 @@ impl<F: Fn(Global, &mut Tokens<'_>, u8, u8, Option<At>) -> Result<Part, Fault> +
     {
         opening(tokens, self.room, taken)?;
         let inside = self.inside(tokens, taken)?;
-        tokens.expect(Symbol::Close)?;
-        Ok(inside)
+        match tokens.expect(Symbol::Close) {
+            Ok(_) => Ok(inside),
+            Err(fault) => {
+                drop(inside);
+                Err(fault)
+            }
+        }
     }
 
     /// A further argument, and whether another may follow.
@@ -257,6 +316,37 @@ impl<F: Fn(Global, &mut Tokens<'_>, u8, u8, Option<At>) -> Result<Part, Fault> +
         Ok(transferred(self.alloc, to, of, at)?)
     }
 
+    /// A name, which stands next, with the arguments behind it.
+    #[tactic(auto, using(spl_tokens::proofs::Steps::steps), unfolding(spl_reading::specs::Readers::pure, spl_reading::specs::Readers::refuse, spl_reading::specs::Readers::followed, spl_reading::specs::Readers::and_then))]
+    fn name_next(&self, tokens: &mut Tokens<'_>, taken: u8) -> Result<Part, Fault>
+        requires nests { Nests self.now.room (F.pre self.now.operand) (F.post self.now.operand) }
+        requires next { peeked tokens.old ≡ readers.Got Symbol.Name tokens.old }
+        ensures { Reads operand (readers.followed readers.take (named self.now.room taken) tokens.old) result tokens.new }
+    {
+        let token = tokens.take()?;
+        self.named(tokens, taken, token)
+    }
+
+    /// An address, from its mark on.
+    #[tactic(auto, using(spl_tokens::proofs::Steps::steps), unfolding(spl_reading::specs::Readers::pure, spl_reading::specs::Readers::refuse, spl_reading::specs::Readers::followed, spl_reading::specs::Readers::and_then))]
+    fn address_next(&self, tokens: &mut Tokens<'_>, taken: u8) -> Result<Part, Fault>
+        requires nests { Nests self.now.room (F.pre self.now.operand) (F.post self.now.operand) }
+        ensures { Reads operand (readers.followed readers.take (λ a. readers.followed (readers.expect Symbol.Name) (addressed self.now.room taken a)) tokens.old) result tokens.new }
+    {
+        let mark = tokens.take()?;
+        let token = tokens.expect(Symbol::Name)?;
+        self.addressed(tokens, taken, mark, token)
+    }
+
+    /// An operand in parentheses.
+    #[tactic(auto, using(spl_tokens::proofs::Steps::steps), unfolding(spl_reading::specs::Readers::pure, spl_reading::specs::Readers::refuse, spl_reading::specs::Readers::followed, spl_reading::specs::Readers::and_then))]
+    fn enclosed_next(&self, tokens: &mut Tokens<'_>, taken: u8) -> Result<Part, Fault>
+        requires nests { Nests self.now.room (F.pre self.now.operand) (F.post self.now.operand) }
+        ensures { Reads operand (readers.followed (enclosed self.now.room taken) (λ e. readers.pure (spec.plain operators.other e)) tokens.old) result tokens.new }
+    {
+        Ok(enclosing(self.enclosed(tokens, taken)?))
+    }
+
     /// An operand without a bit field.
     #[tactic(auto, using(spl_tokens::proofs::Steps::steps), unfolding(spl_reading::specs::Readers::pure, spl_reading::specs::Readers::refuse, spl_reading::specs::Readers::followed, spl_reading::specs::Readers::and_then, spl_reading::specs::ReadExpressions::primary_by))]
     fn atom(&self, tokens: &mut Tokens<'_>, taken: u8) -> Result<Part, Fault>
@@ -264,29 +354,13 @@ impl<F: Fn(Global, &mut Tokens<'_>, u8, u8, Option<At>) -> Result<Part, Fault> +
         ensures { Reads operand (atom self.now.room taken tokens.old) result tokens.new }
     {
         match tokens.peek()? {
-            Symbol::Number(value) => {
-                tokens.take()?;
-                Ok(number(value))
-            }
-            Symbol::Wide(value) => {
-                tokens.take()?;
-                Ok(wide(value))
-            }
-            Symbol::Text => Ok(string(text(self.alloc, tokens.take()?)?)),
-            Symbol::Truth(value) => {
-                tokens.take()?;
-                Ok(truth(value))
-            }
-            Symbol::Name => {
-                let token = tokens.take()?;
-                self.named(tokens, taken, token)
-            }
-            Symbol::AtSign => {
-                let mark = tokens.take()?;
-                let token = tokens.expect(Symbol::Name)?;
-                self.addressed(tokens, taken, mark, token)
-            }
-            Symbol::Open => Ok(enclosing(self.enclosed(tokens, taken)?)),
+            Symbol::Number(value) => number_next(tokens, value),
+            Symbol::Wide(value) => wide_next(tokens, value),
+            Symbol::Text => string_next(self.alloc, tokens),
+            Symbol::Truth(value) => truth_next(tokens, value),
+            Symbol::Name => self.name_next(tokens, taken),
+            Symbol::AtSign => self.address_next(tokens, taken),
+            Symbol::Open => self.enclosed_next(tokens, taken),
             Symbol::Type(kind) => self.transfer(tokens, taken, kind),
             _ => Err(Fault::Syntax),
         }

@@ -2,12 +2,12 @@
 ghost use Rattle.std.specs.Prelude.{◌≡◌, ◌+◌, ◌≤◌, ◌==◌, ◌&&◌, true, IfOk, IsTrue, [], ◌∷◌, map, if◌then◌else◌};
 ghost use Rattle.spl_tree.specs.Operators as operators;
 ghost use Rattle.spl_tree.specs.Trees as tree;
-ghost use Rattle.spl_tree.specs.Views.{letters, expression};
+ghost use Rattle.spl_tree.specs.Views.{constant, letters, expression};
 ghost use Rattle.spl_reading.specs.ReadExpressions.{plain};
 ghost use Rattle.spl_levels.specs.Parts.{form, tree_of, operand};
 
 use crate::comparison::Comparison;
-use spl_tree::{At, Chars, Expr, Kind, Name, Ref, binary, unary};
+use spl_tree::{At, Chars, Const, Expr, Kind, Name, Ref, binary, unary};
 use std::alloc::{AllocError, Global};
 
 /// A part of an expression: a reference as it stands, two of them with a relation between, or anything else. A
@@ -82,6 +82,13 @@ impl Part {
             Part::Comparison(comparison) => compared(alloc, comparison),
             Part::Other(e) => Ok(e),
         }
+    }
+
+    /// The part as an expression in a box.
+    pub fn into_box(self, alloc: Global) -> Result<Box<Expr>, AllocError>
+        ensures { IfOk result (λ e. expression e.value ≡ tree_of self) }
+    {
+        Ok(Box::new(alloc, self.into_expr(alloc)?)?)
     }
 }
 
@@ -171,12 +178,27 @@ pub fn transferred(alloc: Global, to: Kind, of: Expr, at: At) -> Result<Part, Al
     Ok(Part::Other(Expr::Transfer { to, of, at }))
 }
 
+/// A bit field, by its start and its length.
+#[tactic(auto, unfolding(crate::specs::Parts::operand))]
+pub fn field_of(alloc: Global, of: Part, extent: (Const, Const), at: At) -> Result<Part, AllocError>
+    ensures { IfOk result (λ p. operand p ≡ plain operators.other (tree.Tree.field (operand of).tree (constant extent.0) (constant extent.1) at)) }
+{
+    let of = of.into_box(alloc)?;
+    let (start, length) = extent;
+    Ok(Part::Other(Expr::Field {
+        of,
+        start,
+        length,
+        at,
+    }))
+}
+
 /// NOT before an operand.
 #[tactic(auto, unfolding(crate::specs::Parts::operand))]
 pub fn inverted(alloc: Global, of: Part, at: At) -> Result<Part, AllocError>
     ensures { IfOk result (λ p. operand p ≡ plain operators.other (tree.Tree.unary 2 (operand of).tree at)) }
 {
-    let of = Box::new(alloc, of.into_expr(alloc)?)?;
+    let of = of.into_box(alloc)?;
     Ok(Part::Other(Expr::Unary {
         op: unary::NOT,
         of,

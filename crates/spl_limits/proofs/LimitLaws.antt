@@ -2,16 +2,16 @@
 use Rattle.std.proofs.Common.{ℕ, ◌≡◌, ◌+◌, List, [], ◌∷◌, ◌++◌, Option, Some, None, refl, sym, ap, ◌∙◌}
 use Rattle.spl_tree.specs.DeclarationTrees as decl
 use Rattle.spl_tree.specs.DeclarationTrees.{Declaration, Declarations, declarations}
-use Rattle.spl_meaning.specs.Names.{Names, Sort, Table, find, or_else, nothing_declared, parameters, formals_of}
-use Rattle.spl_meaning.specs.Tables.{Source, Routine, Subroutine, with_declaration, with_declarations, routine_in, routines_among, routines_of, subroutine_in, subroutines_among, routine_names, routine_subroutines, unit_table, unit_subroutines}
-use Rattle.spl_meaning.specs.Bodies.{all_routines}
-use Rattle.spl_meaning.specs.Stops.{declaration_stops}
-use Rattle.spl_meaning.specs.Limits.{Full, joined, first_among, heading_limits, local_limits, subroutine_limits, routine_limits, unit_limits}
-use Rattle.spl_found.specs.OwnNames.{over, behind_declarations}
-use Rattle.spl_found.proofs.OwnNames.{find_declaration, find_declarations}
-use Rattle.spl_places.specs.Programs.{Each, NewInRoutine}
-use Rattle.spl_places.proofs.CounterLaws.{among_both}
-use Rattle.spl_places.proofs.ProgramLaws.{local_is}
+use Rattle.spl_sound.specs.spl_meaning.Names.{Names, Sort, Table, find, or_else, nothing_declared, parameters, formals_of}
+use Rattle.spl_sound.specs.spl_meaning.Tables.{Source, Routine, Subroutine, with_declaration, with_declarations, routine_in, routines_among, routines_of, subroutine_in, subroutines_among, routine_names, routine_subroutines, unit_table, unit_subroutines}
+use Rattle.spl_sound.specs.spl_meaning.Bodies.{all_routines}
+use Rattle.spl_sound.specs.spl_meaning.Stops.{declaration_stops}
+use Rattle.spl_sound.specs.spl_meaning.Limits.{Full, joined, first_among, heading_limits, local_limits, subroutine_limits, routine_limits, unit_limits}
+use Rattle.spl_areas.specs.spl_found.OwnNames.{over, behind_declarations}
+use Rattle.spl_areas.proofs.spl_found_proofs.OwnNames.{find_declaration, find_declarations}
+use Rattle.spl_areas.specs.spl_places.Programs.{Each, NewInRoutine}
+use Rattle.spl_areas.proofs.spl_places_proofs.CounterLaws.{among_both}
+use Rattle.spl_areas.proofs.spl_places_proofs.ProgramLaws.{local_is}
 use Rattle.spl_limits.specs.FirstPassed.{behind_inner, behind_subroutines, behind_list, behind_global, behind_globals, behind_unit, behind_units}
 
 append_same : {A : Type 0} (xs ys zs : List A) → xs ++ ys ++ zs ≡ xs ++ (ys ++ zs)

@@ -4,10 +4,10 @@ use Rattle.spl_tree.specs.declared.declarations.Decl.{Decl}
 use Rattle.spl_tree.specs.declared.units.SplUnit.{SplUnit}
 use Rattle.spl_tree.specs.DeclarationTrees.{declarations}
 use Rattle.spl_tree.specs.Spells.{declaration}
-use Rattle.spl_meaning.specs.Names.{Names, nothing_declared}
-use Rattle.spl_meaning.specs.Limits.{Full}
-use Rattle.spl_found.specs.OwnNames.{behind_declaration, behind_declarations}
-use Rattle.spl_lists.proofs.NameWalks.{onward, onward_end}
+use Rattle.spl_sound.specs.spl_meaning.Names.{Names, nothing_declared}
+use Rattle.spl_sound.specs.spl_meaning.Limits.{Full}
+use Rattle.spl_areas.specs.spl_found.OwnNames.{behind_declaration, behind_declarations}
+use Rattle.spl_areas.proofs.spl_lists_proofs.NameWalks.{onward, onward_end}
 use Rattle.spl_sound.specs.Spelled.{source_of}
 use Rattle.spl_limits.specs.FirstPassed.{behind_inner, behind_subroutines, behind_global, behind_globals, behind_unit, behind_units}
 

@@ -1,7 +1,7 @@
 -- What it means that a program is refused for a limit.
 use Rattle.std.specs.Prelude.{◌≡◌, List, Some}
-use Rattle.spl_meaning.specs.Tables.{Source}
-use Rattle.spl_meaning.specs.Limits.{first_full}
+use Rattle.spl_sound.specs.spl_meaning.Tables.{Source}
+use Rattle.spl_sound.specs.spl_meaning.Limits.{first_full}
 use Rattle.spl_limits.specs.declared.faults.LimitFault.{LimitFault}
 use Rattle.spl_limits.specs.declared.faults.LimitFault.TheVariants as why
 

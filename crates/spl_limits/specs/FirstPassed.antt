@@ -3,13 +3,13 @@ use Rattle.std.specs.Prelude.{List, [], ◌∷◌, Option}
 use Rattle.spl_tree.specs.StatementTrees.{Statement}
 use Rattle.spl_tree.specs.DeclarationTrees as decl
 use Rattle.spl_tree.specs.DeclarationTrees.{Heading, Declaration, Declarations, declarations}
-use Rattle.spl_meaning.specs.Names.{Names, find, nothing_declared, parameters, formals_of}
-use Rattle.spl_meaning.specs.Tables.{Source}
-use Rattle.spl_meaning.specs.Limits.{Full, first_among, heading_limits}
-use Rattle.spl_found.specs.OwnNames.{over, behind_declaration, behind_declarations}
-use Rattle.spl_depths.specs.ReachLaws.{body_limits}
-use Rattle.spl_places.specs.ListedData.{list_data}
-use Rattle.spl_places.specs.Passed.{local_passed}
+use Rattle.spl_sound.specs.spl_meaning.Names.{Names, find, nothing_declared, parameters, formals_of}
+use Rattle.spl_sound.specs.spl_meaning.Tables.{Source}
+use Rattle.spl_sound.specs.spl_meaning.Limits.{Full, first_among, heading_limits}
+use Rattle.spl_areas.specs.spl_found.OwnNames.{over, behind_declaration, behind_declarations}
+use Rattle.spl_areas.specs.spl_depths.ReachLaws.{body_limits}
+use Rattle.spl_areas.specs.spl_places.ListedData.{list_data}
+use Rattle.spl_areas.specs.spl_places.Passed.{local_passed}
 
 -- a subroutine, around which these names stand
 abbrev pub behind_subroutine : Names → Heading → Statement → Option Full → Option Full

@@ -2,15 +2,15 @@
 ghost use Rattle.std.specs.Prelude.{◌≡◌, OnOk, map};
 ghost use Rattle.spl_tree.specs.DeclarationTrees as decl;
 ghost use Rattle.spl_tree.specs.Spells as view;
-ghost use Rattle.spl_meaning.specs.Names.{find, nothing_declared};
+ghost use Rattle.spl_sound.specs.spl_meaning.Names.{find, nothing_declared};
 ghost use Rattle.spl_sorts.specs.Tables.{table_of};
 ghost use Rattle.spl_sound.specs.Spelled.{source_of};
-ghost use Rattle.spl_found.specs.OwnNames.{behind_declarations};
+ghost use Rattle.spl_areas.specs.spl_found.OwnNames.{behind_declarations};
 ghost use Rattle.spl_limits.specs.FirstPassed as passed;
 
 use crate::bodies::{procedure, subroutines};
-use spl_depths::FirstFull;
-use spl_places::declare_all;
+use spl_areas::spl_depths::FirstFull;
+use spl_areas::spl_places::declare_all;
 use spl_sorts::Table;
 use spl_tree::{Decl, SplUnit};
 use std::alloc::{AllocError, Global};

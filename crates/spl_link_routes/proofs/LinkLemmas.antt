@@ -1,23 +1,23 @@
 -- The link of a name, by what it is.
 use Rattle.std.proofs.Common.{◌≡◌, ℕ, Bool, false, true, List, [], ◌∷◌, ◌++◌, length, Option, Some, None, is_some, refl, sym, ap, subst, ◌∙◌, append-nil}
 use Rattle.std.specs.Prelude.{slice_get, position, unwrap_or, if◌then◌else◌}
-use Rattle.hp_program.specs.declared.program.Program.{Program}
-use Rattle.hp_steady.specs.Laws.{WordsAreNear}
-use Rattle.spl_meaning.specs.Names.{Profile}
-use Rattle.spl_meaning.specs.Tables.{Source}
-use Rattle.spl_branch.specs.declared.modules.Module.{Module}
-use Rattle.spl_code.specs.Parts.{Wanted, is_wanted, wanted_place, with_wanted}
-use Rattle.spl_scopes.specs.Entries.{module_entries, procedure_index}
-use Rattle.spl_scopes.specs.Scopes.{Placed, first_reached, placed_units}
-use Rattle.spl_follow.specs.Calling.{Link}
-use Rattle.spl_follow.specs.Doing.{Way}
-use Rattle.spl_follow.specs.Standing.{Sites}
-use Rattle.spl_endings.proofs.WantLemmas.{wanted_there}
+use Rattle.spl_routes.specs.hp_program.declared.program.Program.{Program}
+use Rattle.spl_routes.specs.hp_steady.Laws.{WordsAreNear}
+use Rattle.spl_routes.specs.spl_meaning.Names.{Profile}
+use Rattle.spl_routes.specs.spl_meaning.Tables.{Source}
+use Rattle.spl_links.specs.spl_branch.declared.modules.Module.{Module}
+use Rattle.spl_links.specs.spl_code.Parts.{Wanted, is_wanted, wanted_place, with_wanted}
+use Rattle.spl_routes.specs.spl_scopes.Entries.{module_entries, procedure_index}
+use Rattle.spl_routes.specs.spl_scopes.Scopes.{Placed, first_reached, placed_units}
+use Rattle.spl_routes.specs.spl_follow.Calling.{Link}
+use Rattle.spl_routes.specs.spl_follow.Doing.{Way}
+use Rattle.spl_routes.specs.spl_follow.Standing.{Sites}
+use Rattle.spl_routes.proofs.spl_endings_proofs.WantLemmas.{wanted_there}
 use Rattle.spl_links.specs.Links.{linked_by, procedure_link}
-use Rattle.spl_routines.specs.Among.{IsIn}
-use Rattle.spl_routines.specs.Located.{MadeOf, Located, sites_at, wants_at}
+use Rattle.spl_routes.specs.spl_routines.Among.{IsIn}
+use Rattle.spl_routes.specs.spl_routines.Located.{MadeOf, Located, sites_at, wants_at}
 use Rattle.spl_routes.specs.Found.{Finds}
-use Rattle.spl_routines.proofs.ListLemmas.{one_there}
+use Rattle.spl_routes.proofs.spl_routines_proofs.ListLemmas.{one_there}
 use Rattle.spl_routes.proofs.FindLemmas.{own_finds}
 use Rattle.spl_routes.proofs.WantLemmas.{want_finds}
 use Rattle.spl_link_routes.specs.Laws.{LinksFind}

@@ -1,18 +1,18 @@
 -- The law of this crate.
 use Rattle.std.specs.Prelude.{◌≡◌, ℕ, List, Some}
-use Rattle.hp_program.specs.declared.program.Program.{Program}
-use Rattle.hp_steady.specs.Laws.{WordsAreNear}
-use Rattle.spl_meaning.specs.Names as n
-use Rattle.spl_meaning.specs.Names.{Profile}
-use Rattle.spl_meaning.specs.Tables.{Source}
-use Rattle.spl_branch.specs.declared.modules.Module.{Module}
-use Rattle.spl_code.specs.Calls.{Scope}
-use Rattle.spl_scopes.specs.Entries.{module_entries, procedure_index}
-use Rattle.spl_scopes.specs.Scopes.{Placed, first_reached, placed_units}
-use Rattle.spl_follow.specs.Calling.{Link}
+use Rattle.spl_routes.specs.hp_program.declared.program.Program.{Program}
+use Rattle.spl_routes.specs.hp_steady.Laws.{WordsAreNear}
+use Rattle.spl_routes.specs.spl_meaning.Names as n
+use Rattle.spl_routes.specs.spl_meaning.Names.{Profile}
+use Rattle.spl_routes.specs.spl_meaning.Tables.{Source}
+use Rattle.spl_links.specs.spl_branch.declared.modules.Module.{Module}
+use Rattle.spl_links.specs.spl_code.Calls.{Scope}
+use Rattle.spl_routes.specs.spl_scopes.Entries.{module_entries, procedure_index}
+use Rattle.spl_routes.specs.spl_scopes.Scopes.{Placed, first_reached, placed_units}
+use Rattle.spl_routes.specs.spl_follow.Calling.{Link}
 use Rattle.spl_links.specs.Links.{name_link}
-use Rattle.spl_routines.specs.Among.{IsIn}
-use Rattle.spl_routines.specs.Located.{MadeOf, Located, sites_at, wants_at}
+use Rattle.spl_routes.specs.spl_routines.Among.{IsIn}
+use Rattle.spl_routes.specs.spl_routines.Located.{MadeOf, Located, sites_at, wants_at}
 use Rattle.spl_routes.specs.Found.{Finds}
 
 -- In a module of a program of modules, what links a name that stands for a procedure leads to the code of the procedure of that name: an entry of

@@ -6,17 +6,17 @@ use Rattle.std.proofs.Common.{◌≡◌, ◌≤◌, ℕ, zero, suc, ◌+◌, nat
 use Rattle.std.specs.List.{list_all}
 use Rattle.std.specs.Prelude.{option_map}
 use Rattle.std.proofs.lemmas.Bool.{and_parts, and_from, eq-eqb, leb-true, le-ltb}
-use Rattle.spl_meaning.specs.Names.{same_name}
-use Rattle.spl_meaning.specs.Tables.{Source}
-use Rattle.spl_meaning.specs.Places.{sum}
-use Rattle.spl_meaning.specs.Bound.{unit_weight}
-use Rattle.spl_branch.specs.declared.modules.Module.{Module}
-use Rattle.spl_module_code.specs.Modules.{AreModules}
-use Rattle.mpe_segmenter.specs.Names.{segment_of, segment_names, modules_of, Part, part_from, parts}
-use Rattle.mpe_segmenter.specs.Entries.{either}
-use Rattle.mpe_segmenter.specs.Counts.{passed_by, table_size, segment_full, sizes}
-use Rattle.mpe_segmenter.specs.Faults.{Fault, first_fault}
-use Rattle.spl_wanted_names.proofs.Intrinsics.{same_letters}
+use Rattle.spl_module_names.specs.spl_meaning.Names.{same_name}
+use Rattle.spl_module_names.specs.spl_meaning.Tables.{Source}
+use Rattle.spl_module_names.specs.spl_meaning.Places.{sum}
+use Rattle.spl_module_names.specs.spl_meaning.Bound.{unit_weight}
+use Rattle.spl_module_names.specs.spl_branch.declared.modules.Module.{Module}
+use Rattle.spl_module_words.specs.spl_module_code.Modules.{AreModules}
+use Rattle.spl_module_names.specs.mpe_segmenter.Names.{segment_of, segment_names, modules_of, Part, part_from, parts}
+use Rattle.spl_module_names.specs.mpe_segmenter.Entries.{either}
+use Rattle.spl_module_names.specs.mpe_segmenter.Counts.{passed_by, table_size, segment_full, sizes}
+use Rattle.spl_module_names.specs.mpe_segmenter.Faults.{Fault, first_fault}
+use Rattle.spl_module_words.proofs.spl_wanted_names_proofs.Intrinsics.{same_letters}
 use Rattle.spl_module_words.specs.Words.{words_in}
 use Rattle.spl_module_words.proofs.Segments.{few_words}
 use Rattle.spl_module_names.specs.Outlines.{counted}

@@ -2,22 +2,22 @@
 -- each segment weighs so little that they do not have that one either.
 use Rattle.std.specs.Prelude.{◌≡◌, ◌≤◌, ℕ, ◌+◌, nat_le, Bool, true, List, length, slice_get, None, Some}
 use Rattle.std.specs.List.{list_all}
-use Rattle.hp_program.specs.declared.program.Program.{Program}
-use Rattle.hp_program.specs.Programs.{segments_of, words_of}
-use Rattle.spl_meaning.specs.Tables.{Source}
-use Rattle.spl_meaning.specs.Places.{sum}
-use Rattle.spl_meaning.specs.Limits.{first_full}
-use Rattle.spl_meaning.specs.Sound.{IsSound}
-use Rattle.spl_meaning.specs.Bound.{unit_weight}
-use Rattle.spl_sound.specs.Spelled.{AreSpelled}
-use Rattle.spl_branch.specs.declared.modules.Module.{Module}
-use Rattle.spl_module_code.specs.Modules.{AreModules}
-use Rattle.mpe_segmenter.specs.declared.faults.PrepFault.{PrepFault}
-use Rattle.mpe_segmenter.specs.Names.{Part, parts}
-use Rattle.mpe_segmenter.specs.Counts.{table_size}
-use Rattle.mpe_segmenter.specs.Faults.{Fault, first_fault}
+use Rattle.spl_module_names.specs.hp_program.declared.program.Program.{Program}
+use Rattle.spl_module_names.specs.hp_program.Programs.{segments_of, words_of}
+use Rattle.spl_module_names.specs.spl_meaning.Tables.{Source}
+use Rattle.spl_module_names.specs.spl_meaning.Places.{sum}
+use Rattle.spl_module_names.specs.spl_meaning.Limits.{first_full}
+use Rattle.spl_module_names.specs.spl_meaning.Sound.{IsSound}
+use Rattle.spl_module_names.specs.spl_meaning.Bound.{unit_weight}
+use Rattle.spl_module_names.specs.spl_sound.Spelled.{AreSpelled}
+use Rattle.spl_module_names.specs.spl_branch.declared.modules.Module.{Module}
+use Rattle.spl_module_words.specs.spl_module_code.Modules.{AreModules}
+use Rattle.spl_module_names.specs.mpe_segmenter.declared.faults.PrepFault.{PrepFault}
+use Rattle.spl_module_names.specs.mpe_segmenter.Names.{Part, parts}
+use Rattle.spl_module_names.specs.mpe_segmenter.Counts.{table_size}
+use Rattle.spl_module_names.specs.mpe_segmenter.Faults.{Fault, first_fault}
 use Rattle.spl_module_names.specs.Faults.{counts_words}
-use Rattle.spl_build.specs.Built.{IsBuilt, IsUnlinked}
+use Rattle.spl_module_names.specs.spl_build.Built.{IsBuilt, IsUnlinked}
 
 -- how many words a segment may have: what stands there of the units weighs so much, and the rest is its table
 abbrev pub part_bound : List Source → Part → ℕ

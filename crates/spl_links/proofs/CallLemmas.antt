@@ -1,66 +1,68 @@
--- The code of a call of a procedure: its step, room for its result, its arguments, the call itself, and its result.
+-- The code of a call of a procedure or a subroutine: its step, room for its result, its arguments, the call itself, and its result.
 use Rattle.std.proofs.Common.{◌≡◌, ℕ, zero, suc, ◌+◌, ◌-◌, ◌/◌, ◌<◌, ◌≤◌, Bool, true, false, List, [], ◌∷◌, ◌++◌, length, replicate, Option, None, Some, refl, sym, ap, subst, ◌∙◌, arith, inl}
+use Rattle.std.specs.Prelude.{is_some}
+use Rattle.std.proofs.Math.Logic.{⊎_elim}
+use Rattle.std.proofs.lemmas.Bool.{false≢true}
 use Rattle.std.proofs.lemmas.List.{append-nil, append_assoc, length-append, length-replicate}
-use Rattle.hp_word.specs.declared.arithmetic.Code.{Code}
-use Rattle.hp_word.specs.Bits.{shifted}
-use Rattle.hp_word.specs.declared.shifts.Shift.TheVariants.{Lsr}
-use Rattle.hp_word.proofs.ShiftLemmas.{shifted-Lsr}
-use Rattle.hp_instr.specs.declared.instruction.Instr.TheVariants as i
-use Rattle.hp_instr.specs.Instructions.{op}
-use Rattle.hp_session.specs.State.{Machine, word}
-use Rattle.hp_stack_rows.specs.StackRows.{operated}
-use Rattle.hp_word_rows.specs.WordRows.{shift_of, shifting}
-use Rattle.hp_flat.specs.Step.{at_left}
-use Rattle.hp_yields.proofs.StackYields as rows
-use Rattle.hp_yields.proofs.WordYields as word_rows
-use Rattle.spl_tree.specs.declared.expressions.Kind.{Kind}
-use Rattle.spl_tree.specs.declared.expressions.Kind.TheVariants as kind
-use Rattle.spl_tree.specs.declared.names_and_places.At.{At}
-use Rattle.spl_branch.specs.declared.pieces.Piece.{Piece}
-use Rattle.spl_branch.specs.declared.pieces.Piece.TheVariants.{Do, Literal, Place, Branch, Mark, Call, Begin}
-use Rattle.spl_meaning.specs.Kinds.{result_width}
-use Rattle.spl_meaning.specs.Laws.{IsFront}
-use Rattle.spl_meaning.specs.Names as n
-use Rattle.spl_meaning.specs.Names.{Profile}
-use Rattle.spl_meaning.specs.Pending.{result_words, formals_words, marker_words}
-use Rattle.spl_meaning.specs.References.{Setting}
-use Rattle.spl_meaning.specs.States.{Data, State, Begun, Outcome, done, then_go}
-use Rattle.spl_meaning.specs.Statements.{value_dropped}
-use Rattle.spl_meaning.specs.Values.{procedure, Callee}
-use Rattle.spl_code.specs.Calls.{Scope, result_room, result_taken, procedure_called, called}
-use Rattle.spl_code.specs.Code.{calling}
-use Rattle.spl_code.specs.Instructions.{LSR}
-use Rattle.spl_code.specs.Parts.{Part, Wanted, Written}
-use Rattle.spl_statement_code.specs.Statements.{result_dropped}
-use Rattle.spl_frames.specs.Words.{AreWords}
-use Rattle.spl_follow.specs.Calling.{result_of, IsResult}
-use Rattle.spl_follow.specs.Spots.{Spot, spot, pos, Point, on, Ground, start_at}
-use Rattle.spl_follow.specs.Matching.{Outer, Matched, Kept, Stand, Coded, IsValue, IsAnswer}
-use Rattle.spl_follow.specs.Following.{Rate, tally, tally_with, Owes, Behind, Follows, NoExit}
-use Rattle.spl_follow.specs.Doing.{doing}
-use Rattle.spl_follow.specs.Standing.{Sites, Stands, IsClosed}
-use Rattle.spl_follow.specs.Yielding.{Yields}
-use Rattle.spl_follow.specs.Parts.{Ready, Completes, Leaving}
-use Rattle.spl_follow.specs.Simulating.{Surroundings}
-use Rattle.spl_follow.proofs.FollowLemmas.{then_follows, bind_follows, tail_follows, spend_follows, weaken, widen, no_exit}
-use Rattle.spl_follow.proofs.WayLemmas.{goes_none}
-use Rattle.spl_follow.proofs.KeepLemmas.{kept_same, kept_top, kept_stack, value_after, values_join, value_ready, value_word}
-use Rattle.spl_follow.proofs.PartLemmas.{stand_in_order, statements_begin_noted}
-use Rattle.spl_follow.proofs.RowLemmas.{behind_here, shown, row_value}
-use Rattle.spl_follow.proofs.StandLemmas.{closed_last, stands_le}
-use Rattle.spl_values.proofs.GiveLemmas.{last_leads, value_row}
+use Rattle.spl_intrinsics.specs.hp_word.declared.arithmetic.Code.{Code}
+use Rattle.spl_intrinsics.specs.hp_word.Bits.{shifted}
+use Rattle.spl_intrinsics.specs.hp_word.declared.shifts.Shift.TheVariants.{Lsr}
+use Rattle.spl_intrinsics.proofs.hp_word_proofs.ShiftLemmas.{shifted-Lsr}
+use Rattle.spl_intrinsics.specs.hp_instr.declared.instruction.Instr.TheVariants as i
+use Rattle.spl_intrinsics.specs.hp_instr.Instructions.{op}
+use Rattle.spl_intrinsics.specs.hp_session.State.{Machine, word}
+use Rattle.spl_intrinsics.specs.hp_stack_rows.StackRows.{operated}
+use Rattle.spl_intrinsics.specs.hp_word_rows.WordRows.{shift_of, shifting}
+use Rattle.spl_intrinsics.specs.hp_flat.Step.{at_left}
+use Rattle.spl_intrinsics.proofs.hp_yields_proofs.StackYields as rows
+use Rattle.spl_intrinsics.proofs.hp_yields_proofs.WordYields as word_rows
+use Rattle.spl_intrinsics.specs.spl_tree.declared.expressions.Kind.{Kind}
+use Rattle.spl_intrinsics.specs.spl_tree.declared.expressions.Kind.TheVariants as kind
+use Rattle.spl_intrinsics.specs.spl_tree.declared.names_and_places.At.{At}
+use Rattle.spl_intrinsics.specs.spl_branch.declared.pieces.Piece.{Piece}
+use Rattle.spl_intrinsics.specs.spl_branch.declared.pieces.Piece.TheVariants.{Do, Literal, Place, Branch, Mark, Call, Begin}
+use Rattle.spl_intrinsics.specs.spl_meaning.Kinds.{result_width}
+use Rattle.spl_intrinsics.specs.spl_meaning.Laws.{IsFront}
+use Rattle.spl_intrinsics.specs.spl_meaning.Names.{Profile}
+use Rattle.spl_intrinsics.specs.spl_meaning.Pending.{result_words, formals_words, marker_words}
+use Rattle.spl_intrinsics.specs.spl_meaning.References.{Setting}
+use Rattle.spl_intrinsics.specs.spl_meaning.States.{Data, State, Begun, Outcome, done, then_go}
+use Rattle.spl_intrinsics.specs.spl_meaning.Statements.{value_dropped}
+use Rattle.spl_intrinsics.specs.spl_meaning.Values.{Who, procedure, subroutine, Callee}
+use Rattle.spl_intrinsics.specs.spl_code.Calls.{Scope, result_room, result_taken, procedure_called, subroutine_called, called}
+use Rattle.spl_intrinsics.specs.spl_code.Code.{calling}
+use Rattle.spl_intrinsics.specs.spl_code.Instructions.{LSR}
+use Rattle.spl_intrinsics.specs.spl_code.Parts.{Part, Wanted, Written}
+use Rattle.spl_intrinsics.specs.spl_statement_code.Statements.{result_dropped}
+use Rattle.spl_intrinsics.specs.spl_frames.Words.{AreWords}
+use Rattle.spl_intrinsics.specs.spl_follow.Calling.{result_of, IsResult}
+use Rattle.spl_intrinsics.specs.spl_follow.Spots.{Spot, spot, pos, Point, on, Ground, start_at}
+use Rattle.spl_intrinsics.specs.spl_follow.Matching.{Outer, Matched, Kept, Stand, Coded, IsValue, IsAnswer}
+use Rattle.spl_intrinsics.specs.spl_follow.Following.{Rate, tally, tally_with, Owes, Behind, Follows, NoExit}
+use Rattle.spl_intrinsics.specs.spl_follow.Doing.{doing}
+use Rattle.spl_intrinsics.specs.spl_follow.Standing.{Sites, Stands, IsClosed}
+use Rattle.spl_intrinsics.specs.spl_follow.Yielding.{Yields}
+use Rattle.spl_intrinsics.specs.spl_follow.Parts.{Ready, Completes, Leaving}
+use Rattle.spl_intrinsics.specs.spl_follow.Simulating.{Surroundings}
+use Rattle.spl_intrinsics.proofs.spl_follow_proofs.FollowLemmas.{then_follows, bind_follows, tail_follows, spend_follows, weaken, widen, no_exit}
+use Rattle.spl_intrinsics.proofs.spl_follow_proofs.WayLemmas.{goes_none}
+use Rattle.spl_intrinsics.proofs.spl_follow_proofs.KeepLemmas.{kept_same, kept_top, kept_stack, value_after, values_join, value_ready, value_word}
+use Rattle.spl_intrinsics.proofs.spl_follow_proofs.PartLemmas.{stand_in_order, statements_begin_noted}
+use Rattle.spl_intrinsics.proofs.spl_follow_proofs.RowLemmas.{behind_here, shown, row_value}
+use Rattle.spl_intrinsics.proofs.spl_follow_proofs.StandLemmas.{closed_last, stands_le}
+use Rattle.spl_intrinsics.proofs.spl_values_proofs.GiveLemmas.{last_leads, value_row}
 use Rattle.spl_operators.proofs.RowLemmas.{value_there}
-use Rattle.spl_values.proofs.SumLemmas.{front_on}
-use Rattle.spl_endings.proofs.WantLemmas.{wanted_keeps}
+use Rattle.spl_intrinsics.proofs.spl_values_proofs.SumLemmas.{front_on}
+use Rattle.spl_intrinsics.proofs.spl_endings_proofs.WantLemmas.{wanted_keeps}
 use Rattle.spl_intrinsics.proofs.RoomLemmas.{Rooms}
 use Rattle.spl_intrinsics.proofs.RoomLemmas as room
 use Rattle.spl_intrinsics.proofs.AskLemmas.{Drops}
 use Rattle.spl_intrinsics.proofs.AskLemmas as ask
 use Rattle.spl_intrinsics.proofs.PerformLemmas.{answer_deleted}
-use Rattle.spl_links.specs.Links.{MayCall, linked_by}
-use Rattle.spl_links.specs.Laws.{HasCode, ArgumentsCode, procedure_value, CallsAreWhole, CallsSimulate, CallsPerform}
+use Rattle.spl_links.specs.Links.{MayCall}
+use Rattle.spl_links.specs.Laws.{HasCode, ArgumentsCode, CanCall, has_entry, call_value, CallsAreWhole, CallsSimulate, CallsPerform}
 use Rattle.spl_links.specs.Laws as law
-use Rattle.spl_links.proofs.LinkLemmas.{CallStands, call_stands}
+use Rattle.spl_links.proofs.LinkLemmas.{CallStands, entry_there, call_stands}
 
 -- ---- where a step is spent
 
@@ -171,18 +173,18 @@ given_behind st meets r f k us s0 m0 s m x space =
     }
 
 -- The call, and what takes its result: charged their own words, and what the step spent on the call pays for.
-call_made : (may : List ℕ → Bool) (c : Scope) (z : Surroundings) (d : ℕ) (call : Callee) (x : List ℕ) (p : Profile) (k : ℕ) (from : Point) (q : Spot)
-    (us : List ℕ) (s0 : State) (m0 : Machine) (s : State) (l : List Begun) (m : Machine) → MayCall may c z d call → z.setting.split ≡ false
-    → CallStands z may c x p from q (result_taken p.result)
+call_made : (may : Who → Bool) (c : Scope) (z : Surroundings) (d : ℕ) (call : Callee) (who : Who) (p : Profile) (k : ℕ) (from : Point) (q : Spot)
+    (us : List ℕ) (s0 : State) (m0 : Machine) (s : State) (l : List Begun) (m : Machine) → MayCall may c z d call
+    → CallStands z may c who p from q (result_taken p.result)
     → Given z.setting from (result_words p) (formals_words p.formals) k us s0 m0 s l m → s.left < d
     → Follows z.ground z.rate (pos q - pos from.at + z.rate.step) 0 z.rate.reach (tally_with l s) m (IsValue z.setting q (result_words p) k s0.now m0) NoExit
-    (call (procedure x) us k s)
-call_made may c z d call x p k from q us s0 m0 s l m around whole cs y fuel =
+    (call who us k s)
+call_made may c z d call who p k from q us s0 m0 s l m around cs y fuel =
     let rise = cs.leads.rise in
     let far = stands_le z.ground z.sites (result_taken p.result) (on cs.behind) q cs.stands in
     tail_follows z.ground z.rate (pos cs.behind - pos from.at + z.rate.step) 0 z.rate.reach (pos q - pos cs.behind) 0 0 (pos q - pos from.at + z.rate.step) 0 z.rate.reach
-    (tally_with l s) m (IsResult z.setting cs.behind p k s.now m) (IsValue z.setting q (result_words p) k s0.now m0) NoExit (call (procedure x) us k s)
-    (around.procedures whole (procedure x) (linked_by cs.wanted cs.index p) cs.linked from cs.behind k us s l m cs.leads cs.next
+    (tally_with l s) m (IsResult z.setting cs.behind p k s.now m) (IsValue z.setting q (result_words p) k s0.now m0) NoExit (call who us k s)
+    (around.calls who (record { by = cs.by; wanted = cs.wanted; index = cs.index; profile = p }) cs.linked from cs.behind k us s l m cs.leads cs.next
     (record {
       at = y.at;
       real = cs.real;
@@ -253,19 +255,25 @@ ready_spent st d from k need s l m j r is =
     }
 
 -- where the pieces of a call stand: room, arguments, and the call
-called_pieces : (c : Scope) (p : Profile) (x : List ℕ) (a : Part) (h : ℕ) (ws : List Wanted)
-    → (calling p a (called c (procedure x)) h ws).pieces
-    ≡ result_room p.result ++ ((a (h + 0) ws).pieces ++ ((procedure_called x (c.procedures x) (h + (0 + (a (h + 0) ws).marks)) (a (h + 0) ws).wants).pieces ++ result_taken p.result))
-called_pieces c p x a h ws =
+called_pieces : (c : Scope) (p : Profile) (who : Who) (a : Part) (h : ℕ) (ws : List Wanted)
+    → (calling p a (called c who) h ws).pieces
+    ≡ result_room p.result ++ ((a (h + 0) ws).pieces ++ ((called c who (h + (0 + (a (h + 0) ws).marks)) (a (h + 0) ws).wants).pieces ++ result_taken p.result))
+called_pieces c p who a h ws =
     let rr = result_room p.result in
     let aa = (a (h + 0) ws).pieces in
-    let cc' = (procedure_called x (c.procedures x) (h + (0 + (a (h + 0) ws).marks)) (a (h + 0) ws).wants).pieces in
+    let cc' = (called c who (h + (0 + (a (h + 0) ws).marks)) (a (h + 0) ws).wants).pieces in
     append_assoc (rr ++ aa) cc' (result_taken p.result) ∙ append_assoc rr aa (cc' ++ result_taken p.result)
 
 -- its names: those of the arguments are among them
-called_keeps : (x : List ℕ) (o : Option ℕ) (h : ℕ) (ws : List Wanted) → IsFront ws (procedure_called x o h ws).wants
-called_keeps x (Some entry) h ws = record { rest = []; is = sym (append-nil ws) }
-called_keeps x None h ws = wanted_keeps x false ws
+called_keeps : (c : Scope) (who : Who) (h : ℕ) (ws : List Wanted) → IsFront ws (called c who h ws).wants
+called_keeps c (procedure x) h ws = by (c.procedures x) where
+  by : (o : Option ℕ) → IsFront ws (procedure_called x o h ws).wants
+  by (Some entry) = record { rest = []; is = sym (append-nil ws) }
+  by None = wanted_keeps x false ws
+called_keeps c (subroutine x) h ws = by (c.subroutines x) where
+  by : (o : Option ℕ) → IsFront ws (subroutine_called o h ws).wants
+  by (Some entry) = record { rest = []; is = sym (append-nil ws) }
+  by None = record { rest = []; is = sym (append-nil ws) }
 
 -- rooms that are there close
 room_closed : (r : ℕ) (ps : List Piece) → Rooms r ps → 1 ≤ r → IsClosed ps
@@ -282,8 +290,8 @@ value_alone st q zero f k d m us s m1 none v =
     subst (λ (j : ℕ). IsValue st q j k d m us s m1) all (subst (λ (j : ℕ). IsValue st q f j d m us s m1) same v)
 value_alone st q (suc r) f k d m us s m1 none v = absurd (omega (arith, none))
 
-module _ (may : List ℕ → Bool) (c : Scope) (z : Surroundings) (d : ℕ) (call : Callee) (x : List ℕ) (p : Profile) (k need more : ℕ)
-    (around : MayCall may c z d call) (whole : z.setting.split ≡ false) (allowed : may x ≡ true) (named : c.names x ≡ Some (n.procedure p))
+module _ (may : Who → Bool) (c : Scope) (z : Surroundings) (d : ℕ) (call : Callee) (who : Who) (p : Profile) (k need more : ℕ)
+    (around : MayCall may c z d call) (can : CanCall may c z.setting.split who p)
     (fits : result_words p + more ≤ need) (space : result_words p + formals_words p.formals + marker_words ≤ need) where
   abbrev r : ℕ
   r = result_words p
@@ -293,33 +301,33 @@ module _ (may : List ℕ → Bool) (c : Scope) (z : Surroundings) (d : ℕ) (cal
 
   -- what stands behind the arguments
   abbrev last_pieces : ℕ → List Wanted → List Piece
-  last_pieces h ws = (procedure_called x (c.procedures x) h ws).pieces ++ result_taken p.result
+  last_pieces h ws = (called c who h ws).pieces ++ result_taken p.result
 
   -- the call behind the words of its parameters
   call_behind : (h : ℕ) (ws : List Wanted) (meets q : Spot) (s : State) (m : Machine) (us : List ℕ) (t : State) (m1 : Machine) (j : ℕ)
-      → Stands z.ground z.sites (on meets) (last_pieces h ws) q → IsFront (procedure_called x (c.procedures x) h ws).wants z.wants
+      → Stands z.ground z.sites (on meets) (last_pieces h ws) q → IsFront (called c who h ws).wants z.wants
       → IsValue z.setting meets (r + f) k s.now m (replicate r 0 ++ us) t m1 → s.now.top + k + need ≤ s.now.stack → t.left ≤ j → j < d
-      → Follows z.ground z.rate (pos q - pos meets + z.rate.step) 0 z.rate.reach (tally t) m1 (IsValue z.setting q r k s.now m) NoExit (call (procedure x) us k t)
+      → Follows z.ground z.rate (pos q - pos meets + z.rate.step) 0 z.rate.reach (tally t) m1 (IsValue z.setting q r k s.now m) NoExit (call who us k t)
   call_behind h ws meets q s m us t m1 j stands front v roomy fewer fuel =
-      call_made may c z d call x p k (on meets) q us s m t t.begun m1 around whole
-      (call_stands z may c x p (on meets) q (result_taken p.result) (c.procedures x) h ws allowed named refl stands front)
+      call_made may c z d call who p k (on meets) q us s m t t.begun m1 around
+      (call_stands z may c who p (on meets) q (result_taken p.result) h ws can (entry_there may c z d call who p around can) stands front)
       (given_behind z.setting meets r f k us s m t m1 v (omega (arith, roomy, space))) (omega (arith, fewer, fuel))
 
   -- behind the room for a result: arguments, and the call
   behind_room : (a : Part) (words : State → Outcome (List ℕ)) (h : ℕ) (ws : List Wanted) (p0 : Point) (from q : Spot) (s : State) (l : List Begun) (m : Machine)
       (t : State) (m1 : Machine) → ArgumentsCode p z d k more a words
       → Stands z.ground z.sites (on from) ((a (h + 0) ws).pieces ++ last_pieces (h + (0 + (a (h + 0) ws).marks)) (a (h + 0) ws).wants) q
-      → IsFront (procedure_called x (c.procedures x) (h + (0 + (a (h + 0) ws).marks)) (a (h + 0) ws).wants).wants z.wants
+      → IsFront (called c who (h + (0 + (a (h + 0) ws).marks)) (a (h + 0) ws).wants).wants z.wants
       → Ready z.setting d p0 k need s l m → s.left < d → IsValue z.setting from r k s.now m (replicate r 0) t m1 → t.left ≤ s.left
       → Follows z.ground z.rate (pos q - pos from + z.rate.step) 1 z.rate.reach (tally t) m1 (IsValue z.setting q r k s.now m) NoExit
-      (then_go (words t) (λ us u. call (procedure x) us k u))
+      (then_go (words t) (λ us u. call who us k u))
   behind_room a words h ws p0 from q s l m t m1 (law.ArgumentsCode.none none is) stands front ready fuel v fewer =
       let nil = append-nil {A = ℕ} (replicate r 0) in
       let all : r ≡ r + f = omega (arith, none) in
       subst (λ (o : Outcome (List ℕ)). Follows z.ground z.rate (pos q - pos from + z.rate.step) 1 z.rate.reach (tally t) m1 (IsValue z.setting q r k s.now m) NoExit
-      (then_go o (λ us u. call (procedure x) us k u))) (sym (is t))
+      (then_go o (λ us u. call who us k u))) (sym (is t))
       (widen z.ground z.rate (pos q - pos from + z.rate.step) 0 z.rate.reach (pos q - pos from + z.rate.step) 1 z.rate.reach (tally t) m1 (IsValue z.setting q r k s.now m)
-      NoExit (call (procedure x) [] k t)
+      NoExit (call who [] k t)
       (call_behind (h + 0) ws from q s m [] t m1 s.left stands front
       (subst (λ (us : List ℕ). IsValue z.setting from (r + f) k s.now m us t m1) (sym nil) (subst (λ (i : ℕ). IsValue z.setting from i k s.now m (replicate r 0) t m1) all v))
       ready.room fewer fuel)
@@ -331,10 +339,10 @@ module _ (may : List ℕ → Bool) (c : Scope) (z : Surroundings) (d : ℕ) (cal
       let before = cut.3 in
       let behind = cut.4 in
       let many = z.rate.enough in
-      let keeps = front_on aa.wants (procedure_called x (c.procedures x) hc aa.wants).wants z.wants (called_keeps x (c.procedures x) hc aa.wants) front in
+      let keeps = front_on aa.wants (called c who hc aa.wants).wants z.wants (called_keeps c who hc aa.wants) front in
       bind_follows z.ground z.rate (pos cut.0 - pos from) 1 z.rate.reach (pos q - pos cut.0 + z.rate.step) 0 z.rate.reach (pos q - pos from + z.rate.step) 1 z.rate.reach
       (tally t) m1 (λ us u n. IsValue z.setting cut.0 (r + f) k s.now m (replicate r 0 ++ us) u n) (IsValue z.setting q r k s.now m) NoExit (words t)
-      (λ us u. call (procedure x) us k u)
+      (λ us u. call who us k u)
       (weaken z.ground z.rate (pos cut.0 - pos from) 1 z.rate.reach (tally t) m1 (IsValue z.setting cut.0 f (k + r) t.now m1)
       (λ us u n. IsValue z.setting cut.0 (r + f) k s.now m (replicate r 0 ++ us) u n) NoExit NoExit (words t)
       (sim.does (h + 0) ws (on from) cut.0 t t.begun m1 cut.1 keeps (value_ready z.setting d p0 from k need r more s l m (replicate r 0) t m1 ready v fewer fits))
@@ -344,27 +352,27 @@ module _ (may : List ℕ → Bool) (c : Scope) (z : Surroundings) (d : ℕ) (cal
 
   -- a call with a result: its step comes before the instruction that makes room
   with_result : (a : Part) (words : State → Outcome (List ℕ)) (h : ℕ) (ws : List Wanted) (from : Point) (q : Spot) (s : State) (l : List Begun) (m : Machine)
-      → 1 ≤ r → ArgumentsCode p z d k more a words → Stands z.ground z.sites from (calling p a (called c (procedure x)) h ws).pieces q
-      → IsFront (calling p a (called c (procedure x)) h ws).wants z.wants → Ready z.setting d from k need s l m
-      → Follows z.ground z.rate (pos q - pos from.at) 1 z.rate.reach (tally_with l s) m (IsValue z.setting q r k s.now m) NoExit (procedure_value call x k words s)
+      → 1 ≤ r → ArgumentsCode p z d k more a words → Stands z.ground z.sites from (calling p a (called c who) h ws).pieces q
+      → IsFront (calling p a (called c who) h ws).wants z.wants → Ready z.setting d from k need s l m
+      → Follows z.ground z.rate (pos q - pos from.at) 1 z.rate.reach (tally_with l s) m (IsValue z.setting q r k s.now m) NoExit (call_value call who k words s)
   with_result a words h ws from q s l m some args stands front ready =
       let aa = a (h + 0) ws in
       let rr = result_room p.result in
       let behind = aa.pieces ++ last_pieces (h + (0 + aa.marks)) aa.wants in
       let cut = stand_in_order z.ground z.sites rr behind from q (room_closed r rr (rooms_of_kind p.result) some)
-      (subst (λ (ps : List Piece). Stands z.ground z.sites from ps q) (called_pieces c p x a h ws) stands) in
+      (subst (λ (ps : List Piece). Stands z.ground z.sites from ps q) (called_pieces c p who a h ws) stands) in
       let rise = cut.3 in
       let far = cut.4 in
       let fuel = ready.fuel in
       spend_follows z.ground z.rate (pos q - pos from.at + z.rate.step) 0 (pos q - pos from.at) 1 z.rate.reach s l m (IsValue z.setting q r k s.now m) NoExit
-      (λ t. then_go (words t) (λ us u. call (procedure x) us k u)) (shown z.setting s m k ready.matches)
-      (behind_stood z.ground z.sites from (calling p a (called c (procedure x)) h ws).pieces q z.setting k s l m stands ready.at ready.matches ready.owes)
+      (λ t. then_go (words t) (λ us u. call who us k u)) (shown z.setting s m k ready.matches)
+      (behind_stood z.ground z.sites from (calling p a (called c who) h ws).pieces q z.setting k s l m stands ready.at ready.matches ready.owes)
       (λ j is.
       let again = ready_spent z.setting d from k need s l m j ready is in
       let zeros = zeros_put z d k need r rr from cut.0 (record s { left = j }) l m (rooms_of_kind p.result) some (omega (arith, fits)) cut.1 again in
       then_follows z.ground z.rate (pos cut.0 - pos from.at) 0 z.rate.reach (pos q - pos cut.0 + z.rate.step) 1 z.rate.reach (pos q - pos from.at + z.rate.step) 0 z.rate.reach
       (tally_with l (record s { left = j })) m (tally (record s { left = j })) zeros.0 (IsValue z.setting q r k s.now m) NoExit
-      (then_go (words (record s { left = j })) (λ us u. call (procedure x) us k u)) zeros.1
+      (then_go (words (record s { left = j })) (λ us u. call who us k u)) zeros.1
       (behind_room a words h ws from cut.0 q (record s { left = j }) l m (record s { left = j }) zeros.0 args cut.2 front again (omega (arith, fuel, is)) zeros.2 (omega arith))
       (omega (arith, rise, far)) (let many = z.rate.enough in omega (arith, many)) (let many = z.rate.enough in omega (arith, many)))
       (omega arith) (omega arith)
@@ -373,20 +381,20 @@ module _ (may : List ℕ → Bool) (c : Scope) (z : Surroundings) (d : ℕ) (cal
   without_result : (a : Part) (words : State → Outcome (List ℕ)) (h : ℕ) (ws : List Wanted) (from : Point) (q : Spot) (s : State) (l : List Begun) (m : Machine)
       → r ≡ 0 → result_room p.result ≡ [] → ArgumentsCode p z d k more a words
       → Stands z.ground z.sites from ((a (h + 0) ws).pieces ++ last_pieces (h + (0 + (a (h + 0) ws).marks)) (a (h + 0) ws).wants) q
-      → IsFront (procedure_called x (c.procedures x) (h + (0 + (a (h + 0) ws).marks)) (a (h + 0) ws).wants).wants z.wants
+      → IsFront (called c who (h + (0 + (a (h + 0) ws).marks)) (a (h + 0) ws).wants).wants z.wants
       → Ready z.setting d from k need s l m → s.left < d
       → Follows z.ground z.rate (pos q - pos from.at + z.rate.step) 1 z.rate.reach (tally_with l s) m (IsValue z.setting q r k s.now m) NoExit
-      (then_go (words s) (λ us u. call (procedure x) us k u))
+      (then_go (words s) (λ us u. call who us k u))
   without_result a words h ws from q s l m none bare (law.ArgumentsCode.none free is) stands front ready fuel =
       let same : k ≡ k + r + 0 = omega (arith, none) in
       let room = ready.room in
       let few : 0 ≡ f = omega (arith, free) in
       subst (λ (o : Outcome (List ℕ)). Follows z.ground z.rate (pos q - pos from.at + z.rate.step) 1 z.rate.reach (tally_with l s) m (IsValue z.setting q r k s.now m) NoExit
-      (then_go o (λ us u. call (procedure x) us k u))) (sym (is s))
+      (then_go o (λ us u. call who us k u))) (sym (is s))
       (widen z.ground z.rate (pos q - pos from.at + z.rate.step) 0 z.rate.reach (pos q - pos from.at + z.rate.step) 1 z.rate.reach (tally_with l s) m
-      (IsValue z.setting q r k s.now m) NoExit (call (procedure x) [] k s)
-      (call_made may c z d call x p k from q [] s m s l m around whole
-      (call_stands z may c x p from q (result_taken p.result) (c.procedures x) (h + (0 + 0)) ws allowed named refl stands front)
+      (IsValue z.setting q r k s.now m) NoExit (call who [] k s)
+      (call_made may c z d call who p k from q [] s m s l m around
+      (call_stands z may c who p from q (result_taken p.result) (h + (0 + 0)) ws can (entry_there may c z d call who p around can) stands front)
       (record {
         at = ready.at;
         owes = ready.owes;
@@ -408,10 +416,10 @@ module _ (may : List ℕ → Bool) (c : Scope) (z : Surroundings) (d : ℕ) (cal
       let many = z.rate.enough in
       let room = ready.room in
       let same : k ≡ k + r = omega (arith, none) in
-      let keeps = front_on aa.wants (procedure_called x (c.procedures x) hc aa.wants).wants z.wants (called_keeps x (c.procedures x) hc aa.wants) front in
+      let keeps = front_on aa.wants (called c who hc aa.wants).wants z.wants (called_keeps c who hc aa.wants) front in
       bind_follows z.ground z.rate (pos cut.0 - pos from.at) 1 z.rate.reach (pos q - pos cut.0 + z.rate.step) 0 z.rate.reach (pos q - pos from.at + z.rate.step) 1 z.rate.reach
       (tally_with l s) m (λ us u n. IsValue z.setting cut.0 (r + f) k s.now m (replicate r 0 ++ us) u n) (IsValue z.setting q r k s.now m) NoExit (words s)
-      (λ us u. call (procedure x) us k u)
+      (λ us u. call who us k u)
       (weaken z.ground z.rate (pos cut.0 - pos from.at) 1 z.rate.reach (tally_with l s) m (IsValue z.setting cut.0 f (k + r) s.now m)
       (λ us u n. IsValue z.setting cut.0 (r + f) k s.now m (replicate r 0 ++ us) u n) NoExit NoExit (words s)
       (sim.does (h + 0) ws from cut.0 s l m cut.1 keeps (record {
@@ -428,29 +436,29 @@ module _ (may : List ℕ → Bool) (c : Scope) (z : Surroundings) (d : ℕ) (cal
 
   -- a call of either sort, within a statement, before whose first instruction two steps may come
   call_follows : (a : Part) (words : State → Outcome (List ℕ)) (h : ℕ) (ws : List Wanted) (from : Point) (q : Spot) (s : State) (l : List Begun) (m : Machine)
-      → ArgumentsCode p z d k more a words → Stands z.ground z.sites from (calling p a (called c (procedure x)) h ws).pieces q
-      → IsFront (calling p a (called c (procedure x)) h ws).wants z.wants → Ready z.setting d from k need s l m
-      → Follows z.ground z.rate (pos q - pos from.at) 2 z.rate.reach (tally_with l s) m (IsValue z.setting q r k s.now m) NoExit (procedure_value call x k words s)
+      → ArgumentsCode p z d k more a words → Stands z.ground z.sites from (calling p a (called c who) h ws).pieces q
+      → IsFront (calling p a (called c who) h ws).wants z.wants → Ready z.setting d from k need s l m
+      → Follows z.ground z.rate (pos q - pos from.at) 2 z.rate.reach (tally_with l s) m (IsValue z.setting q r k s.now m) NoExit (call_value call who k words s)
   call_follows a words h ws from q s l m args stands front ready = by p.result refl where
     aa : Written
     aa = a (h + 0) ws
 
-    some : 1 ≤ r → Follows z.ground z.rate (pos q - pos from.at) 2 z.rate.reach (tally_with l s) m (IsValue z.setting q r k s.now m) NoExit (procedure_value call x k words s)
+    some : 1 ≤ r → Follows z.ground z.rate (pos q - pos from.at) 2 z.rate.reach (tally_with l s) m (IsValue z.setting q r k s.now m) NoExit (call_value call who k words s)
     some has =
         widen z.ground z.rate (pos q - pos from.at) 1 z.rate.reach (pos q - pos from.at) 2 z.rate.reach (tally_with l s) m (IsValue z.setting q r k s.now m) NoExit
-        (procedure_value call x k words s) (with_result a words h ws from q s l m has args stands front ready) (omega arith) (omega arith) (omega arith)
+        (call_value call who k words s) (with_result a words h ws from q s l m has args stands front ready) (omega arith) (omega arith) (omega arith)
 
     by : (o : Option Kind) → p.result ≡ o
-        → Follows z.ground z.rate (pos q - pos from.at) 2 z.rate.reach (tally_with l s) m (IsValue z.setting q r k s.now m) NoExit (procedure_value call x k words s)
+        → Follows z.ground z.rate (pos q - pos from.at) 2 z.rate.reach (tally_with l s) m (IsValue z.setting q r k s.now m) NoExit (call_value call who k words s)
     by None is =
         let fuel = ready.fuel in
         let bare : result_room p.result ≡ [] = ap result_room is in
         spend_follows z.ground z.rate (pos q - pos from.at + z.rate.step) 1 (pos q - pos from.at) 2 z.rate.reach s l m (IsValue z.setting q r k s.now m) NoExit
-        (λ t. then_go (words t) (λ us u. call (procedure x) us k u)) (shown z.setting s m k ready.matches)
-        (behind_stood z.ground z.sites from (calling p a (called c (procedure x)) h ws).pieces q z.setting k s l m stands ready.at ready.matches ready.owes)
+        (λ t. then_go (words t) (λ us u. call who us k u)) (shown z.setting s m k ready.matches)
+        (behind_stood z.ground z.sites from (calling p a (called c who) h ws).pieces q z.setting k s l m stands ready.at ready.matches ready.owes)
         (λ j e. without_result a words h ws from q (record s { left = j }) l m (ap result_width is) bare args
         (subst (λ (ps : List Piece). Stands z.ground z.sites from ps q)
-        (called_pieces c p x a h ws ∙ ap (λ (ps : List Piece). ps ++ ((a (h + 0) ws).pieces ++ last_pieces (h + (0 + (a (h + 0) ws).marks)) (a (h + 0) ws).wants)) bare) stands)
+        (called_pieces c p who a h ws ∙ ap (λ (ps : List Piece). ps ++ ((a (h + 0) ws).pieces ++ last_pieces (h + (0 + (a (h + 0) ws).marks)) (a (h + 0) ws).wants)) bare) stands)
         front (ready_spent z.setting d from k need s l m j ready e) (omega (arith, fuel, e)))
         (omega arith) (omega arith)
     by (Some kind.Integer) is = some (let one : r ≡ 1 = ap result_width is in omega (arith, one))
@@ -467,33 +475,55 @@ taken_closed (Some kind.Logical) ps x = subst (λ (qs : List Piece). IsClosed qs
 taken_closed (Some kind.Double) ps x = subst (λ (qs : List Piece). IsClosed qs) (sym (append-nil ps)) x
 taken_closed (Some kind.Byte) ps x = closed_last ps (LSR 8 ∷ []) refl
 
-call_closed : (x : List ℕ) (o : Option ℕ) (h : ℕ) (ws : List Wanted) → IsClosed (procedure_called x o h ws).pieces
-call_closed x (Some entry) h ws = refl
-call_closed x None h ws = refl
+call_closed : (c : Scope) (who : Who) (h : ℕ) (ws : List Wanted) → has_entry c who ≡ true → IsClosed (called c who h ws).pieces
+call_closed c (procedure x) h ws there = by (c.procedures x) where
+  by : (o : Option ℕ) → IsClosed (procedure_called x o h ws).pieces
+  by (Some entry) = refl
+  by None = refl
+call_closed c (subroutine x) h ws there = by (c.subroutines x) there where
+  by : (o : Option ℕ) → is_some o ≡ true → IsClosed (subroutine_called o h ws).pieces
+  by (Some entry) e = refl
+  by None e = absurd (false≢true e)
 
 arguments_keep : (a : Part) → HasCode a → (h : ℕ) (ws : List Wanted) → IsFront ws (a h ws).wants
 arguments_keep a law.HasCode.none h ws = record { rest = []; is = sym (append-nil ws) }
 arguments_keep a (law.HasCode.some closed) h ws = closed.keeps h ws
 
+-- arguments behind the room for a result close where that is there
+room_closes : (rr : List Piece) (a : Part) → HasCode a → IsClosed rr → (h : ℕ) (ws : List Wanted) → IsClosed (rr ++ (a h ws).pieces)
+room_closes rr a law.HasCode.none room h ws = subst (λ (ps : List Piece). IsClosed ps) (sym (append-nil rr)) room
+room_closes rr a (law.HasCode.some closed) room h ws = closed_last rr (a h ws).pieces (closed.closed h ws)
+
+-- and so they do with a call that has a piece, or has none
+call_closes : (c : Scope) (who : Who) (ps : List Piece) → IsClosed ps → (h : ℕ) (ws : List Wanted) → IsClosed (ps ++ (called c who h ws).pieces)
+call_closes c (procedure x) ps room h ws = closed_last ps (called c (procedure x) h ws).pieces (call_closed c (procedure x) h ws refl)
+call_closes c (subroutine x) ps room h ws = by (c.subroutines x) where
+  by : (o : Option ℕ) → IsClosed (ps ++ (subroutine_called o h ws).pieces)
+  by (Some entry) = closed_last ps (subroutine_called (Some entry) h ws).pieces refl
+  by None = subst (λ (qs : List Piece). IsClosed qs) (sym (append-nil ps)) room
+
 pub calls_whole : CallsAreWhole
-calls_whole c p x a has = record {
+calls_whole c p who a has there = record {
   closed = λ h ws.
       let aa = a (h + 0) ws in
-      let call = (procedure_called x (c.procedures x) (h + (0 + aa.marks)) aa.wants).pieces in
-      taken_closed p.result ((result_room p.result ++ aa.pieces) ++ call)
-      (closed_last (result_room p.result ++ aa.pieces) call (call_closed x (c.procedures x) (h + (0 + aa.marks)) aa.wants));
+      let rr = result_room p.result in
+      let call = (called c who (h + (0 + aa.marks)) aa.wants).pieces in
+      taken_closed p.result ((rr ++ aa.pieces) ++ call)
+      (⊎_elim (λ e. closed_last (rr ++ aa.pieces) call (call_closed c who (h + (0 + aa.marks)) aa.wants e))
+      (λ some. call_closes c who (rr ++ aa.pieces) (room_closes rr a has (room_closed (result_words p) rr (rooms_of_kind p.result) some) (h + 0) ws)
+      (h + (0 + aa.marks)) aa.wants) there);
   keeps = λ h ws.
       let aa = a (h + 0) ws in
-      front_on ws aa.wants (procedure_called x (c.procedures x) (h + (0 + aa.marks)) aa.wants).wants (arguments_keep a has (h + 0) ws)
-      (called_keeps x (c.procedures x) (h + (0 + aa.marks)) aa.wants);
+      front_on ws aa.wants (called c who (h + (0 + aa.marks)) aa.wants).wants (arguments_keep a has (h + 0) ws)
+      (called_keeps c who (h + (0 + aa.marks)) aa.wants);
 }
 
 -- ---- values and statements
 
 pub calls_give : CallsSimulate
-calls_give may c z d call x p k need more a words around whole allowed named some args fits space = record {
+calls_give may c z d call who p k need more a words around can some args fits space = record {
   does = λ h ws from q s l m stands front ready.
-      with_result may c z d call x p k need more around whole allowed named fits space a words h ws from q s l m some args stands front ready;
+      with_result may c z d call who p k need more around can fits space a words h ws from q s l m some args stands front ready;
 }
 
 -- arguments have code
@@ -523,22 +553,22 @@ value_answer st q j k d m vs s n v = record {
 }
 
 pub calls_perform : CallsPerform
-calls_perform may c z d number at call x p k need more a words around whole allowed named args fits space = record {
+calls_perform may c z d number at call who p k need more a words around can args fits space = record {
   does = λ h ws from q s m stands front pays b.
-      let code = calling p a (called c (procedure x)) (h + 0) ws in
+      let code = calling p a (called c who) (h + 0) ws in
       let ps = result_dropped p.result in
       let start : Point = record { at = from; due = Some at } in
-      let cut = stand_in_order z.ground z.sites code.pieces ps start q ((calls_whole c p x a (arguments_have p z d k more a words args)).closed (h + 0) ws) stands.1 in
+      let cut = stand_in_order z.ground z.sites code.pieces ps start q ((calls_whole c p who a (arguments_have p z d k more a words args) (inl (entry_there may c z d call who p around can))).closed (h + 0) ws) stands.1 in
       let many = z.rate.enough in
       let rise = cut.3 in
       let last = cut.4 in
       statements_begin_noted z.ground z.rate z.setting z.exits d number at from q k need s m
-      (λ t. value_dropped (procedure_value call x k words t)) b
+      (λ t. value_dropped (call_value call who k words t)) b
       (λ t same fewer ready. no_exit z.ground z.rate z.rate.step 2 3 (tally_with s.begun t) m (Completes z.setting q k t.now m) (Leaving z.setting z.exits k t.now m)
-      (value_dropped (procedure_value call x k words t))
+      (value_dropped (call_value call who k words t))
       (bind_follows z.ground z.rate (pos cut.0 - pos from) 2 z.rate.reach (pos q - pos cut.0) 0 0 z.rate.step 2 3 (tally_with s.begun t) m
-      (IsValue z.setting cut.0 (result_words p) k t.now m) (Completes z.setting q k t.now m) NoExit (procedure_value call x k words t) (λ vs v. done tt v)
-      (call_follows may c z d call x p k need more around whole allowed named fits space a words (h + 0) ws start cut.0 t s.begun m args cut.1 front ready)
+      (IsValue z.setting cut.0 (result_words p) k t.now m) (Completes z.setting q k t.now m) NoExit (call_value call who k words t) (λ vs v. done tt v)
+      (call_follows may c z d call who p k need more around can fits space a words (h + 0) ws start cut.0 t s.begun m args cut.1 front ready)
       (λ vs v m1 is less. answer_deleted z.ground z.rate z.sites z.setting cut.0 q (result_words p) k ps vs v m1 t.now m (drops_of_kind p.result) cut.2
       (value_answer z.setting cut.0 (result_words p) k t.now m vs v m1 is))
       (omega (arith, rise, last, pays)) (omega arith) (omega (arith, many)) (omega (arith, many))));

@@ -1,4 +1,4 @@
-//! How calls in the code of a body find procedures, and that the code of a call makes it.
+//! How calls in the code of a body find procedures and subroutines, and that the code of a call makes it.
 #![tactic(auto)]
 
 mod laws;

@@ -7,12 +7,12 @@ use Rattle.spl_tree.specs.declared.declarations.Item.{Item}
 use Rattle.spl_tree.specs.Views as view
 use Rattle.spl_tree.specs.Views.{letters}
 use Rattle.spl_tree.specs.Spells.{item_tree, shape_tree}
-use Rattle.spl_meaning.specs.Names.{Names}
-use Rattle.spl_meaning.specs.Tables.{shaped}
-use Rattle.spl_meaning.specs.Faults.{Fault, first_fault}
-use Rattle.spl_meaning.specs.DeclarationRules.{Around, initial_faults}
-use Rattle.spl_found.specs.OwnNames.{over, with_name, behind_items}
-use Rattle.spl_found.specs.FoundDeclarations.{found_initials, found_item, found_items}
+use Rattle.spl_sorts.specs.spl_meaning.Names.{Names}
+use Rattle.spl_sorts.specs.spl_meaning.Tables.{shaped}
+use Rattle.spl_sorts.specs.spl_meaning.Faults.{Fault, first_fault}
+use Rattle.spl_sorts.specs.spl_meaning.DeclarationRules.{Around, initial_faults}
+use Rattle.spl_uses.specs.spl_found.OwnNames.{over, with_name, behind_items}
+use Rattle.spl_uses.specs.spl_found.FoundDeclarations.{found_initials, found_item, found_items}
 use Rattle.spl_lists.proofs.NameWalks.{onward, onward_end}
 
 pub initial_step : (names : Names) (k : Kind) (at : At) (list : List Const) (i : ℕ) (x : Const) (f : Option Fault) → i < length list → x ≡ get_or list i x

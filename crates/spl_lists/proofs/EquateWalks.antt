@@ -13,13 +13,13 @@ use Rattle.spl_tree.specs.declared.declarations.Decl as d
 use Rattle.spl_tree.specs.declared.declarations.Decl.TheVariants.{rolls-Equate}
 use Rattle.spl_tree.specs.declared.declarations.Decl.TheFolds.{fold-roll-Decl}
 use Rattle.spl_tree.specs.DeclarationTrees as decl
-use Rattle.spl_meaning.specs.Names as n
-use Rattle.spl_meaning.specs.Names.{Names, sum_with, sum_from, sum_value, signed_term, constant_value}
-use Rattle.spl_meaning.specs.Faults.{Fault, first_fault}
-use Rattle.spl_meaning.specs.ExpressionRules.{constant_faults}
-use Rattle.spl_meaning.specs.DeclarationRules.{Around}
-use Rattle.spl_found.specs.OwnNames.{over, with_name, behind_equates}
-use Rattle.spl_found.specs.FoundDeclarations.{found_terms, found_equate, found_equates}
+use Rattle.spl_sorts.specs.spl_meaning.Names as n
+use Rattle.spl_sorts.specs.spl_meaning.Names.{Names, sum_with, sum_from, sum_value, signed_term, constant_value}
+use Rattle.spl_sorts.specs.spl_meaning.Faults.{Fault, first_fault}
+use Rattle.spl_sorts.specs.spl_meaning.ExpressionRules.{constant_faults}
+use Rattle.spl_sorts.specs.spl_meaning.DeclarationRules.{Around}
+use Rattle.spl_uses.specs.spl_found.OwnNames.{over, with_name, behind_equates}
+use Rattle.spl_uses.specs.spl_found.FoundDeclarations.{found_terms, found_equate, found_equates}
 use Rattle.spl_lists.specs.Sums.{equal_tree, IsSumOf}
 use Rattle.spl_lists.proofs.NameWalks.{onward, onward_end}
 

@@ -2,13 +2,13 @@
 use Rattle.std.proofs.Common.{◌≡◌, Bool, not, List, [], ◌∷◌, Option, Some, None, is_some, refl, ap, ◌∙◌}
 use Rattle.std.specs.Prelude.{◌||◌}
 use Rattle.spl_tree.specs.DeclarationTrees.{Placed, Spec, Heading}
-use Rattle.spl_meaning.specs.Names.{Formal, lists, spec_of, is_array_in, kind_in, formals_among, formals_of}
-use Rattle.spl_meaning.specs.Pending.{by_value}
-use Rattle.spl_meaning.specs.Faults.{Fault, unless, first_fault}
-use Rattle.spl_meaning.specs.StatementRules.{repeated}
-use Rattle.spl_meaning.specs.DeclarationRules as dr
-use Rattle.spl_found.specs.FoundDeclarations.{found_heading}
-use Rattle.spl_found.proofs.Order.{first_then}
+use Rattle.spl_sorts.specs.spl_meaning.Names.{Formal, lists, spec_of, is_array_in, kind_in, formals_among, formals_of}
+use Rattle.spl_sorts.specs.spl_meaning.Pending.{by_value}
+use Rattle.spl_sorts.specs.spl_meaning.Faults.{Fault, unless, first_fault}
+use Rattle.spl_sorts.specs.spl_meaning.StatementRules.{repeated}
+use Rattle.spl_sorts.specs.spl_meaning.DeclarationRules as dr
+use Rattle.spl_uses.specs.spl_found.FoundDeclarations.{found_heading}
+use Rattle.spl_uses.proofs.spl_found_proofs.Order.{first_then}
 use Rattle.spl_lists.specs.NameSets.{Test}
 use Rattle.spl_lists.specs.Listings.{Said, said_by, said_in}
 use Rattle.spl_lists.specs.Headings.{found_failing, found_split, kind_said, array_said, no_array, is_said, formals_by}

@@ -8,12 +8,12 @@ use Rattle.spl_tree.specs.declared.declarations.Spec.{Spec}
 use Rattle.spl_tree.specs.Views.{letters}
 use Rattle.spl_tree.specs.Spells.{placed, spec_tree}
 use Rattle.spl_tree.specs.DeclarationTrees.{Placed}
-use Rattle.spl_meaning.specs.Names as n
-use Rattle.spl_meaning.specs.Pending.{by_value}
-use Rattle.spl_meaning.specs.Faults.{Fault, unless, first_fault}
-use Rattle.spl_meaning.specs.StatementRules.{repeated, is_listed}
-use Rattle.spl_meaning.specs.DeclarationRules.{all_listed}
-use Rattle.spl_found.proofs.Order.{first_then}
+use Rattle.spl_sorts.specs.spl_meaning.Names as n
+use Rattle.spl_sorts.specs.spl_meaning.Pending.{by_value}
+use Rattle.spl_sorts.specs.spl_meaning.Faults.{Fault, unless, first_fault}
+use Rattle.spl_sorts.specs.spl_meaning.StatementRules.{repeated, is_listed}
+use Rattle.spl_sorts.specs.spl_meaning.DeclarationRules.{all_listed}
+use Rattle.spl_uses.proofs.spl_found_proofs.Order.{first_then}
 use Rattle.spl_sorts.specs.declared.profiles.Formal.{Formal}
 use Rattle.spl_sorts.specs.Profiles.{formal_of}
 use Rattle.spl_lists.specs.NameSets.{Test, no_name, and_name, and_names}

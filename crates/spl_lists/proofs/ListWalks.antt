@@ -6,13 +6,13 @@ use Rattle.spl_tree.specs.Views.{letters}
 use Rattle.spl_tree.specs.Spells.{placed, declaration}
 use Rattle.spl_tree.specs.declared.declarations.Decl.{Decl}
 use Rattle.spl_tree.specs.DeclarationTrees.{declarations}
-use Rattle.spl_meaning.specs.Names as n
-use Rattle.spl_meaning.specs.Names.{Names, intrinsic_named}
-use Rattle.spl_meaning.specs.Tables.{intrinsic_sort}
-use Rattle.spl_meaning.specs.Faults.{Fault, unless, first_fault}
-use Rattle.spl_meaning.specs.DeclarationRules.{Around}
-use Rattle.spl_found.specs.OwnNames.{with_name, behind_labels, behind_intrinsics, behind_declaration, behind_declarations}
-use Rattle.spl_found.specs.FoundDeclarations.{again, found_labels, found_intrinsics, found_local, found_locals}
+use Rattle.spl_sorts.specs.spl_meaning.Names as n
+use Rattle.spl_sorts.specs.spl_meaning.Names.{Names, intrinsic_named}
+use Rattle.spl_sorts.specs.spl_meaning.Tables.{intrinsic_sort}
+use Rattle.spl_sorts.specs.spl_meaning.Faults.{Fault, unless, first_fault}
+use Rattle.spl_sorts.specs.spl_meaning.DeclarationRules.{Around}
+use Rattle.spl_uses.specs.spl_found.OwnNames.{with_name, behind_labels, behind_intrinsics, behind_declaration, behind_declarations}
+use Rattle.spl_uses.specs.spl_found.FoundDeclarations.{again, found_labels, found_intrinsics, found_local, found_locals}
 use Rattle.spl_lists.proofs.NameWalks.{onward, onward_end}
 
 -- ---- LABEL

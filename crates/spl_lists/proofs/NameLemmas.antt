@@ -8,7 +8,7 @@ use Rattle.std.proofs.lemmas.List.Folds.{list_any-append}
 use lib.Pointwise.{pointwise}
 use Rattle.arrayvec.specs.ArrayVec.{ArrayVec}
 use Rattle.indexmap.specs.IndexSet.{insert_key}
-use Rattle.spl_meaning.specs.Names.{find, same_name}
+use Rattle.spl_sorts.specs.spl_meaning.Names.{find, same_name}
 use Rattle.spl_lists.specs.declared.listings.Listed.{Listed}
 use Rattle.spl_lists.specs.Listings.{entry_of}
 

@@ -10,8 +10,8 @@ use Rattle.spl_tree.specs.Views.{letters}
 use Rattle.spl_tree.specs.Spells.{placed, spec_tree}
 use Rattle.spl_tree.specs.DeclarationTrees as decl
 use Rattle.spl_tree.specs.DeclarationTrees.{Placed}
-use Rattle.spl_meaning.specs.Names.{find, or_else, same_name, lists, spec_of}
-use Rattle.spl_found.specs.OwnNames.{with_name}
+use Rattle.spl_sorts.specs.spl_meaning.Names.{find, or_else, same_name, lists, spec_of}
+use Rattle.spl_uses.specs.spl_found.OwnNames.{with_name}
 use Rattle.spl_lists.specs.declared.listings.Listed.{Listed}
 use Rattle.spl_lists.specs.NameSets.{Test, no_name, and_name, and_names}
 use Rattle.spl_lists.specs.Listings.{Said, said, said_by, said_in, and_listed, and_specs}

@@ -2,11 +2,11 @@
 use Rattle.std.proofs.Common.{◌≡◌, ◌<◌, ◌≤◌, ℕ, ◌+◌, Bool, true, false, List, [], ◌∷◌, map, drop, length, get_or, Option, Some, None, refl, ap, ◌∙◌}
 use Rattle.std.specs.Prelude.{if◌then◌else◌, ◌||◌, is_some}
 use Rattle.spl_tree.specs.Views.{letters}
-use Rattle.spl_meaning.specs.Names as n
-use Rattle.spl_meaning.specs.Names.{Names, Sort, Table, find, or_else, same_name, sort_by, parameters}
-use Rattle.spl_meaning.specs.Tables as t
-use Rattle.spl_found.specs.OwnNames.{over, with_name}
-use Rattle.spl_found.proofs.OwnNames.{find_declared}
+use Rattle.spl_sorts.specs.spl_meaning.Names as n
+use Rattle.spl_sorts.specs.spl_meaning.Names.{Names, Sort, Table, find, or_else, same_name, sort_by, parameters}
+use Rattle.spl_sorts.specs.spl_meaning.Tables as t
+use Rattle.spl_uses.specs.spl_found.OwnNames.{over, with_name}
+use Rattle.spl_uses.proofs.spl_found_proofs.OwnNames.{find_declared}
 use Rattle.spl_sorts.specs.declared.profiles.Formal.{Formal}
 use Rattle.spl_sorts.specs.Profiles.{formal_of}
 use Rattle.spl_lists.specs.Headings.{behind_formals}

@@ -1,6 +1,6 @@
 -- What stands around a list of declarations, as the rules have it.
-use Rattle.spl_meaning.specs.Names.{find}
-use Rattle.spl_meaning.specs.DeclarationRules as rules
+use Rattle.spl_sorts.specs.spl_meaning.Names.{find}
+use Rattle.spl_sorts.specs.spl_meaning.DeclarationRules as rules
 use Rattle.spl_sorts.specs.Tables.{table_of}
 use Rattle.spl_lists.specs.declared.own.Around.{Around}
 

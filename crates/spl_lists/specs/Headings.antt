@@ -3,10 +3,10 @@ use Rattle.std.specs.Prelude.{ℕ, Bool, ◌||◌, not, false, List, [], ◌∷�
 use Rattle.spl_tree.specs.declared.names_and_places.At.{At}
 use Rattle.spl_tree.specs.declared.expressions.Kind.{Kind}
 use Rattle.spl_tree.specs.DeclarationTrees.{Placed}
-use Rattle.spl_meaning.specs.Names.{Formal, Names, sort_by}
-use Rattle.spl_meaning.specs.Pending.{by_value}
-use Rattle.spl_meaning.specs.Faults.{Fault, unless, first_fault}
-use Rattle.spl_found.specs.OwnNames.{with_name}
+use Rattle.spl_sorts.specs.spl_meaning.Names.{Formal, Names, sort_by}
+use Rattle.spl_sorts.specs.spl_meaning.Pending.{by_value}
+use Rattle.spl_sorts.specs.spl_meaning.Faults.{Fault, unless, first_fault}
+use Rattle.spl_uses.specs.spl_found.OwnNames.{with_name}
 use Rattle.spl_lists.specs.declared.listings.Listed.{Listed}
 use Rattle.spl_lists.specs.NameSets.{Test, and_name}
 use Rattle.spl_lists.specs.Listings.{Said}

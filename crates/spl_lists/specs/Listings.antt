@@ -2,8 +2,8 @@
 use Rattle.std.specs.Prelude.{ℕ, List, [], ◌∷◌, map, Option, Some, None}
 use Rattle.arrayvec.specs.ArrayVec.{ArrayVec}
 use Rattle.spl_tree.specs.DeclarationTrees.{Placed, Spec}
-use Rattle.spl_meaning.specs.Names.{Table, spec_of}
-use Rattle.spl_found.specs.OwnNames.{with_name}
+use Rattle.spl_sorts.specs.spl_meaning.Names.{Table, spec_of}
+use Rattle.spl_uses.specs.spl_found.OwnNames.{with_name}
 use Rattle.spl_lists.specs.declared.listings.Listed.{Listed}
 use Rattle.spl_lists.specs.declared.listings.Listings.{Listings}
 

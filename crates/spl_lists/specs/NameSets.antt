@@ -2,7 +2,7 @@
 use Rattle.std.specs.Prelude.{ℕ, Bool, true, false, if◌then◌else◌, List, [], ◌∷◌}
 use Rattle.std.specs.List.{list_any}
 use Rattle.spl_tree.specs.DeclarationTrees.{Placed}
-use Rattle.spl_meaning.specs.Names.{same_name}
+use Rattle.spl_sorts.specs.spl_meaning.Names.{same_name}
 use Rattle.spl_lists.specs.declared.name_sets.NameSet.{NameSet}
 
 -- a test of names

@@ -1,8 +1,8 @@
 //! The intrinsics by their names, with what they take and give.
 ghost use Rattle.std.specs.Prelude.{◌≡◌, IfOk, map, not, true, false};
 ghost use Rattle.spl_tree.specs.Views.{letters};
-ghost use Rattle.spl_meaning.specs.Names as n;
-ghost use Rattle.spl_meaning.specs.Tables as t;
+ghost use Rattle.spl_sorts.specs.spl_meaning.Names as n;
+ghost use Rattle.spl_sorts.specs.spl_meaning.Tables as t;
 ghost use Rattle.spl_sorts.specs.Profiles.{formal_of, profile_of};
 ghost use Rattle.spl_sorts.specs.Sorts.{sort_of};
 

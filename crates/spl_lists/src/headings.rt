@@ -5,11 +5,11 @@
 ghost use Rattle.std.specs.Prelude.{◌≡◌, OnOk, IfOk, map, []};
 ghost use Rattle.spl_tree.specs.Views.{letters};
 ghost use Rattle.spl_tree.specs.Spells.{placed, spec_tree, heading_tree};
-ghost use Rattle.spl_meaning.specs.Names as n;
-ghost use Rattle.spl_meaning.specs.Faults.{first_fault};
-ghost use Rattle.spl_meaning.specs.StatementRules.{repeated};
-ghost use Rattle.spl_meaning.specs.DeclarationRules as rules;
-ghost use Rattle.spl_found.specs.FoundDeclarations.{found_heading};
+ghost use Rattle.spl_sorts.specs.spl_meaning.Names as n;
+ghost use Rattle.spl_sorts.specs.spl_meaning.Faults.{first_fault};
+ghost use Rattle.spl_sorts.specs.spl_meaning.StatementRules.{repeated};
+ghost use Rattle.spl_sorts.specs.spl_meaning.DeclarationRules as rules;
+ghost use Rattle.spl_uses.specs.spl_found.FoundDeclarations.{found_heading};
 ghost use Rattle.spl_sorts.specs.Profiles.{formal_of, profile_of};
 ghost use Rattle.spl_sorts.specs.Tables.{table_of};
 ghost use Rattle.spl_lists.specs.NameSets.{has_of, and_names};

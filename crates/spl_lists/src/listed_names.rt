@@ -1,9 +1,9 @@
 //! Declarations that list names: LABEL and INTRINSIC.
 ghost use Rattle.std.specs.Prelude.{◌≡◌, OnOk, map};
 ghost use Rattle.spl_tree.specs.Spells.{placed};
-ghost use Rattle.spl_meaning.specs.Names.{find};
-ghost use Rattle.spl_found.specs.OwnNames.{behind_labels, behind_intrinsics};
-ghost use Rattle.spl_found.specs.FoundDeclarations as found;
+ghost use Rattle.spl_sorts.specs.spl_meaning.Names.{find};
+ghost use Rattle.spl_uses.specs.spl_found.OwnNames.{behind_labels, behind_intrinsics};
+ghost use Rattle.spl_uses.specs.spl_found.FoundDeclarations as found;
 ghost use Rattle.spl_sorts.specs.Tables.{table_of};
 
 use crate::gates::{intrinsic_named, intrinsic_sort};

@@ -2,8 +2,8 @@
 ghost use Rattle.std.specs.Prelude.{◌≡◌, OnOk, IfOk, map, []};
 ghost use Rattle.spl_tree.specs.Views.{letters};
 ghost use Rattle.spl_tree.specs.Spells.{placed, spec_tree};
-ghost use Rattle.spl_meaning.specs.Names.{find};
-ghost use Rattle.spl_found.specs.OwnNames.{with_name};
+ghost use Rattle.spl_sorts.specs.spl_meaning.Names.{find};
+ghost use Rattle.spl_uses.specs.spl_found.OwnNames.{with_name};
 ghost use Rattle.spl_lists.specs.Listings.{listed_of, and_listed, said_in};
 
 use arrayvec::ArrayVec;

@@ -3,10 +3,10 @@ ghost use Rattle.std.specs.Prelude.{◌≡◌, OnOk, map};
 ghost use Rattle.spl_tree.specs.DeclarationTrees as decl;
 ghost use Rattle.spl_tree.specs.Spells as view;
 ghost use Rattle.spl_tree.specs.Spells.{heading_tree};
-ghost use Rattle.spl_meaning.specs.Names as n;
-ghost use Rattle.spl_meaning.specs.Names.{find};
-ghost use Rattle.spl_found.specs.OwnNames.{with_name, behind_declaration, behind_declarations};
-ghost use Rattle.spl_found.specs.FoundDeclarations as found;
+ghost use Rattle.spl_sorts.specs.spl_meaning.Names as n;
+ghost use Rattle.spl_sorts.specs.spl_meaning.Names.{find};
+ghost use Rattle.spl_uses.specs.spl_found.OwnNames.{with_name, behind_declaration, behind_declarations};
+ghost use Rattle.spl_uses.specs.spl_found.FoundDeclarations as found;
 ghost use Rattle.spl_sorts.specs.Tables.{table_of};
 ghost use Rattle.spl_lists.specs.Arounds.{around_of};
 

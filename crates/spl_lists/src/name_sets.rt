@@ -2,7 +2,7 @@
 ghost use Rattle.std.specs.Prelude.{◌≡◌, OnOk, IfOk, map};
 ghost use Rattle.spl_tree.specs.Views.{letters};
 ghost use Rattle.spl_tree.specs.Spells.{placed};
-ghost use Rattle.spl_meaning.specs.Names.{lists};
+ghost use Rattle.spl_sorts.specs.spl_meaning.Names.{lists};
 ghost use Rattle.spl_lists.specs.NameSets.{has_of, no_name, and_name};
 
 use arrayvec::ArrayVec;

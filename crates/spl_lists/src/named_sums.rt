@@ -1,11 +1,11 @@
 //! EQUATE: names for sums of constants.
 ghost use Rattle.std.specs.Prelude.{◌≡◌, ◌+ℤ◌, ◌≤ℤ◌, neg_ℤ, pos, ◌^◌, ◌-◌, OnOk, map};
 ghost use Rattle.spl_tree.specs.Spells.{term};
-ghost use Rattle.spl_meaning.specs.Names as n;
-ghost use Rattle.spl_meaning.specs.Names.{find};
-ghost use Rattle.spl_meaning.specs.ExpressionRules.{in_range};
-ghost use Rattle.spl_found.specs.OwnNames.{over, behind_equates};
-ghost use Rattle.spl_found.specs.FoundDeclarations as found;
+ghost use Rattle.spl_sorts.specs.spl_meaning.Names as n;
+ghost use Rattle.spl_sorts.specs.spl_meaning.Names.{find};
+ghost use Rattle.spl_sorts.specs.spl_meaning.ExpressionRules.{in_range};
+ghost use Rattle.spl_uses.specs.spl_found.OwnNames.{over, behind_equates};
+ghost use Rattle.spl_uses.specs.spl_found.FoundDeclarations as found;
 ghost use Rattle.spl_sorts.specs.Tables.{table_of, names_of};
 ghost use Rattle.spl_lists.specs.Arounds.{around_of};
 ghost use Rattle.spl_lists.specs.Sums.{equal_tree};

@@ -1,11 +1,11 @@
 //! The names of a list of declarations: what stands around it, what is seen in it, and names declared one by one.
 ghost use Rattle.std.specs.Prelude.{◌≡◌, OnOk, IfOk, map};
 ghost use Rattle.spl_tree.specs.Views.{letters};
-ghost use Rattle.spl_meaning.specs.Names as n;
-ghost use Rattle.spl_meaning.specs.Names.{find};
-ghost use Rattle.spl_meaning.specs.Faults.{first_fault};
-ghost use Rattle.spl_found.specs.OwnNames.{over, with_name};
-ghost use Rattle.spl_found.specs.FoundDeclarations as found;
+ghost use Rattle.spl_sorts.specs.spl_meaning.Names as n;
+ghost use Rattle.spl_sorts.specs.spl_meaning.Names.{find};
+ghost use Rattle.spl_sorts.specs.spl_meaning.Faults.{first_fault};
+ghost use Rattle.spl_uses.specs.spl_found.OwnNames.{over, with_name};
+ghost use Rattle.spl_uses.specs.spl_found.FoundDeclarations as found;
 ghost use Rattle.spl_sorts.specs.Profiles.{formal_of};
 ghost use Rattle.spl_sorts.specs.Sorts.{sort_of};
 ghost use Rattle.spl_sorts.specs.Tables.{table_of, names_of};

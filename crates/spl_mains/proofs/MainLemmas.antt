@@ -2,29 +2,29 @@
 use Rattle.std.proofs.Common.{◌≡◌, ℕ, false, [], sym, subst, arith}
 use Rattle.std.specs.Prelude.{min}
 use Rattle.std.proofs.lemmas.Bool.{false≢true}
-use Rattle.hp_session.specs.State.{Machine}
-use Rattle.spl_meaning.specs.Bodies.{program_of}
-use Rattle.spl_meaning.specs.References.{Here, Setting}
-use Rattle.spl_meaning.specs.Runs.{calls}
-use Rattle.spl_meaning.specs.States.{State, Exit, to_label, back}
-use Rattle.spl_meaning.specs.Statements.{run_body}
-use Rattle.spl_meaning.specs.Values.{Callee}
-use Rattle.spl_follow.specs.Spots.{Spot}
-use Rattle.spl_follow.specs.Matching.{Arrives}
-use Rattle.spl_follow.specs.Following.{tally, Follows}
-use Rattle.spl_follow.specs.Parts.{Exits, Completes, Leaving, Returning}
-use Rattle.spl_follow.proofs.FollowLemmas.{weaken}
-use Rattle.spl_follow.proofs.RowLemmas.{shown}
+use Rattle.spl_followed.specs.hp_session.State.{Machine}
+use Rattle.spl_followed.specs.spl_meaning.Bodies.{program_of}
+use Rattle.spl_followed.specs.spl_meaning.References.{Here, Setting}
+use Rattle.spl_followed.specs.spl_meaning.Runs.{calls}
+use Rattle.spl_followed.specs.spl_meaning.States.{State, Exit, to_label, back}
+use Rattle.spl_followed.specs.spl_meaning.Statements.{run_body}
+use Rattle.spl_followed.specs.spl_meaning.Values.{Callee}
+use Rattle.spl_followed.specs.spl_follow.Spots.{Spot}
+use Rattle.spl_followed.specs.spl_follow.Matching.{Arrives}
+use Rattle.spl_followed.specs.spl_follow.Following.{tally, Follows}
+use Rattle.spl_followed.specs.spl_follow.Parts.{Exits, Completes, Leaving, Returning}
+use Rattle.spl_followed.proofs.spl_follow_proofs.FollowLemmas.{weaken}
+use Rattle.spl_followed.proofs.spl_follow_proofs.RowLemmas.{shown}
 use Rattle.spl_followed.specs.Mains.{main_setting}
-use Rattle.spl_links.specs.Links.{MayCall}
-use Rattle.spl_names.specs.Names.{read_with}
+use Rattle.spl_stores.specs.spl_links.Links.{MayCall}
+use Rattle.spl_stores.specs.spl_names.Names.{read_with}
 use Rattle.spl_stores.proofs.CoverLemmas.{covered_list_performs}
 -- (code of main bodies is cut by it)
 pub use Rattle.spl_stores.proofs.CoverLemmas.{list_clear}
 use Rattle.spl_mains.specs.Laws.{CoveredBodiesFollow, CoveredMainBodiesFollow}
 
 -- where a list is left with no word waiting, RETURN is behind it, and a jump shows what the run has
-left_returns : (st : Setting) (x : Exits) (leave : Spot) (s : State) (m : Machine) → x.target back ≡ leave → (e : Exit) (t : State) (n : Machine)
+pub left_returns : (st : Setting) (x : Exits) (leave : Spot) (s : State) (m : Machine) → x.target back ≡ leave → (e : Exit) (t : State) (n : Machine)
     → Leaving st x 0 s.now m e t n → Returning st leave 0 s.now m e t n
 left_returns st x leave s m to back t n a =
     let none : min (x.held back) 0 ≡ 0 = omega arith in

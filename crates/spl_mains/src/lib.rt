@@ -3,4 +3,5 @@
 
 mod laws;
 
-pub use laws::{covered_bodies_follow, covered_main_bodies_follow};
+pub use laws::{covered_bodies_follow, covered_inners_follow, covered_main_bodies_follow};
+pub use spl_followed;

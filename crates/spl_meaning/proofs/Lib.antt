@@ -5,3 +5,5 @@ pub mod TameValues
 pub mod TameStatements
 pub mod RunLaws
 pub mod FirstFaults
+-- Passed on from the crates below.
+pub use Rattle.hp_word.proofs as hp_word_proofs

@@ -21,3 +21,6 @@ pub mod Sound
 pub mod Limits
 pub mod Bound
 pub mod Laws
+-- Passed on from the crates below.
+pub use Rattle.hp_word.specs as hp_word
+pub use Rattle.spl_tree.specs as spl_tree

@@ -1,18 +1,18 @@
 -- Labels of bodies, worked by hand.
 use Rattle.std.specs.Prelude.{◌≡◌, true, false, [], ◌∷◌, codes, refl}
 use Prim.Native.String.{String}
-use Rattle.hp_instr.specs.declared.instruction.Instr.TheVariants as i
-use Rattle.hp_instr.specs.declared.instruction.Mode.TheVariants.{DbPlus}
-use Rattle.spl_tree.specs.declared.expressions.Kind.TheVariants as kind
-use Rattle.spl_tree.specs.Trees as tree
-use Rattle.spl_tree.specs.StatementTrees as stat
-use Rattle.spl_tree.specs.StatementTrees.{Statement, statements}
-use Rattle.spl_meaning.specs.Tables.{Source}
-use Rattle.spl_branch.specs.declared.pieces.Piece.TheVariants.{Mark, Call, Begin}
-use Rattle.spl_code.specs.Instructions.{LDI, STOR, BR}
+use Rattle.spl_statement_code.specs.hp_instr.declared.instruction.Instr.TheVariants as i
+use Rattle.spl_statement_code.specs.hp_instr.declared.instruction.Mode.TheVariants.{DbPlus}
+use Rattle.spl_statement_code.specs.spl_tree.declared.expressions.Kind.TheVariants as kind
+use Rattle.spl_statement_code.specs.spl_tree.Trees as tree
+use Rattle.spl_statement_code.specs.spl_tree.StatementTrees as stat
+use Rattle.spl_statement_code.specs.spl_tree.StatementTrees.{Statement, statements}
+use Rattle.spl_statement_code.specs.spl_meaning.Tables.{Source}
+use Rattle.spl_statement_code.specs.spl_branch.declared.pieces.Piece.TheVariants.{Mark, Call, Begin}
+use Rattle.spl_statement_code.specs.spl_code.Instructions.{LDI, STOR, BR}
 use Rattle.spl_statement_code.specs.Instructions.{SUBS}
 use Rattle.spl_body_code.specs.Frames.{ROOM}
-use Rattle.spl_scopes.specs.Scopes.{first_reached}
+use Rattle.spl_modules.specs.spl_scopes.Scopes.{first_reached}
 use Rattle.spl_module_code.specs.LabelsOfBodies.{labels_among}
 use Rattle.spl_module_code.specs.Modules.{module_written}
 use Rattle.spl_module_code.proofs.KnownUnits.{nowhere, simple, unit_of}

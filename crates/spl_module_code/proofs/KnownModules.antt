@@ -1,12 +1,12 @@
 -- The modules of a unit, worked by hand. Segment 0 has its main body, with a subroutine T; segment 1 has F with a subroutine S, and H with U.
 -- No body does anything.
 use Rattle.std.specs.Prelude.{◌≡◌, ℕ, true, List, [], ◌∷◌, ◌++◌, codes, Some, None, refl}
-use Rattle.hp_instr.specs.declared.instruction.Instr.TheVariants as i
-use Rattle.spl_branch.specs.declared.pieces.Piece.{Piece}
-use Rattle.spl_branch.specs.declared.pieces.Piece.TheVariants.{Mark, Call}
+use Rattle.spl_statement_code.specs.hp_instr.declared.instruction.Instr.TheVariants as i
+use Rattle.spl_statement_code.specs.spl_branch.declared.pieces.Piece.{Piece}
+use Rattle.spl_statement_code.specs.spl_branch.declared.pieces.Piece.TheVariants.{Mark, Call}
 use Rattle.spl_statement_code.specs.Instructions.{SUBS}
 use Rattle.spl_body_code.specs.Frames.{ROOM, ADDS, EXIT, SXIT}
-use Rattle.spl_scopes.specs.Scopes.{Placed, first_reached}
+use Rattle.spl_modules.specs.spl_scopes.Scopes.{Placed, first_reached}
 use Rattle.spl_module_code.specs.Modules.{module_written, marks_before, main_mark}
 use Rattle.spl_module_code.proofs.KnownUnits.{unit}
 

@@ -1,18 +1,18 @@
 -- The code of a body in its module: its labels, and its statements in the scope that it has there.
 use Rattle.std.specs.Prelude.{ℕ, suc, Bool, true, false, if◌then◌else◌, List, [], ◌∷◌, Option, Some, None, option_map}
-use Rattle.spl_tree.specs.declared.expressions.Kind.{Kind}
-use Rattle.spl_meaning.specs.Names as n
-use Rattle.spl_meaning.specs.Names.{Sort, Names, Table, find, or_else}
-use Rattle.spl_meaning.specs.Places.{Place}
-use Rattle.spl_meaning.specs.Tables.{Subroutine}
-use Rattle.spl_meaning.specs.Bodies.{Body, Named, subroutine_body}
-use Rattle.spl_code.specs.Parts.{Part, nothing, ◌⨟◌}
-use Rattle.spl_code.specs.Calls.{Scope}
+use Rattle.spl_statement_code.specs.spl_tree.declared.expressions.Kind.{Kind}
+use Rattle.spl_statement_code.specs.spl_meaning.Names as n
+use Rattle.spl_statement_code.specs.spl_meaning.Names.{Sort, Names, Table, find, or_else}
+use Rattle.spl_statement_code.specs.spl_meaning.Places.{Place}
+use Rattle.spl_statement_code.specs.spl_meaning.Tables.{Subroutine}
+use Rattle.spl_statement_code.specs.spl_meaning.Bodies.{Body, Named, subroutine_body}
+use Rattle.spl_statement_code.specs.spl_code.Parts.{Part, nothing, ◌⨟◌}
+use Rattle.spl_statement_code.specs.spl_code.Calls.{Scope}
 use Rattle.spl_statement_code.specs.Landings.{Landing, Context}
 use Rattle.spl_statement_code.specs.Statements.{listed}
 use Rattle.spl_body_code.specs.Bodies.{procedure_code, subroutine_code, main_code}
-use Rattle.spl_scopes.specs.Entries.{Owner, main, routine, Entry}
-use Rattle.spl_scopes.specs.Scopes.{scope_with}
+use Rattle.spl_modules.specs.spl_scopes.Entries.{Owner, main, routine, Entry}
+use Rattle.spl_modules.specs.spl_scopes.Scopes.{scope_with}
 use Rattle.spl_module_code.specs.LabelsOfBodies.{labels_among, with_landings}
 
 -- whether a name stands for a procedure or a subroutine

@@ -1,9 +1,9 @@
 -- The labels of a body: each has a mark of its own, made before the code of the body's statements, and the words that wait in its list.
 use Rattle.std.specs.Prelude.{ℕ, suc, ◌+◌, List, [], ◌∷◌, ◌++◌}
-use Rattle.spl_tree.specs.StatementTrees as stat
-use Rattle.spl_tree.specs.StatementTrees.{Statement, Statements}
-use Rattle.spl_meaning.specs.Names.{Table}
-use Rattle.spl_code.specs.Parts.{Part, with_fresh}
+use Rattle.spl_statement_code.specs.spl_tree.StatementTrees as stat
+use Rattle.spl_statement_code.specs.spl_tree.StatementTrees.{Statement, Statements}
+use Rattle.spl_statement_code.specs.spl_meaning.Names.{Table}
+use Rattle.spl_statement_code.specs.spl_code.Parts.{Part, with_fresh}
 use Rattle.spl_statement_code.specs.Landings.{Landing}
 
 -- a label, and how many words wait in the list that bears it

@@ -3,19 +3,19 @@
 -- the unit's bodies in that segment in order of text, subroutines before the body whose they are, and behind them the main body.
 use Rattle.std.specs.Prelude.{ℕ, suc, ◌+◌, ◌<◌, ◌≤◌, ◌≡◌, Bool, true, false, if◌then◌else◌, nat_eq, nat_lt, not, ◌&&◌, ◌||◌, List, [], ◌∷◌, ◌++◌, length, map, Option, Some, None, replicate}
 use Rattle.std.specs.List.{slice_get}
-use Rattle.spl_tree.specs.Views.{letters}
-use Rattle.spl_tree.specs.DeclarationTrees as decl
-use Rattle.spl_tree.specs.DeclarationTrees.{Declaration, Declarations, declarations}
-use Rattle.spl_meaning.specs.Names.{Table, find}
-use Rattle.spl_meaning.specs.Limits.{joined}
-use Rattle.spl_meaning.specs.Tables.{Source, Subroutine}
-use Rattle.spl_meaning.specs.Bodies.{Body, Named}
-use Rattle.spl_branch.specs.declared.buffer.Code.{Code}
-use Rattle.spl_branch.specs.declared.modules.Module.{Module}
-use Rattle.spl_branch.specs.Modules.{Finished, Oversized}
-use Rattle.spl_code.specs.Parts.{Part, Written, nothing, ◌⨟◌, wants_of}
-use Rattle.spl_scopes.specs.Entries.{main, Entry, module_entries, in_segment, declared_entries, routines_behind}
-use Rattle.spl_scopes.specs.Scopes.{Placed, first_reached, placed_units, routine_bodies, outer_body}
+use Rattle.spl_statement_code.specs.spl_tree.Views.{letters}
+use Rattle.spl_statement_code.specs.spl_tree.DeclarationTrees as decl
+use Rattle.spl_statement_code.specs.spl_tree.DeclarationTrees.{Declaration, Declarations, declarations}
+use Rattle.spl_statement_code.specs.spl_meaning.Names.{Table, find}
+use Rattle.spl_statement_code.specs.spl_meaning.Limits.{joined}
+use Rattle.spl_statement_code.specs.spl_meaning.Tables.{Source, Subroutine}
+use Rattle.spl_statement_code.specs.spl_meaning.Bodies.{Body, Named}
+use Rattle.spl_statement_code.specs.spl_branch.declared.buffer.Code.{Code}
+use Rattle.spl_statement_code.specs.spl_branch.declared.modules.Module.{Module}
+use Rattle.spl_statement_code.specs.spl_branch.Modules.{Finished, Oversized}
+use Rattle.spl_statement_code.specs.spl_code.Parts.{Part, Written, nothing, ◌⨟◌, wants_of}
+use Rattle.spl_modules.specs.spl_scopes.Entries.{main, Entry, module_entries, in_segment, declared_entries, routines_behind}
+use Rattle.spl_modules.specs.spl_scopes.Scopes.{Placed, first_reached, placed_units, routine_bodies, outer_body}
 use Rattle.spl_modules.specs.Made.{made_of, made_from}
 use Rattle.spl_module_code.specs.Bodies.{subroutine_part, routine_part, main_part}
 

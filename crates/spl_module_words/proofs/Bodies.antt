@@ -1,26 +1,26 @@
 -- The words of bodies: each has at most as many as it weighs.
 use Rattle.std.proofs.Common.{◌≡◌, ◌≤◌, ◌*◌, ℕ, suc, ◌+◌, List, [], ◌∷◌, refl, arith}
-use Rattle.spl_tree.specs.StatementTrees as stat
-use Rattle.spl_tree.specs.StatementTrees.{Statements, statements}
-use Rattle.spl_meaning.specs.Names.{Table}
-use Rattle.spl_meaning.specs.Tables.{Source, Routine, Subroutine, routine_subroutines, unit_subroutines}
-use Rattle.spl_meaning.specs.Places.{Place}
-use Rattle.spl_meaning.specs.Bodies.{Body, procedure_body, subroutine_body, main_body}
-use Rattle.spl_meaning.specs.Bound.{statement_weight, statements_weight, subroutine_weight, subroutines_weight, routine_weight, main_weight}
-use Rattle.spl_branch.specs.Pieces.{count_of}
-use Rattle.spl_code.specs.Parts.{Part, Wanted}
-use Rattle.spl_code.proofs.CountLemmas.{count_append, Few, few_then, few_pieces, few_fresh}
-use Rattle.spl_statement_code.specs.Landings.{Landing}
-use Rattle.spl_statement_code.specs.FewWords.{nested_among}
-use Rattle.spl_statement_code.proofs.CountLaws.{few_listed}
-use Rattle.spl_body_code.specs.Bodies.{procedure_code, main_code}
-use Rattle.spl_body_code.proofs.BodyLaws.{procedure_few, subroutine_few, main_few}
-use Rattle.spl_scopes.specs.Entries.{Owner, main, routine, Entry}
-use Rattle.spl_places.specs.Programs.{Each}
+use Rattle.spl_formed_modules.specs.spl_tree.StatementTrees as stat
+use Rattle.spl_formed_modules.specs.spl_tree.StatementTrees.{Statements, statements}
+use Rattle.spl_few_loops.specs.spl_meaning.Names.{Table}
+use Rattle.spl_few_loops.specs.spl_meaning.Tables.{Source, Routine, Subroutine, routine_subroutines, unit_subroutines}
+use Rattle.spl_few_loops.specs.spl_meaning.Places.{Place}
+use Rattle.spl_few_loops.specs.spl_meaning.Bodies.{Body, procedure_body, subroutine_body, main_body}
+use Rattle.spl_few_loops.specs.spl_meaning.Bound.{statement_weight, statements_weight, subroutine_weight, subroutines_weight, routine_weight, main_weight}
+use Rattle.spl_formed_modules.specs.spl_branch.Pieces.{count_of}
+use Rattle.spl_formed_modules.specs.spl_code.Parts.{Part, Wanted}
+use Rattle.spl_few_loops.proofs.spl_code_proofs.CountLemmas.{count_append, Few, few_then, few_pieces, few_fresh}
+use Rattle.spl_few_loops.specs.spl_statement_code.Landings.{Landing}
+use Rattle.spl_few_loops.specs.spl_statement_code.FewWords.{nested_among}
+use Rattle.spl_few_loops.proofs.spl_statement_code_proofs.CountLaws.{few_listed}
+use Rattle.spl_formed_modules.specs.spl_body_code.Bodies.{procedure_code, main_code}
+use Rattle.spl_formed_modules.proofs.spl_body_code_proofs.BodyLaws.{procedure_few, subroutine_few, main_few}
+use Rattle.spl_formed_modules.specs.spl_scopes.Entries.{Owner, main, routine, Entry}
+use Rattle.spl_few_loops.specs.spl_places.Programs.{Each}
 use Rattle.spl_fits.specs.Fits.{RoutineFits}
 use Rattle.spl_few_loops.specs.Loops.{FewLoops, FewLoopsInSubroutine, FewLoopsInRoutine}
-use Rattle.spl_module_code.specs.LabelsOfBodies.{Label, labels_among, with_landings}
-use Rattle.spl_module_code.specs.Bodies.{context_of, body_statements, subroutine_part, subroutine_parts, routine_part}
+use Rattle.spl_formed_modules.specs.spl_module_code.LabelsOfBodies.{Label, labels_among, with_landings}
+use Rattle.spl_formed_modules.specs.spl_module_code.Bodies.{context_of, body_statements, subroutine_part, subroutine_parts, routine_part}
 
 takes_landings : {n : ℕ} (xs : List Label) (part : Table Landing → Part) → ((t : Table Landing) → Few n (part t)) → Few n (with_landings xs part)
 takes_landings [] part h = h []

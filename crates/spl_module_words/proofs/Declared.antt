@@ -1,22 +1,22 @@
 -- The words of a unit's bodies in a segment, declaration by declaration: the procedure of a number is the one that is declared there.
 use Rattle.std.proofs.Common.{◌≡◌, ◌≤◌, ℕ, zero, suc, ◌+◌, ◌&&◌, nat_eq, not, Bool, true, false, if◌then◌else◌, List, [], ◌∷◌, drop, length, Option, Some, None, refl, sym, ap, subst, ◌∙◌, arith}
 use Rattle.std.specs.List.{slice_get}
-use Rattle.spl_tree.specs.DeclarationTrees as decl
-use Rattle.spl_tree.specs.DeclarationTrees.{Declaration, Declarations, declarations}
-use Rattle.spl_tree.specs.StatementTrees as stat
-use Rattle.spl_meaning.specs.Stops.{declaration_stops}
-use Rattle.spl_meaning.specs.Names.{Sort, Table, nothing_declared}
-use Rattle.spl_meaning.specs.Places.{list_words, list_array_words}
-use Rattle.spl_meaning.specs.Tables.{Source, Routine, Subroutine, with_declaration, routines_of, routines_among, routine_table, subroutines_among, unit_subroutines}
-use Rattle.spl_meaning.specs.Bodies.{Body, Named, procedure_body, named_bodies, main_body}
-use Rattle.spl_meaning.specs.Bound.{subroutine_weight, subroutines_weight, routine_weight, main_weight}
-use Rattle.spl_code.specs.Parts.{Part, nothing, ◌⨟◌}
-use Rattle.spl_code.proofs.CountLemmas.{count_append, Few, few_then, few_more, few_pieces}
-use Rattle.spl_scopes.specs.Entries.{Entry, module_entries}
-use Rattle.spl_scopes.specs.Scopes.{Placed, global_places, routine_bodies}
-use Rattle.spl_module_code.specs.Bodies.{routine_part}
-use Rattle.spl_module_code.specs.Modules.{routine_at, inner_with, inner_at, entries_behind, declared_part, declared_parts, main_at, module_part}
-use Rattle.spl_places.specs.Programs.{Each}
+use Rattle.spl_formed_modules.specs.spl_tree.DeclarationTrees as decl
+use Rattle.spl_formed_modules.specs.spl_tree.DeclarationTrees.{Declaration, Declarations, declarations}
+use Rattle.spl_formed_modules.specs.spl_tree.StatementTrees as stat
+use Rattle.spl_few_loops.specs.spl_meaning.Stops.{declaration_stops}
+use Rattle.spl_few_loops.specs.spl_meaning.Names.{Sort, Table, nothing_declared}
+use Rattle.spl_few_loops.specs.spl_meaning.Places.{list_words, list_array_words}
+use Rattle.spl_few_loops.specs.spl_meaning.Tables.{Source, Routine, Subroutine, with_declaration, routines_of, routines_among, routine_table, subroutines_among, unit_subroutines}
+use Rattle.spl_few_loops.specs.spl_meaning.Bodies.{Body, Named, procedure_body, named_bodies, main_body}
+use Rattle.spl_few_loops.specs.spl_meaning.Bound.{subroutine_weight, subroutines_weight, routine_weight, main_weight}
+use Rattle.spl_formed_modules.specs.spl_code.Parts.{Part, nothing, ◌⨟◌}
+use Rattle.spl_few_loops.proofs.spl_code_proofs.CountLemmas.{count_append, Few, few_then, few_more, few_pieces}
+use Rattle.spl_formed_modules.specs.spl_scopes.Entries.{Entry, module_entries}
+use Rattle.spl_formed_modules.specs.spl_scopes.Scopes.{Placed, global_places, routine_bodies}
+use Rattle.spl_formed_modules.specs.spl_module_code.Bodies.{routine_part}
+use Rattle.spl_formed_modules.specs.spl_module_code.Modules.{routine_at, inner_with, inner_at, entries_behind, declared_part, declared_parts, main_at, module_part}
+use Rattle.spl_few_loops.specs.spl_places.Programs.{Each}
 use Rattle.spl_fits.specs.Fits.{RoutineFits}
 use Rattle.spl_few_loops.specs.Loops.{FewLoopsInSubroutine, FewLoopsInRoutine, FewLoopsInUnit}
 use Rattle.spl_module_words.proofs.Bodies.{takes_inner, takes_routine, takes_main}

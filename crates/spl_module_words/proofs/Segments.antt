@@ -3,25 +3,25 @@ use Rattle.std.proofs.Common.{◌≡◌, ◌≤◌, ℕ, suc, ◌+◌, ◌&&◌,
 use Rattle.std.specs.Prelude.{unwrap_or}
 use Rattle.std.specs.List.{slice_get}
 use Rattle.std.proofs.lemmas.Bool.{and_parts, and_from, eqb-true, eq-eqb}
-use Rattle.spl_tree.specs.Views.{letters}
-use Rattle.spl_meaning.specs.Names.{find, same_name}
-use Rattle.spl_meaning.specs.Tables.{Source, Routine, routines_of}
-use Rattle.spl_meaning.specs.Places.{sum}
-use Rattle.spl_meaning.specs.Bodies.{Reached, reached_behind, all_routines}
-use Rattle.spl_meaning.specs.Bound.{routine_weight, main_weight, segment_name, among_segment, has_main, unit_weight}
-use Rattle.spl_branch.specs.declared.modules.Module.{Module}
-use Rattle.spl_branch.specs.Pieces.{count_of}
-use Rattle.spl_scopes.specs.Scopes.{Placed, first_reached, placed_units}
-use Rattle.spl_module_code.specs.Modules.{numbered, next_number, is_taken, uses, marks_before, module_written, IsModuleOf, AreOfUnit, AreOf, program_uses}
-use Rattle.spl_module_code.specs.Modules.{AreOfUnit as u}
-use Rattle.spl_module_code.specs.Modules.{AreOf as a}
-use Rattle.spl_places.specs.Programs.{Each}
-use Rattle.spl_places.proofs.SoundLaws.{sound_new}
+use Rattle.spl_formed_modules.specs.spl_tree.Views.{letters}
+use Rattle.spl_few_loops.specs.spl_meaning.Names.{find, same_name}
+use Rattle.spl_few_loops.specs.spl_meaning.Tables.{Source, Routine, routines_of}
+use Rattle.spl_few_loops.specs.spl_meaning.Places.{sum}
+use Rattle.spl_few_loops.specs.spl_meaning.Bodies.{Reached, reached_behind, all_routines}
+use Rattle.spl_few_loops.specs.spl_meaning.Bound.{routine_weight, main_weight, segment_name, among_segment, has_main, unit_weight}
+use Rattle.spl_formed_modules.specs.spl_branch.declared.modules.Module.{Module}
+use Rattle.spl_formed_modules.specs.spl_branch.Pieces.{count_of}
+use Rattle.spl_formed_modules.specs.spl_scopes.Scopes.{Placed, first_reached, placed_units}
+use Rattle.spl_formed_modules.specs.spl_module_code.Modules.{numbered, next_number, is_taken, uses, marks_before, module_written, IsModuleOf, AreOfUnit, AreOf, program_uses}
+use Rattle.spl_formed_modules.specs.spl_module_code.Modules.{AreOfUnit as u}
+use Rattle.spl_formed_modules.specs.spl_module_code.Modules.{AreOf as a}
+use Rattle.spl_few_loops.specs.spl_places.Programs.{Each}
+use Rattle.spl_few_loops.proofs.spl_places_proofs.SoundLaws.{sound_new}
 use Rattle.spl_fits.specs.Fits.{RoutineFits}
 use Rattle.spl_fits.proofs.FitLaws.{programs_fit}
 use Rattle.spl_few_loops.specs.Loops.{FewLoopsInUnit, FewLoopsInRoutine}
 use Rattle.spl_few_loops.proofs.LoopLaws.{few_in_all}
-use Rattle.spl_wanted_names.proofs.Intrinsics.{same_letters}
+use Rattle.spl_formed_modules.proofs.spl_wanted_names_proofs.Intrinsics.{same_letters}
 use Rattle.spl_formed_modules.proofs.Formed.{next_used}
 use Rattle.spl_module_words.specs.Words.{words_in, ModulesHaveFewWords}
 use Rattle.spl_module_words.proofs.Sizes.{size_count}

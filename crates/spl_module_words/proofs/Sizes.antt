@@ -5,23 +5,23 @@
 use Rattle.std.proofs.Common.{◌≡◌, ◌<◌, ◌≤◌, ◌⊎◌, inl, inr, ℕ, zero, suc, ◌+◌, Bool, true, false, if◌then◌else◌, List, [], ◌∷◌, length, refl, sym, ap, subst, ◌∙◌, arith}
 use Rattle.std.specs.Prelude.{◌==◌, slice_index}
 use Rattle.std.proofs.lemmas.Bool.{cases_lt}
-use Rattle.hp_instr.specs.declared.instruction.Instr.{Instr}
-use Rattle.hp_instr.specs.declared.instruction.Instr.TheVariants as i
-use Rattle.hp_instr.specs.declared.instruction.Op.{Op}
-use Rattle.spl_branch.specs.declared.buffer.Code.{Code}
-use Rattle.spl_branch.specs.declared.modules.Module.{Module}
-use Rattle.spl_branch.specs.declared.pieces.Piece.{Piece}
-use Rattle.spl_branch.specs.declared.pieces.Piece.TheVariants.{Do, Literal, Place, Branch, Mark, Call, Begin}
-use Rattle.spl_branch.specs.declared.spots.Spot.{Spot}
-use Rattle.spl_branch.specs.declared.survey.Turn.{Turn}
-use Rattle.spl_branch.specs.declared.survey.Stand.{Stand}
-use Rattle.spl_branch.specs.Pieces.{InStep, most_words, count_of}
-use Rattle.spl_branch.specs.Branches.{more, is_far, branch_size}
-use Rattle.spl_branch.specs.Stands.{Sites, at_left, at_right, ahead, past_instr, after, Stands}
-use Rattle.spl_branch.specs.Rounds.{turns_of, rounds, longer_from, shifts_of, near, targets}
-use Rattle.spl_branch.specs.Modules.{sites, Finished, IsLong, Oversized}
-use Rattle.spl_branch.proofs.RoundLemmas.{near_longer, length-rounds, rounds_more}
-use Rattle.spl_branch.proofs.ChoiceLemmas.{stands_in, last_settled, last_end, round_counts}
+use Rattle.spl_formed_modules.specs.hp_instr.declared.instruction.Instr.{Instr}
+use Rattle.spl_formed_modules.specs.hp_instr.declared.instruction.Instr.TheVariants as i
+use Rattle.spl_formed_modules.specs.hp_instr.declared.instruction.Op.{Op}
+use Rattle.spl_formed_modules.specs.spl_branch.declared.buffer.Code.{Code}
+use Rattle.spl_formed_modules.specs.spl_branch.declared.modules.Module.{Module}
+use Rattle.spl_formed_modules.specs.spl_branch.declared.pieces.Piece.{Piece}
+use Rattle.spl_formed_modules.specs.spl_branch.declared.pieces.Piece.TheVariants.{Do, Literal, Place, Branch, Mark, Call, Begin}
+use Rattle.spl_formed_modules.specs.spl_branch.declared.spots.Spot.{Spot}
+use Rattle.spl_formed_modules.specs.spl_branch.declared.survey.Turn.{Turn}
+use Rattle.spl_formed_modules.specs.spl_branch.declared.survey.Stand.{Stand}
+use Rattle.spl_formed_modules.specs.spl_branch.Pieces.{InStep, most_words, count_of}
+use Rattle.spl_formed_modules.specs.spl_branch.Branches.{more, is_far, branch_size}
+use Rattle.spl_formed_modules.specs.spl_branch.Stands.{Sites, at_left, at_right, ahead, past_instr, after, Stands}
+use Rattle.spl_formed_modules.specs.spl_branch.Rounds.{turns_of, rounds, longer_from, shifts_of, near, targets}
+use Rattle.spl_formed_modules.specs.spl_branch.Modules.{sites, Finished, IsLong, Oversized}
+use Rattle.spl_formed_modules.proofs.spl_branch_proofs.RoundLemmas.{near_longer, length-rounds, rounds_more}
+use Rattle.spl_formed_modules.proofs.spl_branch_proofs.ChoiceLemmas.{stands_in, last_settled, last_end, round_counts}
 use Rattle.spl_formed_modules.proofs.Laid.{no_entries, laid}
 use Rattle.spl_formed_modules.proofs.Offsets.{stands_there}
 

@@ -8,12 +8,12 @@ use Rattle.std.specs.Prelude.{if◌then◌else◌}
 use Rattle.std.specs.List.{slice_get}
 use Rattle.spl_tree.specs.DeclarationTrees as decl
 use Rattle.spl_tree.specs.DeclarationTrees.{Heading, Declaration, Declarations, declarations}
-use Rattle.spl_meaning.specs.Stops.{declaration_stops}
+use Rattle.spl_sound.specs.spl_meaning.Stops.{declaration_stops}
 use Rattle.std.proofs.lemmas.Bool.{eq-eqb, ne_eqb}
-use Rattle.spl_meaning.specs.Names.{Sort, Table, find, nothing_declared}
-use Rattle.spl_meaning.specs.Tables.{Source, Routine, with_declaration, routines_among}
-use Rattle.spl_meaning.specs.Places.{only}
-use Rattle.spl_found.specs.OwnNames.{with_name}
+use Rattle.spl_sound.specs.spl_meaning.Names.{Sort, Table, find, nothing_declared}
+use Rattle.spl_sound.specs.spl_meaning.Tables.{Source, Routine, with_declaration, routines_among}
+use Rattle.spl_sound.specs.spl_meaning.Places.{only}
+use Rattle.spl_places.specs.spl_found.OwnNames.{with_name}
 use Rattle.spl_scopes.specs.Entries.{Owner, main, routine, Callee, procedure, subroutine, Entry, inner_entry, inner_entries, declared_entries, routines_behind, entries_among, in_segment, is_callable, is_inner, indexes}
 use Rattle.spl_places.specs.NameMaps.{behind_table}
 use Rattle.spl_places.proofs.NameMapLemmas.{behind_more, behind_none, behind_nothing}

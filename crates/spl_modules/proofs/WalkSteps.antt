@@ -11,9 +11,9 @@ use Rattle.spl_tree.specs.declared.declarations.Decl.TheVariants.{Procedure, rol
 use Rattle.spl_tree.specs.declared.declarations.Decl.TheFolds.{fold-roll-Decl, fold_out-Body}
 use Rattle.spl_tree.specs.Views.{statement}
 use Rattle.spl_tree.specs.Spells.{BodyTree, declaration_step, body_step, declaration, heading_tree}
-use Rattle.spl_lists.proofs.NameWalks.{onward, onward_end}
+use Rattle.spl_places.proofs.spl_lists_proofs.NameWalks.{onward, onward_end}
 use Rattle.spl_scopes.specs.Entries.{main, inner_entry, inner_entries}
-use Rattle.spl_meaning.specs.Names.{Table, find}
+use Rattle.spl_sound.specs.spl_meaning.Names.{Table, find}
 use Rattle.spl_places.specs.NameMaps.{entries_of, behind_table}
 use Rattle.spl_places.specs.declared.name_maps.NameMap.{NameMap}
 use Rattle.spl_places.proofs.NameMapLemmas.{behind_none, behind_nothing}

@@ -2,7 +2,7 @@
 -- body.
 use Rattle.std.specs.Prelude.{◌≡◌, ℕ, Some}
 use Rattle.std.specs.List.{slice_get}
-use Rattle.spl_meaning.specs.Tables.{Source, Routine, routines_of}
+use Rattle.spl_sound.specs.spl_meaning.Tables.{Source, Routine, routines_of}
 use Rattle.spl_scopes.specs.Entries.{main, routine, module_entries, procedure_index, subroutine_index}
 use Rattle.spl_modules.specs.Made.{made_from}
 use Rattle.spl_modules.specs.Entered.{Walk}

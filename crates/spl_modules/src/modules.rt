@@ -1,7 +1,7 @@
 //! The modules of a unit, by the numbers of their segments.
 ghost use Rattle.std.specs.Prelude.{◌≡◌, ◌<◌, [], OnOk, IfOk, map, length};
 ghost use Rattle.spl_tree.specs.Views.{letters};
-ghost use Rattle.spl_meaning.specs.Names.{find};
+ghost use Rattle.spl_sound.specs.spl_meaning.Names.{find};
 ghost use Rattle.spl_places.specs.NameMaps.{entries_of};
 ghost use Rattle.spl_modules.specs.Made.{made_of};
 ghost use Rattle.spl_modules.specs.Entered.{and_made, and_procedure, entered_of, with_entry};

@@ -3,7 +3,7 @@ ghost use Rattle.std.specs.Prelude.{◌≡◌, ◌++◌, ◌∷◌, [], OnOk, If
 ghost use Rattle.spl_tree.specs.DeclarationTrees as decl;
 ghost use Rattle.spl_tree.specs.Spells as view;
 ghost use Rattle.spl_tree.specs.Spells.{heading_tree};
-ghost use Rattle.spl_meaning.specs.Names.{find};
+ghost use Rattle.spl_sound.specs.spl_meaning.Names.{find};
 ghost use Rattle.spl_sound.specs.Spelled.{source_of};
 ghost use Rattle.spl_places.specs.NameMaps.{entries_of};
 ghost use Rattle.spl_scopes.specs.Entries.{main, inner_entry, inner_entries};

@@ -3,43 +3,44 @@ use Rattle.std.proofs.Common.{◌≡◌, ℕ, ◌+◌, ◌-◌, ◌%◌, ◌≤�
 use Rattle.std.proofs.lemmas.List.{append-nil}
 use Rattle.std.specs.Prelude.{max}
 use Rattle.std.proofs.lemmas.Bool.{false≢true}
-use Rattle.spl_tree.specs.declared.expressions.Kind.{Kind}
-use Rattle.spl_tree.specs.Trees.{Tree}
-use Rattle.spl_tree.specs.StatementTrees as stat
-use Rattle.spl_tree.specs.StatementTrees.{Source}
-use Rattle.spl_meaning.specs.Places.{Place}
-use Rattle.spl_meaning.specs.Pending.{most, source_most}
-use Rattle.spl_meaning.specs.References.{Here, Setting}
-use Rattle.spl_meaning.specs.Statements.{effect_done}
-use Rattle.spl_meaning.specs.Values.{Callee, value, located}
-use Rattle.spl_code.specs.Calls.{Scope}
-use Rattle.spl_code.specs.Code.{as_value, code, reference}
-use Rattle.spl_code.specs.Parts.{pieces, piece, ◌⨟◌}
-use Rattle.spl_code.specs.Constants.{constant, text_offset}
-use Rattle.spl_statement_code.specs.Instructions.{MVBW}
-use Rattle.spl_statement_code.specs.Effects.{leads_to_bytes, kept_first, told, move_of, text_scaled, text_count, class_letters, scan_of, source_moved}
-use Rattle.spl_follow.specs.Simulating.{Surroundings}
-use Rattle.spl_follow.proofs.StandLemmas.{closed_last}
-use Rattle.spl_values.specs.Reached.{IsWhole}
-use Rattle.spl_values.proofs.VariableLemmas.{both}
-use Rattle.spl_values.proofs.WholeLemmas.{whole_then, whole_behind}
-use Rattle.spl_links.specs.Links.{MayCall}
-use Rattle.spl_names.specs.Names.{read_with}
+use Rattle.spl_choices.specs.spl_tree.declared.expressions.Kind.{Kind}
+use Rattle.spl_choices.specs.spl_tree.Trees.{Tree}
+use Rattle.spl_choices.specs.spl_tree.StatementTrees as stat
+use Rattle.spl_choices.specs.spl_tree.StatementTrees.{Source}
+use Rattle.spl_choices.specs.spl_meaning.Places.{Place}
+use Rattle.spl_choices.specs.spl_meaning.Pending.{most, source_most}
+use Rattle.spl_choices.specs.spl_meaning.References.{Here, Setting}
+use Rattle.spl_choices.specs.spl_meaning.Statements.{effect_done}
+use Rattle.spl_choices.specs.spl_meaning.Values.{Who, Callee, value, located}
+use Rattle.spl_choices.specs.spl_code.Calls.{Scope}
+use Rattle.spl_choices.specs.spl_code.Code.{as_value, code, reference}
+use Rattle.spl_choices.specs.spl_code.Parts.{pieces, piece, ◌⨟◌}
+use Rattle.spl_choices.specs.spl_code.Constants.{constant, text_offset}
+use Rattle.spl_choices.specs.spl_statement_code.Instructions.{MVBW}
+use Rattle.spl_choices.specs.spl_statement_code.Effects.{leads_to_bytes, kept_first, told, move_of, text_scaled, text_count, class_letters, scan_of, source_moved}
+use Rattle.spl_choices.specs.spl_follow.Simulating.{Surroundings}
+use Rattle.spl_choices.proofs.spl_follow_proofs.StandLemmas.{closed_last}
+use Rattle.spl_covered.specs.spl_values.Reached.{IsWhole}
+use Rattle.spl_covered.proofs.spl_values_proofs.VariableLemmas.{both}
+use Rattle.spl_covered.proofs.spl_values_proofs.WholeLemmas.{whole_then, whole_behind}
+use Rattle.spl_covered.specs.spl_links.Links.{MayCall}
+use Rattle.spl_covered.specs.spl_names.Names.{read_with}
 use Rattle.spl_covered.specs.Covered.{is_covered}
 use Rattle.spl_covered.proofs.CoverLemmas.{covered_whole}
-use Rattle.spl_moves.specs.Moving.{Answers}
-use Rattle.spl_moves.specs.Laws.{CountedMovesAnswer}
-use Rattle.spl_moves.proofs.AnswerLemmas.{counted_answer}
-use Rattle.spl_scans.specs.Laws.{TextMovesAnswer, ClassMovesAnswer, ScansAnswer}
-use Rattle.spl_scans.proofs.AnswerLemmas.{text_answer, class_answer, scan_answer}
+use Rattle.spl_covered.specs.spl_moves.Moving.{Answers}
+use Rattle.spl_covered.specs.spl_moves.Laws.{CountedMovesAnswer}
+use Rattle.spl_covered.proofs.spl_moves_proofs.AnswerLemmas.{counted_answer}
+use Rattle.spl_covered.specs.spl_scans.Laws.{TextMovesAnswer, ClassMovesAnswer, ScansAnswer}
+use Rattle.spl_covered.proofs.spl_scans_proofs.AnswerLemmas.{text_answer, class_answer, scan_answer}
 use Rattle.spl_moved.specs.Moved.{is_moved, is_moved_source}
 use Rattle.spl_moved.specs.Laws.{AnswersAreWhole, MovesAnswer}
 use Rattle.spl_moved.proofs.ReferenceLemmas.{moved_case, reference_whole, reference_is}
-use Rattle.spl_moved.proofs.EffectLemmas.{bytes_are, moves_close, scans_close, word_gives}
+use Rattle.spl_covered.proofs.spl_byte_tests_proofs.LeadLemmas.{bytes_are}
+use Rattle.spl_moved.proofs.EffectLemmas.{moves_close, scans_close, word_gives}
 
 -- ---- whole code
 
-source_whole : (may : List ℕ → Bool) (c : Scope) (st : Setting) (bytes : Bool) (from : Source) (k : ℕ) → is_moved_source may c st true bytes from k ≡ true
+source_whole : (may : Who → Bool) (c : Scope) (st : Setting) (bytes : Bool) (from : Source) (k : ℕ) → is_moved_source may c st true bytes from k ≡ true
     → IsWhole (source_moved c true bytes from k)
 source_whole may c st bytes (stat.Source.counted from count) k h =
     let two = both (is_moved may c st bytes from (k + 2)) (is_covered may c st count (k + 3)) h in
@@ -71,7 +72,7 @@ answers_whole may c st (stat.Effect.scan from until e) k h =
 
 -- ---- answers
 
-module _ (counted : CountedMovesAnswer) (text_law : TextMovesAnswer) (class_law : ClassMovesAnswer) (may : List ℕ → Bool) (c : Scope)
+module _ (counted : CountedMovesAnswer) (text_law : TextMovesAnswer) (class_law : ClassMovesAnswer) (may : Who → Bool) (c : Scope)
     (results : List ℕ → Option (Kind × Place)) (z : Surroundings) (call : Callee) (d k need : ℕ) (around : MayCall may c z d call) where
   abbrev v : Here
   v = read_with c results z.setting

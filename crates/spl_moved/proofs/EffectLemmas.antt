@@ -1,55 +1,50 @@
 -- MOVE and SCAN along the tree: their code is whole, and performs them.
 use Rattle.std.proofs.Common.{◌≡◌, ℕ, ◌+◌, ◌-◌, ◌%◌, ◌≤◌, Bool, true, false, List, [], ◌∷◌, Option, refl, sym, subst, arith}
 use Rattle.std.proofs.lemmas.List.{append-nil}
-use Rattle.std.specs.Prelude.{nat_lt, max}
-use Rattle.std.specs.List.{list_all}
-use Rattle.std.proofs.lemmas.Bool.{and_parts, ltb-true, false≢true}
-use Rattle.spl_tree.specs.declared.expressions.Kind.{Kind}
-use Rattle.spl_tree.specs.declared.names_and_places.At.{At}
-use Rattle.spl_tree.specs.Trees.{Tree}
-use Rattle.spl_tree.specs.StatementTrees as stat
-use Rattle.spl_tree.specs.StatementTrees.{Source}
-use Rattle.spl_branch.specs.declared.pieces.Piece.TheVariants.{Begin}
-use Rattle.spl_meaning.specs.Places.{Place}
-use Rattle.spl_meaning.specs.Pending.{most, source_most}
-use Rattle.spl_meaning.specs.References.{Here, Setting}
-use Rattle.spl_meaning.specs.States.{stopping}
-use Rattle.spl_meaning.specs.Statements.{value_dropped, effect_done}
-use Rattle.spl_meaning.specs.Values.{Callee, value, located}
-use Rattle.spl_code.specs.Calls.{Scope}
-use Rattle.spl_code.specs.Code.{as_value, code, reference}
-use Rattle.spl_code.specs.Parts.{pieces, piece, ◌⨟◌}
-use Rattle.spl_code.specs.Constants.{constant, text_offset}
-use Rattle.spl_code.specs.Instructions.{DEL}
-use Rattle.spl_statement_code.specs.Instructions.{MVBW}
-use Rattle.spl_statement_code.specs.Effects.{leads_to_bytes, kept_first, told, move_of, text_scaled, text_count, class_letters, scan_of, effect, source_moved}
-use Rattle.spl_statement_code.specs.Landings.{Context}
-use Rattle.spl_follow.specs.Simulating.{Surroundings, Simulates, Performs}
-use Rattle.spl_follow.specs.Standing.{IsClosed}
-use Rattle.spl_follow.proofs.StandLemmas.{closed_last}
-use Rattle.spl_values.specs.Reached.{IsWhole}
-use Rattle.spl_values.proofs.VariableLemmas.{both}
-use Rattle.spl_values.proofs.WholeLemmas.{whole_then, whole_last, whole_behind}
+use Rattle.std.specs.Prelude.{max}
+use Rattle.std.proofs.lemmas.Bool.{false≢true}
+use Rattle.spl_choices.specs.spl_tree.declared.expressions.Kind.{Kind}
+use Rattle.spl_choices.specs.spl_tree.declared.names_and_places.At.{At}
+use Rattle.spl_choices.specs.spl_tree.Trees.{Tree}
+use Rattle.spl_choices.specs.spl_tree.StatementTrees as stat
+use Rattle.spl_choices.specs.spl_tree.StatementTrees.{Source}
+use Rattle.spl_choices.specs.spl_branch.declared.pieces.Piece.TheVariants.{Begin}
+use Rattle.spl_choices.specs.spl_meaning.Places.{Place}
+use Rattle.spl_choices.specs.spl_meaning.Pending.{most, source_most}
+use Rattle.spl_choices.specs.spl_meaning.References.{Here, Setting}
+use Rattle.spl_choices.specs.spl_meaning.States.{stopping}
+use Rattle.spl_choices.specs.spl_meaning.Statements.{value_dropped, effect_done}
+use Rattle.spl_choices.specs.spl_meaning.Values.{Who, Callee, value, located}
+use Rattle.spl_choices.specs.spl_code.Calls.{Scope}
+use Rattle.spl_choices.specs.spl_code.Code.{as_value, code, reference}
+use Rattle.spl_choices.specs.spl_code.Parts.{pieces, piece, ◌⨟◌}
+use Rattle.spl_choices.specs.spl_code.Constants.{constant, text_offset}
+use Rattle.spl_choices.specs.spl_code.Instructions.{DEL}
+use Rattle.spl_choices.specs.spl_statement_code.Instructions.{MVBW}
+use Rattle.spl_choices.specs.spl_statement_code.Effects.{leads_to_bytes, kept_first, told, move_of, text_scaled, text_count, class_letters, scan_of, effect, source_moved}
+use Rattle.spl_choices.specs.spl_statement_code.Landings.{Context}
+use Rattle.spl_choices.specs.spl_follow.Simulating.{Surroundings, Simulates, Performs}
+use Rattle.spl_choices.specs.spl_follow.Standing.{IsClosed}
+use Rattle.spl_choices.proofs.spl_follow_proofs.StandLemmas.{closed_last}
+use Rattle.spl_covered.specs.spl_values.Reached.{IsWhole}
+use Rattle.spl_covered.proofs.spl_values_proofs.VariableLemmas.{both}
+use Rattle.spl_covered.proofs.spl_values_proofs.WholeLemmas.{whole_then, whole_last, whole_behind}
 use Rattle.spl_choices.proofs.PartLemmas.{begun_whole}
-use Rattle.spl_links.specs.Links.{MayCall}
-use Rattle.spl_names.specs.Names.{read_with}
+use Rattle.spl_covered.specs.spl_links.Links.{MayCall}
+use Rattle.spl_covered.specs.spl_names.Names.{read_with}
 use Rattle.spl_covered.specs.Covered.{is_covered}
 use Rattle.spl_covered.proofs.CoverLemmas.{covered_width, covered_gives, covered_whole}
-use Rattle.spl_moves.specs.Laws.{CountedMovesPerform}
-use Rattle.spl_scans.specs.Laws.{AreBytes, TextMovesPerform, ClassMovesPerform, ScansPerform}
-use Rattle.spl_moves.proofs.CountedLemmas.{counted_perform}
-use Rattle.spl_scans.proofs.TextLemmas.{text_perform}
-use Rattle.spl_scans.proofs.ByteLemmas.{class_perform, scan_perform}
+use Rattle.spl_covered.specs.spl_moves.Laws.{CountedMovesPerform}
+use Rattle.spl_covered.specs.spl_scans.Laws.{TextMovesPerform, ClassMovesPerform, ScansPerform}
+use Rattle.spl_covered.proofs.spl_moves_proofs.CountedLemmas.{counted_perform}
+use Rattle.spl_covered.proofs.spl_scans_proofs.TextLemmas.{text_perform}
+use Rattle.spl_covered.proofs.spl_scans_proofs.ByteLemmas.{class_perform, scan_perform}
+use Rattle.spl_covered.proofs.spl_byte_tests_proofs.LeadLemmas.{bytes_are}
 use Rattle.spl_moved.specs.Moved.{is_moved, is_moved_source}
 use Rattle.spl_moved.specs.Laws.{MovesAreWhole, MovesPerform}
 use Rattle.spl_moved.proofs.ReferenceLemmas.{moved_case, reference_whole, reference_is}
 
 -- ---- bytes of a string
-
-pub bytes_are : (text : List ℕ) → list_all (λ b. nat_lt b 256) text ≡ true → AreBytes text
-bytes_are [] e = tt
-bytes_are (b ∷ bs) e =
-    let two = and_parts (nat_lt b 256) (list_all (λ x. nat_lt x 256) bs) e in (ltb-true b 256 two.0, bytes_are bs two.1)
 
 -- ---- whole code
 
@@ -62,7 +57,7 @@ pub scans_close : (until : Bool) → IsClosed (scan_of until ∷ [])
 scans_close true = refl
 scans_close false = refl
 
-source_whole : (may : List ℕ → Bool) (c : Scope) (st : Setting) (bytes : Bool) (from : Source) (k : ℕ) → is_moved_source may c st false bytes from k ≡ true
+source_whole : (may : Who → Bool) (c : Scope) (st : Setting) (bytes : Bool) (from : Source) (k : ℕ) → is_moved_source may c st false bytes from k ≡ true
     → IsWhole (source_moved c false bytes from k)
 source_whole may c st bytes (stat.Source.counted from count) k h =
     let two = both (is_moved may c st bytes from (k + 1)) (is_covered may c st count (k + 2)) h in
@@ -97,14 +92,14 @@ moves_whole may c st (stat.Effect.scan from until e) at k h =
 -- ---- performed
 
 -- a value of one word that is covered
-pub word_gives : (may : List ℕ → Bool) (c : Scope) (results : List ℕ → Option (Kind × Place)) (z : Surroundings) (call : Callee) (d : ℕ) (e : Tree) (k need : ℕ)
+pub word_gives : (may : Who → Bool) (c : Scope) (results : List ℕ → Option (Kind × Place)) (z : Surroundings) (call : Callee) (d : ℕ) (e : Tree) (k need : ℕ)
     → MayCall may c z d call → is_covered may c z.setting e k ≡ true → most c.names e + 8 ≤ need
     → Simulates z d as_value 1 k need (code c e as_value k) (λ s. value (read_with c results z.setting) call e k s)
 word_gives may c results z call d e k need around h enough =
     subst (λ (j : ℕ). Simulates z d as_value j k need (code c e as_value k) (λ s. value (read_with c results z.setting) call e k s))
     (covered_width may c z.setting e k h) (covered_gives may c results z call d e k need around h enough)
 
-module _ (counted : CountedMovesPerform) (text_law : TextMovesPerform) (class_law : ClassMovesPerform) (scan_law : ScansPerform) (may : List ℕ → Bool)
+module _ (counted : CountedMovesPerform) (text_law : TextMovesPerform) (class_law : ClassMovesPerform) (scan_law : ScansPerform) (may : Who → Bool)
     (c : Context) (results : List ℕ → Option (Kind × Place)) (z : Surroundings) (call : Callee) (d number : ℕ) (at : At) (k need : ℕ)
     (around : MayCall may c.scope z d call) where
   abbrev v : Here

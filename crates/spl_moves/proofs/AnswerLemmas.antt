@@ -1,15 +1,15 @@
 -- The answers of moves, by what is moved behind the first address and its copy.
 use Rattle.std.proofs.Common.{◌≡◌, ℕ, ◌+◌, ◌-◌, ◌≤◌, true, List, refl, subst, arith}
-use Rattle.spl_tree.specs.declared.expressions.Kind.{Kind}
-use Rattle.spl_meaning.specs.Elements.{with_one, moved_by}
-use Rattle.spl_meaning.specs.References.{Located}
-use Rattle.spl_meaning.specs.States.{State, Outcome, then_go}
-use Rattle.spl_meaning.specs.Statements.{moved_far}
-use Rattle.spl_code.specs.Code.{as_value}
-use Rattle.spl_code.specs.Parts.{Part, pieces, piece, ◌⨟◌}
+use Rattle.spl_statement_code.specs.spl_tree.declared.expressions.Kind.{Kind}
+use Rattle.spl_statement_code.specs.spl_meaning.Elements.{with_one, moved_by}
+use Rattle.spl_statement_code.specs.spl_meaning.References.{Located}
+use Rattle.spl_statement_code.specs.spl_meaning.States.{State, Outcome, then_go}
+use Rattle.spl_statement_code.specs.spl_meaning.Statements.{moved_far}
+use Rattle.spl_statement_code.specs.spl_code.Code.{as_value}
+use Rattle.spl_statement_code.specs.spl_code.Parts.{Part, pieces, piece, ◌⨟◌}
 use Rattle.spl_statement_code.specs.Effects.{kept_first, told, move_of}
-use Rattle.spl_follow.specs.Simulating.{Surroundings, Simulates}
-use Rattle.spl_values.proofs.WholeLemmas.{whole_then, whole_behind, same_simulates}
+use Rattle.hp_call_yields.specs.spl_follow.Simulating.{Surroundings, Simulates}
+use Rattle.spl_operands.proofs.spl_values_proofs.WholeLemmas.{whole_then, whole_behind, same_simulates}
 use Rattle.spl_moves.specs.Moving.{IsReference, Answers}
 use Rattle.spl_moves.specs.Laws.{CountedMovesAnswer}
 use Rattle.spl_moves.proofs.PartLemmas.{IsSource}

@@ -4,11 +4,11 @@ use Rattle.std.specs.Prelude.{◌==◌, ℤ, pos, negsuc, nat_lt}
 use Rattle.std.proofs.lemmas.Bool.{cond-true, ltb-true, ltb-false}
 use Rattle.std.proofs.lemmas.Bool.Decides.{nat_tests}
 use Rattle.std.proofs.lemmas.Int.{ints}
-use Rattle.hp_word.specs.Words.{signed}
-use Rattle.hp_memory_rows.specs.MoveRows.{onward, nearer}
-use Rattle.spl_tree.specs.declared.expressions.Kind.{Kind}
-use Rattle.spl_meaning.specs.Elements.{neighbour, is_upward, count_size}
-use Rattle.spl_meaning.specs.References.{Located}
+use Rattle.spl_statement_code.specs.hp_word.Words.{signed}
+use Rattle.hp_call_yields.specs.hp_memory_rows.MoveRows.{onward, nearer}
+use Rattle.spl_statement_code.specs.spl_tree.declared.expressions.Kind.{Kind}
+use Rattle.spl_statement_code.specs.spl_meaning.Elements.{neighbour, is_upward, count_size}
+use Rattle.spl_statement_code.specs.spl_meaning.References.{Located}
 
 -- ---- locations
 

@@ -1,27 +1,27 @@
 -- MOVE by a count: both addresses and the count, and then one element after the other.
 use Rattle.std.proofs.Common.{◌≡◌, ℕ, ◌+◌, ◌-◌, ◌≤◌, Bool, false, List, [], ◌∷◌, ◌++◌, length, refl, sym, subst, ◌∙◌, arith}
-use Rattle.hp_word.specs.Words.{signed}
-use Rattle.hp_session.specs.State.{Machine}
-use Rattle.spl_tree.specs.declared.expressions.Kind.{Kind}
-use Rattle.spl_branch.specs.declared.pieces.Piece.TheVariants.{Begin}
-use Rattle.spl_meaning.specs.Elements.{with_one, is_upward, count_size, moved_by}
-use Rattle.spl_meaning.specs.References.{Located}
-use Rattle.spl_meaning.specs.States.{Data, State, Outcome, then_go, stopping}
-use Rattle.spl_meaning.specs.Statements.{value_dropped, moved_far}
-use Rattle.spl_code.specs.Code.{as_value}
-use Rattle.spl_code.specs.Parts.{Part, pieces, piece, ◌⨟◌}
+use Rattle.spl_statement_code.specs.hp_word.Words.{signed}
+use Rattle.hp_call_yields.specs.hp_session.State.{Machine}
+use Rattle.spl_statement_code.specs.spl_tree.declared.expressions.Kind.{Kind}
+use Rattle.spl_statement_code.specs.spl_branch.declared.pieces.Piece.TheVariants.{Begin}
+use Rattle.spl_statement_code.specs.spl_meaning.Elements.{with_one, is_upward, count_size, moved_by}
+use Rattle.spl_statement_code.specs.spl_meaning.References.{Located}
+use Rattle.spl_statement_code.specs.spl_meaning.States.{Data, State, Outcome, then_go, stopping}
+use Rattle.spl_statement_code.specs.spl_meaning.Statements.{value_dropped, moved_far}
+use Rattle.spl_statement_code.specs.spl_code.Code.{as_value}
+use Rattle.spl_statement_code.specs.spl_code.Parts.{Part, pieces, piece, ◌⨟◌}
 use Rattle.spl_statement_code.specs.Effects.{kept_first, told, move_of}
-use Rattle.spl_follow.specs.Spots.{Spot, pos, on}
-use Rattle.spl_follow.specs.Matching.{IsValue}
-use Rattle.spl_follow.specs.Following.{tally, Follows, NoExit}
-use Rattle.spl_follow.specs.Standing.{Stands}
-use Rattle.spl_follow.specs.Simulating.{Surroundings, Simulates}
-use Rattle.spl_follow.proofs.FollowLemmas.{bind_follows}
-use Rattle.spl_follow.proofs.KeepLemmas.{values_join}
-use Rattle.spl_follow.proofs.PartLemmas.{stand_in_order}
-use Rattle.spl_values.specs.Reached.{IsWhole}
-use Rattle.spl_values.proofs.SumLemmas.{front_on}
-use Rattle.spl_values.proofs.WholeLemmas.{whole_then, then_same}
+use Rattle.hp_call_yields.specs.spl_follow.Spots.{Spot, pos, on}
+use Rattle.hp_call_yields.specs.spl_follow.Matching.{IsValue}
+use Rattle.hp_call_yields.specs.spl_follow.Following.{tally, Follows, NoExit}
+use Rattle.hp_call_yields.specs.spl_follow.Standing.{Stands}
+use Rattle.hp_call_yields.specs.spl_follow.Simulating.{Surroundings, Simulates}
+use Rattle.hp_call_yields.proofs.spl_follow_proofs.FollowLemmas.{bind_follows}
+use Rattle.hp_call_yields.proofs.spl_follow_proofs.KeepLemmas.{values_join}
+use Rattle.hp_call_yields.proofs.spl_follow_proofs.PartLemmas.{stand_in_order}
+use Rattle.spl_operands.specs.spl_values.Reached.{IsWhole}
+use Rattle.spl_operands.proofs.spl_values_proofs.SumLemmas.{front_on}
+use Rattle.spl_operands.proofs.spl_values_proofs.WholeLemmas.{whole_then, then_same}
 use Rattle.spl_moves.specs.Moving.{IsReference}
 use Rattle.spl_moves.specs.Laws.{AreUnits, CountedMovesPerform}
 use Rattle.spl_moves.proofs.CountLemmas.{at_address, counts_by}

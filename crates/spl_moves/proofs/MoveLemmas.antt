@@ -2,27 +2,27 @@
 use Rattle.std.proofs.Common.{◌≡◌, ℕ, zero, suc, ◌+◌, ◌-◌, ◌%◌, ◌<◌, ◌≤◌, Bool, true, false}
 use Rattle.std.proofs.Common.{List, [], ◌∷◌, ◌++◌, length, take, refl, sym, ap, subst, ◌∙◌, arith, inl}
 use Rattle.std.specs.Prelude.{◌==◌, Some, Ok, Err, slice_set}
-use Rattle.hp_word.specs.declared.endings.Trap.TheVariants.{Bounds}
-use Rattle.hp_word.specs.declared.endings.Ending.TheVariants.{Running}
-use Rattle.hp_instr.specs.declared.instruction.Instr.TheVariants as i
-use Rattle.hp_session.specs.State.{Machine, Outcome as Row, word, without, passed}
-use Rattle.hp_memory_rows.specs.MoveRows.{onward, nearer, element_done, move_row}
-use Rattle.hp_flat.specs.Step.{at_left}
-use Rattle.hp_yields.specs.Rows.{held, with_held}
-use Rattle.spl_tree.specs.declared.expressions.Kind.{Kind}
-use Rattle.spl_meaning.specs.Kinds.{width, is_byte}
-use Rattle.spl_meaning.specs.Elements.{neighbour, moved, moved_list}
-use Rattle.spl_meaning.specs.References.{Setting, Located, placed_word, word_at, read, store, store_by}
-use Rattle.spl_meaning.specs.States.{Data, State, Outcome, done, leaves, spent, ends, strays, trapped, then_go}
-use Rattle.spl_follow.specs.Spots.{Spot, spot, pos, landed, on, Ground}
-use Rattle.spl_follow.specs.Leading.{Leads}
-use Rattle.spl_follow.specs.Matching.{Shows, IsValue}
-use Rattle.spl_follow.specs.Following.{Rate, Tally, tally, Goes, Follows, NoExit}
-use Rattle.spl_follow.specs.Doing.{moving, doing}
-use Rattle.spl_follow.proofs.FollowLemmas.{then_follows, widen, spend_follows}
-use Rattle.spl_follow.proofs.KeepLemmas.{kept_top, kept_stack, value_word}
-use Rattle.spl_follow.proofs.RowLemmas.{no_print, shown, stray_here, row_trap}
-use Rattle.spl_follow.proofs.WayLemmas.{lead, lead_briefly}
+use Rattle.spl_statement_code.specs.hp_word.declared.endings.Trap.TheVariants.{Bounds}
+use Rattle.spl_statement_code.specs.hp_word.declared.endings.Ending.TheVariants.{Running}
+use Rattle.spl_statement_code.specs.hp_instr.declared.instruction.Instr.TheVariants as i
+use Rattle.hp_call_yields.specs.hp_session.State.{Machine, Outcome as Row, word, without, passed}
+use Rattle.hp_call_yields.specs.hp_memory_rows.MoveRows.{onward, nearer, element_done, move_row}
+use Rattle.hp_call_yields.specs.hp_flat.Step.{at_left}
+use Rattle.hp_call_yields.specs.hp_yields.Rows.{held, with_held}
+use Rattle.spl_statement_code.specs.spl_tree.declared.expressions.Kind.{Kind}
+use Rattle.spl_statement_code.specs.spl_meaning.Kinds.{width, is_byte}
+use Rattle.spl_statement_code.specs.spl_meaning.Elements.{neighbour, moved, moved_list}
+use Rattle.spl_statement_code.specs.spl_meaning.References.{Setting, Located, placed_word, word_at, read, store, store_by}
+use Rattle.spl_statement_code.specs.spl_meaning.States.{Data, State, Outcome, done, leaves, spent, ends, strays, trapped, then_go}
+use Rattle.hp_call_yields.specs.spl_follow.Spots.{Spot, spot, pos, landed, on, Ground}
+use Rattle.hp_call_yields.specs.spl_follow.Leading.{Leads}
+use Rattle.hp_call_yields.specs.spl_follow.Matching.{Shows, IsValue}
+use Rattle.hp_call_yields.specs.spl_follow.Following.{Rate, Tally, tally, Goes, Follows, NoExit}
+use Rattle.hp_call_yields.specs.spl_follow.Doing.{moving, doing}
+use Rattle.hp_call_yields.proofs.spl_follow_proofs.FollowLemmas.{then_follows, widen, spend_follows}
+use Rattle.hp_call_yields.proofs.spl_follow_proofs.KeepLemmas.{kept_top, kept_stack, value_word}
+use Rattle.hp_call_yields.proofs.spl_follow_proofs.RowLemmas.{no_print, shown, stray_here, row_trap}
+use Rattle.hp_call_yields.proofs.spl_follow_proofs.WayLemmas.{lead, lead_briefly}
 use Rattle.spl_operands.specs.Operands.{Seen}
 use Rattle.spl_operands.proofs.SeeLemmas.{see}
 use Rattle.spl_moves.proofs.StepLemmas.{stays, passes, placed_matched, placed_kept, value_left, first_left}

@@ -1,39 +1,39 @@
 -- The parts of a MOVE or a SCAN: references as locations, what is moved behind the target's address, and what is done with the end address.
 use Rattle.std.proofs.Common.{◌≡◌, ℕ, ◌+◌, ◌-◌, ◌%◌, ◌≤◌, Bool, true, false, List, [], ◌∷◌, ◌++◌, Option, Some, refl, sym, subst, ◌∙◌, arith}
-use Rattle.hp_word.specs.declared.arithmetic.Code.{Code}
-use Rattle.hp_instr.specs.declared.instruction.Instr.TheVariants as i
-use Rattle.hp_instr.specs.Instructions.{op}
-use Rattle.hp_session.specs.State.{Machine}
-use Rattle.hp_stack_rows.specs.StackRows.{operated}
-use Rattle.hp_yields.proofs.StackYields as rows
-use Rattle.spl_tree.specs.declared.expressions.Kind.{Kind}
-use Rattle.spl_tree.specs.declared.names_and_places.At.{At}
-use Rattle.spl_branch.specs.declared.pieces.Piece.TheVariants.{Begin}
-use Rattle.spl_meaning.specs.Elements.{distance}
-use Rattle.spl_meaning.specs.Laws.{IsFront}
-use Rattle.spl_meaning.specs.References.{Setting, Located}
-use Rattle.spl_meaning.specs.States.{Data, State, Begun, Outcome, done, leaves, spent, ends, strays, then_go, stopping}
-use Rattle.spl_meaning.specs.Statements.{value_dropped, moved_far}
-use Rattle.spl_meaning.specs.Values.{address_done}
-use Rattle.spl_code.specs.Parts.{Part, Wanted, pieces, piece, ◌⨟◌}
-use Rattle.spl_code.specs.Instructions.{DEL}
+use Rattle.spl_statement_code.specs.hp_word.declared.arithmetic.Code.{Code}
+use Rattle.spl_statement_code.specs.hp_instr.declared.instruction.Instr.TheVariants as i
+use Rattle.spl_statement_code.specs.hp_instr.Instructions.{op}
+use Rattle.hp_call_yields.specs.hp_session.State.{Machine}
+use Rattle.hp_call_yields.specs.hp_stack_rows.StackRows.{operated}
+use Rattle.hp_call_yields.proofs.hp_yields_proofs.StackYields as rows
+use Rattle.spl_statement_code.specs.spl_tree.declared.expressions.Kind.{Kind}
+use Rattle.spl_statement_code.specs.spl_tree.declared.names_and_places.At.{At}
+use Rattle.spl_statement_code.specs.spl_branch.declared.pieces.Piece.TheVariants.{Begin}
+use Rattle.spl_statement_code.specs.spl_meaning.Elements.{distance}
+use Rattle.spl_statement_code.specs.spl_meaning.Laws.{IsFront}
+use Rattle.spl_statement_code.specs.spl_meaning.References.{Setting, Located}
+use Rattle.spl_statement_code.specs.spl_meaning.States.{Data, State, Begun, Outcome, done, leaves, spent, ends, strays, then_go, stopping}
+use Rattle.spl_statement_code.specs.spl_meaning.Statements.{value_dropped, moved_far}
+use Rattle.spl_statement_code.specs.spl_meaning.Values.{address_done}
+use Rattle.spl_statement_code.specs.spl_code.Parts.{Part, Wanted, pieces, piece, ◌⨟◌}
+use Rattle.spl_statement_code.specs.spl_code.Instructions.{DEL}
 use Rattle.spl_statement_code.specs.Effects.{kept_first, told, move_of}
-use Rattle.spl_follow.specs.Spots.{Spot, pos, Point, on, Ground}
-use Rattle.spl_follow.specs.Leading.{Leads}
-use Rattle.spl_follow.specs.Matching.{Coded, IsValue}
-use Rattle.spl_follow.specs.Following.{Rate, Tally, tally, tally_with, Follows, NoExit}
-use Rattle.spl_follow.specs.Doing.{doing}
-use Rattle.spl_follow.specs.Standing.{Sites, Stands}
-use Rattle.spl_follow.specs.Parts.{Ready, Completes, Leaving}
-use Rattle.spl_follow.specs.Simulating.{Surroundings, Performs}
-use Rattle.spl_follow.proofs.FollowLemmas.{bind_follows, no_exit}
-use Rattle.spl_follow.proofs.KeepLemmas.{kept_top, kept_stack}
-use Rattle.spl_follow.proofs.PartLemmas.{stand_in_order, statements_begin_noted}
-use Rattle.spl_follow.proofs.RowLemmas.{row_drops}
-use Rattle.spl_values.specs.Reached.{IsWhole}
-use Rattle.spl_values.proofs.GiveLemmas.{last_leads}
-use Rattle.spl_values.proofs.SumLemmas.{front_on}
-use Rattle.spl_values.proofs.WholeLemmas.{whole_pieces, whole_then, whole_last, last_simulates, then_same}
+use Rattle.hp_call_yields.specs.spl_follow.Spots.{Spot, pos, Point, on, Ground}
+use Rattle.hp_call_yields.specs.spl_follow.Leading.{Leads}
+use Rattle.hp_call_yields.specs.spl_follow.Matching.{Coded, IsValue}
+use Rattle.hp_call_yields.specs.spl_follow.Following.{Rate, Tally, tally, tally_with, Follows, NoExit}
+use Rattle.hp_call_yields.specs.spl_follow.Doing.{doing}
+use Rattle.hp_call_yields.specs.spl_follow.Standing.{Sites, Stands}
+use Rattle.hp_call_yields.specs.spl_follow.Parts.{Ready, Completes, Leaving}
+use Rattle.hp_call_yields.specs.spl_follow.Simulating.{Surroundings, Performs}
+use Rattle.hp_call_yields.proofs.spl_follow_proofs.FollowLemmas.{bind_follows, no_exit}
+use Rattle.hp_call_yields.proofs.spl_follow_proofs.KeepLemmas.{kept_top, kept_stack}
+use Rattle.hp_call_yields.proofs.spl_follow_proofs.PartLemmas.{stand_in_order, statements_begin_noted}
+use Rattle.hp_call_yields.proofs.spl_follow_proofs.RowLemmas.{row_drops}
+use Rattle.spl_operands.specs.spl_values.Reached.{IsWhole}
+use Rattle.spl_operands.proofs.spl_values_proofs.GiveLemmas.{last_leads}
+use Rattle.spl_operands.proofs.spl_values_proofs.SumLemmas.{front_on}
+use Rattle.spl_operands.proofs.spl_values_proofs.WholeLemmas.{whole_pieces, whole_then, whole_last, last_simulates, then_same}
 use Rattle.spl_moves.specs.Moving.{LeadsTo, IsReference}
 use Rattle.spl_moves.proofs.UnitLemmas.{move_code}
 use Rattle.spl_moves.proofs.CountLemmas.{at_address}

@@ -5,18 +5,18 @@ use Rattle.std.proofs.lemmas.Bool.{cond-true, cond-false, eq-eqb, ne_eqb}
 use Rattle.std.proofs.lemmas.List.{length-set, get_or-set_same, get_or-set_other}
 use Rattle.std.proofs.lemmas.Option.{none-some}
 use Rattle.std.proofs.Math.Logic.{⊎_elim}
-use Rattle.hp_session.specs.State.{Machine, wrapped, word}
-use Rattle.hp_yields.specs.Rows.{held, with_held}
-use Rattle.spl_frames.specs.Words.{AreWords}
-use Rattle.spl_meaning.specs.Places.{put}
-use Rattle.spl_meaning.specs.References.{Setting, placed_word}
-use Rattle.spl_meaning.specs.States.{Data, State}
-use Rattle.spl_follow.specs.Spots.{Spot, spot, landed}
-use Rattle.spl_follow.specs.Matching.{Outer, outer, Matches, Matched, Kept, Stand, IsValue}
-use Rattle.spl_follow.specs.Doing.{moving}
-use Rattle.spl_follow.proofs.KeepLemmas.{kept_top, matched_length}
-use Rattle.spl_follow.proofs.StackLemmas.{stand_behind}
-use Rattle.spl_follow.proofs.RowLemmas.{yields_matched, yields_kept, put_cases, put_none}
+use Rattle.hp_call_yields.specs.hp_session.State.{Machine, wrapped, word}
+use Rattle.hp_call_yields.specs.hp_yields.Rows.{held, with_held}
+use Rattle.hp_call_yields.specs.spl_frames.Words.{AreWords}
+use Rattle.spl_statement_code.specs.spl_meaning.Places.{put}
+use Rattle.spl_statement_code.specs.spl_meaning.References.{Setting, placed_word}
+use Rattle.spl_statement_code.specs.spl_meaning.States.{Data, State}
+use Rattle.hp_call_yields.specs.spl_follow.Spots.{Spot, spot, landed}
+use Rattle.hp_call_yields.specs.spl_follow.Matching.{Outer, outer, Matches, Matched, Kept, Stand, IsValue}
+use Rattle.hp_call_yields.specs.spl_follow.Doing.{moving}
+use Rattle.hp_call_yields.proofs.spl_follow_proofs.KeepLemmas.{kept_top, matched_length}
+use Rattle.hp_call_yields.proofs.spl_follow_proofs.StackLemmas.{stand_behind}
+use Rattle.hp_call_yields.proofs.spl_follow_proofs.RowLemmas.{yields_matched, yields_kept, put_cases, put_none}
 use Rattle.spl_operands.specs.Operands.{Seen}
 
 -- ---- where a step goes on

@@ -2,22 +2,22 @@
 use Rattle.std.proofs.Common.{◌≡◌, ℕ, ◌%◌, ◌/◌, ◌<◌, ◌≤◌, Bool, true, false, List, [], ◌∷◌, length, refl, sym, ap, ◌∙◌, arith}
 use Rattle.std.specs.Prelude.{◌==◌, Some, Ok, Err, Result, slice_set}
 use Rattle.std.proofs.lemmas.Bool.{false≢true}
-use Rattle.hp_word.specs.Bytes.{byte_at, with_byte}
-use Rattle.hp_word.specs.declared.endings.Trap.{Trap}
-use Rattle.hp_word.specs.declared.endings.Trap.TheVariants.{Bounds}
-use Rattle.hp_word.proofs.ByteLaws.{byte_at-below, with_byte-below}
-use Rattle.hp_session.specs.State.{Machine, Outcome as Row, then_with, word, without, passed}
-use Rattle.hp_session.specs.declared.places.Place.TheVariants.{Db}
-use Rattle.hp_session.specs.Places.{word_of_byte, byte_read, written, byte_written}
-use Rattle.hp_memory_rows.specs.MoveRows.{source_word, source_byte, element_done, move_row}
+use Rattle.spl_statement_code.specs.hp_word.Bytes.{byte_at, with_byte}
+use Rattle.spl_statement_code.specs.hp_word.declared.endings.Trap.{Trap}
+use Rattle.spl_statement_code.specs.hp_word.declared.endings.Trap.TheVariants.{Bounds}
+use Rattle.spl_statement_code.proofs.hp_word_proofs.ByteLaws.{byte_at-below, with_byte-below}
+use Rattle.hp_call_yields.specs.hp_session.State.{Machine, Outcome as Row, then_with, word, without, passed}
+use Rattle.hp_call_yields.specs.hp_session.declared.places.Place.TheVariants.{Db}
+use Rattle.hp_call_yields.specs.hp_session.Places.{word_of_byte, byte_read, written, byte_written}
+use Rattle.hp_call_yields.specs.hp_memory_rows.MoveRows.{source_word, source_byte, element_done, move_row}
 use Rattle.hp_call_yields.proofs.MoveYields as rows
-use Rattle.hp_yields.specs.Rows.{held, with_held}
-use Rattle.hp_yields.proofs.MemoryYields as memory
-use Rattle.spl_tree.specs.declared.expressions.Kind.{Kind}
-use Rattle.spl_tree.specs.declared.expressions.Kind.TheVariants as kind
-use Rattle.spl_meaning.specs.Kinds.{width, is_byte}
-use Rattle.spl_meaning.specs.References.{word_at, read_by, store_by, placed_word}
-use Rattle.spl_meaning.specs.States.{State, done, then_go}
+use Rattle.hp_call_yields.specs.hp_yields.Rows.{held, with_held}
+use Rattle.hp_call_yields.proofs.hp_yields_proofs.MemoryYields as memory
+use Rattle.spl_statement_code.specs.spl_tree.declared.expressions.Kind.{Kind}
+use Rattle.spl_statement_code.specs.spl_tree.declared.expressions.Kind.TheVariants as kind
+use Rattle.spl_statement_code.specs.spl_meaning.Kinds.{width, is_byte}
+use Rattle.spl_statement_code.specs.spl_meaning.References.{word_at, read_by, store_by, placed_word}
+use Rattle.spl_statement_code.specs.spl_meaning.States.{State, done, then_go}
 use Rattle.spl_operands.specs.Operands.{Seen}
 use Rattle.spl_operands.proofs.LoadLemmas.{seen_read, past_read}
 

@@ -2,36 +2,36 @@
 use Rattle.std.proofs.Common.{◌≡◌, ℕ, ◌+◌, ◌-◌, ◌%◌, ◌<◌, ◌≤◌, true, [], ◌∷◌, ◌++◌, refl, sym, ap, subst, arith}
 use Rattle.std.proofs.lemmas.Bool.Decides.{nat_tests}
 use Rattle.std.proofs.lemmas.Int.{ints}
-use Rattle.hp_word.specs.Words.{logically_subtracted, word_result, word_of}
-use Rattle.hp_instr.specs.declared.instruction.Instr.TheVariants as i
-use Rattle.hp_instr.specs.Instructions.{op}
-use Rattle.hp_session.specs.State.{Machine}
-use Rattle.hp_stack_rows.specs.StackRows.{operated}
-use Rattle.hp_yields.proofs.StackYields as rows
-use Rattle.spl_tree.specs.declared.expressions.Kind.{Kind}
-use Rattle.spl_meaning.specs.Elements.{distance}
-use Rattle.spl_meaning.specs.References.{Setting, Located}
-use Rattle.spl_meaning.specs.States.{Data, State, Outcome, done, then_go}
-use Rattle.spl_meaning.specs.Statements.{moved_far}
-use Rattle.spl_code.specs.Code.{as_value}
-use Rattle.spl_code.specs.Instructions.{DUP, XCH}
-use Rattle.spl_code.specs.Parts.{Part, pieces, ◌⨟◌}
+use Rattle.spl_statement_code.specs.hp_word.Words.{logically_subtracted, word_result, word_of}
+use Rattle.spl_statement_code.specs.hp_instr.declared.instruction.Instr.TheVariants as i
+use Rattle.spl_statement_code.specs.hp_instr.Instructions.{op}
+use Rattle.hp_call_yields.specs.hp_session.State.{Machine}
+use Rattle.hp_call_yields.specs.hp_stack_rows.StackRows.{operated}
+use Rattle.hp_call_yields.proofs.hp_yields_proofs.StackYields as rows
+use Rattle.spl_statement_code.specs.spl_tree.declared.expressions.Kind.{Kind}
+use Rattle.spl_statement_code.specs.spl_meaning.Elements.{distance}
+use Rattle.spl_statement_code.specs.spl_meaning.References.{Setting, Located}
+use Rattle.spl_statement_code.specs.spl_meaning.States.{Data, State, Outcome, done, then_go}
+use Rattle.spl_statement_code.specs.spl_meaning.Statements.{moved_far}
+use Rattle.spl_statement_code.specs.spl_code.Code.{as_value}
+use Rattle.spl_statement_code.specs.spl_code.Instructions.{DUP, XCH}
+use Rattle.spl_statement_code.specs.spl_code.Parts.{Part, pieces, ◌⨟◌}
 use Rattle.spl_statement_code.specs.Effects.{kept_first, told}
 use Rattle.spl_statement_code.specs.Instructions.{LSUB}
-use Rattle.spl_follow.specs.Spots.{Spot, pos, on, Ground}
-use Rattle.spl_follow.specs.Matching.{Matched, IsValue}
-use Rattle.spl_follow.specs.Following.{Rate, tally, tally_with, Follows, NoExit}
-use Rattle.spl_follow.specs.Doing.{doing}
-use Rattle.spl_follow.specs.Yielding.{Yields}
-use Rattle.spl_follow.specs.Standing.{Sites, Stands}
-use Rattle.spl_follow.specs.Simulating.{Surroundings, Simulates}
-use Rattle.spl_follow.proofs.FollowLemmas.{bind_follows, then_follows}
-use Rattle.spl_follow.proofs.KeepLemmas.{kept_same, kept_top, kept_stack, values_join, value_word}
-use Rattle.spl_follow.proofs.PartLemmas.{stand_in_order}
-use Rattle.spl_follow.proofs.RowLemmas.{row_value}
-use Rattle.spl_values.proofs.GiveLemmas.{last_leads}
-use Rattle.spl_values.proofs.SumLemmas.{front_on, yielding, logically_subtracted_small}
-use Rattle.spl_values.proofs.WholeLemmas.{whole_then, whole_behind}
+use Rattle.hp_call_yields.specs.spl_follow.Spots.{Spot, pos, on, Ground}
+use Rattle.hp_call_yields.specs.spl_follow.Matching.{Matched, IsValue}
+use Rattle.hp_call_yields.specs.spl_follow.Following.{Rate, tally, tally_with, Follows, NoExit}
+use Rattle.hp_call_yields.specs.spl_follow.Doing.{doing}
+use Rattle.hp_call_yields.specs.spl_follow.Yielding.{Yields}
+use Rattle.hp_call_yields.specs.spl_follow.Standing.{Sites, Stands}
+use Rattle.hp_call_yields.specs.spl_follow.Simulating.{Surroundings, Simulates}
+use Rattle.hp_call_yields.proofs.spl_follow_proofs.FollowLemmas.{bind_follows, then_follows}
+use Rattle.hp_call_yields.proofs.spl_follow_proofs.KeepLemmas.{kept_same, kept_top, kept_stack, values_join, value_word}
+use Rattle.hp_call_yields.proofs.spl_follow_proofs.PartLemmas.{stand_in_order}
+use Rattle.hp_call_yields.proofs.spl_follow_proofs.RowLemmas.{row_value}
+use Rattle.spl_operands.proofs.spl_values_proofs.GiveLemmas.{last_leads}
+use Rattle.spl_operands.proofs.spl_values_proofs.SumLemmas.{front_on, yielding, logically_subtracted_small}
+use Rattle.spl_operands.proofs.spl_values_proofs.WholeLemmas.{whole_then, whole_behind}
 use Rattle.spl_operators.proofs.RowLemmas.{exchanged}
 use Rattle.spl_moves.specs.Moving.{IsReference}
 use Rattle.spl_moves.proofs.PartLemmas.{EndsAt, IsLocation, reference_follows, IsSource}

@@ -1,18 +1,18 @@
 -- The laws of this crate: MOVE by a count, over the code of its operands.
 use Rattle.std.specs.Prelude.{◌≡◌, ℕ, ◌+◌, ◌≤◌, Bool, true, false, List, Some}
-use Rattle.spl_tree.specs.declared.expressions.Kind.{Kind}
-use Rattle.spl_tree.specs.declared.names_and_places.At.{At}
-use Rattle.spl_branch.specs.declared.pieces.Piece.TheVariants.{Begin}
-use Rattle.spl_meaning.specs.Elements.{with_one, moved_by}
-use Rattle.spl_meaning.specs.Kinds.{width, is_byte}
-use Rattle.spl_meaning.specs.References.{Located}
-use Rattle.spl_meaning.specs.States.{State, Outcome, then_go, stopping}
-use Rattle.spl_meaning.specs.Statements.{value_dropped, moved_far}
-use Rattle.spl_code.specs.Code.{as_value}
-use Rattle.spl_code.specs.Parts.{Part, pieces, piece, ◌⨟◌}
+use Rattle.spl_statement_code.specs.spl_tree.declared.expressions.Kind.{Kind}
+use Rattle.spl_statement_code.specs.spl_tree.declared.names_and_places.At.{At}
+use Rattle.spl_statement_code.specs.spl_branch.declared.pieces.Piece.TheVariants.{Begin}
+use Rattle.spl_statement_code.specs.spl_meaning.Elements.{with_one, moved_by}
+use Rattle.spl_statement_code.specs.spl_meaning.Kinds.{width, is_byte}
+use Rattle.spl_statement_code.specs.spl_meaning.References.{Located}
+use Rattle.spl_statement_code.specs.spl_meaning.States.{State, Outcome, then_go, stopping}
+use Rattle.spl_statement_code.specs.spl_meaning.Statements.{value_dropped, moved_far}
+use Rattle.spl_statement_code.specs.spl_code.Code.{as_value}
+use Rattle.spl_statement_code.specs.spl_code.Parts.{Part, pieces, piece, ◌⨟◌}
 use Rattle.spl_statement_code.specs.Effects.{kept_first, told, move_of}
-use Rattle.spl_follow.specs.Simulating.{Surroundings, Simulates, Performs}
-use Rattle.spl_values.specs.Reached.{IsWhole}
+use Rattle.hp_call_yields.specs.spl_follow.Simulating.{Surroundings, Simulates, Performs}
+use Rattle.spl_operands.specs.spl_values.Reached.{IsWhole}
 use Rattle.spl_moves.specs.Moving.{IsReference, Answers}
 
 -- elements of a kind are bytes, or words: a double is neither

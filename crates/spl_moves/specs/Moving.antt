@@ -1,14 +1,14 @@
 -- What the parts of a MOVE or a SCAN are: the code of references, as addresses, and of what is moved behind the target's address.
 use Rattle.std.specs.Prelude.{◌≡◌, ℕ, ◌<◌, Bool, List}
-use Rattle.spl_tree.specs.declared.expressions.Kind.{Kind}
-use Rattle.spl_meaning.specs.References.{Located}
-use Rattle.spl_meaning.specs.States.{State, Outcome, done, leaves, spent, ends, strays, then_go}
-use Rattle.spl_meaning.specs.Values.{address_done}
-use Rattle.spl_code.specs.Code.{as_value}
-use Rattle.spl_code.specs.Parts.{Part}
-use Rattle.spl_follow.specs.Matching.{footing, Lies}
-use Rattle.spl_follow.specs.Simulating.{Surroundings, Simulates}
-use Rattle.spl_values.specs.Reached.{IsWhole}
+use Rattle.spl_statement_code.specs.spl_tree.declared.expressions.Kind.{Kind}
+use Rattle.spl_statement_code.specs.spl_meaning.References.{Located}
+use Rattle.spl_statement_code.specs.spl_meaning.States.{State, Outcome, done, leaves, spent, ends, strays, then_go}
+use Rattle.spl_statement_code.specs.spl_meaning.Values.{address_done}
+use Rattle.spl_statement_code.specs.spl_code.Code.{as_value}
+use Rattle.spl_statement_code.specs.spl_code.Parts.{Part}
+use Rattle.hp_call_yields.specs.spl_follow.Matching.{footing, Lies}
+use Rattle.hp_call_yields.specs.spl_follow.Simulating.{Surroundings, Simulates}
+use Rattle.spl_operands.specs.spl_values.Reached.{IsWhole}
 
 -- where a reference leads, that is of this kind, in the extra segment or not, and its address is a word
 abbrev pub LeadsTo : Kind → Bool → Outcome Located → Type 0

@@ -2,24 +2,24 @@
 use Rattle.std.proofs.Common.{◌≡◌, ℕ, ◌≤◌, Bool, true, false, List, refl, sym, ap, subst, ◌∙◌}
 use Rattle.std.specs.Prelude.{Option, Some, None, ◌&&◌}
 use Rattle.std.proofs.lemmas.Bool.{false≢true}
-use Rattle.spl_tree.specs.declared.expressions.Kind.{Kind}
-use Rattle.spl_tree.specs.declared.expressions.Kind.TheVariants as kind
-use Rattle.spl_tree.specs.declared.names_and_places.At.{At}
-use Rattle.spl_tree.specs.Trees as tree
-use Rattle.spl_tree.specs.Trees.{Tree}
-use Rattle.spl_meaning.specs.Places.{Place}
-use Rattle.spl_meaning.specs.References.{Here, Setting, Access, its_own, by_address, by_cell, its_result, nowhere, access_of, index_or_zero, own_located, led_located, locate_by}
-use Rattle.spl_meaning.specs.States.{State, Outcome, strays, then_go}
-use Rattle.spl_meaning.specs.Values.{Callee, as_index, address_done, value}
-use Rattle.spl_code.specs.Parts.{Part, pieces, nothing, ◌⨟◌}
-use Rattle.spl_code.specs.Operands.{mode_of, address, leads_to_doubles, index_to_x, at_place}
-use Rattle.spl_code.specs.Calls.{Scope}
-use Rattle.spl_code.specs.Code.{Aim, as_value, closing, code}
-use Rattle.spl_follow.specs.Standing.{IsClosed}
-use Rattle.spl_follow.specs.Simulating.{Surroundings, Simulates}
-use Rattle.spl_values.specs.Reached.{is_reached, IsWhole}
-use Rattle.spl_values.proofs.WholeLemmas.{whole_pieces, whole_first, whole_behind, same_simulates, first_simulates}
-use Rattle.spl_conditions.proofs.ConditionLemmas.{closed_values}
+use Rattle.spl_statement_code.specs.spl_tree.declared.expressions.Kind.{Kind}
+use Rattle.spl_statement_code.specs.spl_tree.declared.expressions.Kind.TheVariants as kind
+use Rattle.spl_statement_code.specs.spl_tree.declared.names_and_places.At.{At}
+use Rattle.spl_statement_code.specs.spl_tree.Trees as tree
+use Rattle.spl_statement_code.specs.spl_tree.Trees.{Tree}
+use Rattle.spl_statement_code.specs.spl_meaning.Places.{Place}
+use Rattle.spl_statement_code.specs.spl_meaning.References.{Here, Setting, Access, its_own, by_address, by_cell, its_result, nowhere, access_of, index_or_zero, own_located, led_located, locate_by}
+use Rattle.spl_statement_code.specs.spl_meaning.States.{State, Outcome, strays, then_go}
+use Rattle.spl_statement_code.specs.spl_meaning.Values.{Callee, as_index, address_done, value}
+use Rattle.spl_statement_code.specs.spl_code.Parts.{Part, pieces, nothing, ◌⨟◌}
+use Rattle.spl_statement_code.specs.spl_code.Operands.{mode_of, address, leads_to_doubles, index_to_x, at_place}
+use Rattle.spl_statement_code.specs.spl_code.Calls.{Scope}
+use Rattle.spl_statement_code.specs.spl_code.Code.{Aim, as_value, closing, code}
+use Rattle.spl_addresses.specs.spl_follow.Standing.{IsClosed}
+use Rattle.spl_addresses.specs.spl_follow.Simulating.{Surroundings, Simulates}
+use Rattle.spl_addresses.specs.spl_values.Reached.{is_seen, IsWhole}
+use Rattle.spl_addresses.proofs.spl_values_proofs.WholeLemmas.{whole_pieces, whole_first, whole_behind, same_simulates, first_simulates}
+use Rattle.spl_tops.proofs.spl_conditions_proofs.ConditionLemmas.{closed_values}
 use Rattle.spl_addresses.proofs.AddressLemmas as of_names
 use Rattle.spl_addresses.proofs.ElementLemmas as of_elements
 use Rattle.spl_word_operators.proofs.OperatorLemmas.{closing_whole}
@@ -124,11 +124,11 @@ pub record IsAddressed (st : Setting) (k : ℕ) (a : Access) (pl : Option Place)
   pub place : Place
   pub access : a ≡ by_cell is_pointer type
   pub is : pl ≡ Some place
-  pub reached : is_reached st k place ≡ true
+  pub seen : is_seen st k place ≡ true
 
 pub addressed_case : (st : Setting) (k : ℕ) (a : Access) (pl : Option Place) → is_addressed_element st k a pl ≡ true → IsAddressed st k a pl
 addressed_case st k (by_cell is_pointer t) (Some place) e =
-    record { is_pointer = is_pointer; type = t; place = place; access = refl; is = refl; reached = e }
+    record { is_pointer = is_pointer; type = t; place = place; access = refl; is = refl; seen = e }
 addressed_case st k (by_cell is_pointer t) None e = absurd (false≢true e)
 addressed_case st k (its_own t) pl e = absurd (false≢true e)
 addressed_case st k (by_address t) pl e = absurd (false≢true e)
@@ -178,7 +178,7 @@ element_simulates c results z call d x i at aim k need r enough whole sim =
     (λ s. ap (λ (a : Access). then_go (then_go (value h call i k s) as_index) (λ j u. then_go (locate_by h x a j u) (λ p v. address_done p v))) r.access
     ∙ ap (λ (o : Option Place). meant o s) r.is)
     (closed_values z d k need aim part (λ s. meant (Some r.place) s) (element_made c i k r.is_pointer r.type r.place whole)
-    (of_elements.elements_give z d k need r.is_pointer (r.is_pointer && z.setting.split) r.type r.place (code c i as_value k) (λ s. value h call i k s) r.reached enough
+    (of_elements.elements_give z d k need r.is_pointer (r.is_pointer && z.setting.split) r.type r.place (code c i as_value k) (λ s. value h call i k s) r.seen enough
     whole sim)) where
       h : Here
       h = read_with c results z.setting

@@ -2,35 +2,36 @@
 use Rattle.std.proofs.Common.{◌≡◌, ℕ, ◌+◌, ◌≤◌, Bool, true, false, List, [], ◌∷◌, refl, sym, ap, subst, ◌∙◌, arith}
 use Rattle.std.specs.Prelude.{Option, Some, None, ◌&&◌, ◌||◌, not}
 use Rattle.std.proofs.lemmas.Bool.{false≢true, not-true}
-use Rattle.spl_tree.specs.declared.expressions.Kind.{Kind}
-use Rattle.spl_tree.specs.declared.expressions.Kind.TheVariants as kind
-use Rattle.spl_tree.specs.declared.names_and_places.At.{At}
-use Rattle.spl_tree.specs.Trees as tree
-use Rattle.spl_tree.specs.Trees.{Tree}
-use Rattle.spl_meaning.specs.Names as n
-use Rattle.spl_meaning.specs.Names.{Sort}
-use Rattle.spl_meaning.specs.Kinds.{Operand, of, named_operand, width}
-use Rattle.spl_meaning.specs.Pending.{result_words}
-use Rattle.spl_meaning.specs.Places.{Place}
-use Rattle.spl_meaning.specs.References.{Here, Setting, Located, Access, by_address, by_cell, access_of, index_or_zero, led_located, locate_by, read}
-use Rattle.spl_meaning.specs.States.{State, Outcome, done, then_go}
-use Rattle.spl_meaning.specs.Values.{Callee, Sense, a_variable, sense_of, as_index, named_value, value, arguments}
-use Rattle.spl_branch.specs.declared.pieces.Piece.{Piece}
-use Rattle.spl_code.specs.Parts.{Part, pieces, nothing, ◌⨟◌}
-use Rattle.spl_code.specs.Operands.{mode_of, load, loaded, index_to_x, at_place}
-use Rattle.spl_code.specs.Stores.{from_top, stored, cell_stored, field_stored, cell_field}
-use Rattle.spl_code.specs.Calls.{Scope}
-use Rattle.spl_code.specs.Code as made
-use Rattle.spl_code.specs.Code.{Aim, as_value, closing, code}
-use Rattle.spl_follow.specs.Standing.{IsClosed}
-use Rattle.spl_follow.specs.Simulating.{Surroundings, Simulates}
-use Rattle.spl_values.specs.Reached.{is_reached, IsWhole}
-use Rattle.spl_values.proofs.VariableLemmas.{both}
-use Rattle.spl_values.proofs.WholeLemmas.{whole_pieces, whole_first, whole_behind, same_simulates, first_simulates}
-use Rattle.spl_operands.proofs.ReadLemmas.{cells_give, elements_give}
-use Rattle.spl_operators.specs.Laws.{is_word_operand, is_single}
-use Rattle.spl_conditions.proofs.ConditionLemmas.{closed_values}
-use Rattle.spl_names.specs.Names.{read_with, is_led, is_led_element}
+use Rattle.spl_statement_code.specs.spl_tree.declared.expressions.Kind.{Kind}
+use Rattle.spl_statement_code.specs.spl_tree.declared.expressions.Kind.TheVariants as kind
+use Rattle.spl_statement_code.specs.spl_tree.declared.names_and_places.At.{At}
+use Rattle.spl_statement_code.specs.spl_tree.Trees as tree
+use Rattle.spl_statement_code.specs.spl_tree.Trees.{Tree}
+use Rattle.spl_statement_code.specs.spl_meaning.Names as n
+use Rattle.spl_statement_code.specs.spl_meaning.Names.{Sort}
+use Rattle.spl_statement_code.specs.spl_meaning.Kinds.{Operand, of, named_operand, width}
+use Rattle.spl_statement_code.specs.spl_meaning.Pending.{result_words}
+use Rattle.spl_statement_code.specs.spl_meaning.Places.{Place}
+use Rattle.spl_statement_code.specs.spl_meaning.References.{Here, Setting, Located, Access, by_cell, access_of, index_or_zero, led_located, locate_by, read}
+use Rattle.spl_statement_code.specs.spl_meaning.States.{State, Outcome, done, then_go}
+use Rattle.spl_statement_code.specs.spl_meaning.Values.{Callee, Sense, a_variable, sense_of, as_index, named_value, value, arguments}
+use Rattle.spl_statement_code.specs.spl_branch.declared.pieces.Piece.{Piece}
+use Rattle.spl_statement_code.specs.spl_code.Parts.{Part, pieces, nothing, ◌⨟◌}
+use Rattle.spl_statement_code.specs.spl_code.Operands.{mode_of, load, loaded, index_to_x, at_place}
+use Rattle.spl_statement_code.specs.spl_code.Stores.{from_top, stored, cell_stored, field_stored, cell_field}
+use Rattle.spl_statement_code.specs.spl_code.Calls.{Scope}
+use Rattle.spl_statement_code.specs.spl_code.Code as made
+use Rattle.spl_statement_code.specs.spl_code.Code.{Aim, as_value, closing, code}
+use Rattle.spl_addresses.specs.spl_follow.Standing.{IsClosed}
+use Rattle.spl_addresses.specs.spl_follow.Simulating.{Surroundings, Simulates}
+use Rattle.spl_addresses.specs.spl_values.Reached.{IsWhole}
+use Rattle.spl_addresses.proofs.spl_values_proofs.VariableLemmas.{both}
+use Rattle.spl_addresses.proofs.spl_values_proofs.WholeLemmas.{whole_pieces, whole_first, whole_behind, same_simulates, first_simulates}
+use Rattle.spl_addresses.proofs.spl_operands_proofs.ReadLemmas.{cells_give, elements_give}
+use Rattle.spl_tops.specs.Seen.{is_seen}
+use Rattle.spl_tops.specs.spl_operators.Laws.{is_word_operand, is_single}
+use Rattle.spl_tops.proofs.spl_conditions_proofs.ConditionLemmas.{closed_values}
+use Rattle.spl_names.specs.Names.{read_with, has_seen, is_led, is_led_element}
 
 -- ---- what names stand for
 
@@ -44,7 +45,7 @@ pub record IsElement (st : Setting) (x : List ℕ) (k : ℕ) (o : Option Sort) (
   pub operand : named_operand o ≡ of type
   pub is : pl ≡ Some place
   pub word : is_single type ≡ true
-  pub reached : is_reached st k place ≡ true
+  pub seen : is_seen st k place ≡ true
   pub side : (is_pointer && st.split) ≡ st.split
 
 -- one whose word leads to a word without an index
@@ -61,7 +62,7 @@ pub record IsLed (st : Setting) (x : List ℕ) (k : ℕ) (o : Option Sort) (pl :
   pub operand : named_operand o ≡ of type
   pub is : pl ≡ Some place
   pub word : is_single type ≡ true
-  pub reached : is_reached st k place ≡ true
+  pub seen : is_seen st k place ≡ true
   pub side : far ≡ st.split
 
 -- the mode in which the elements of an array, or of a pointer, are
@@ -77,8 +78,8 @@ of_cell : (st : Setting) (x : List ℕ) (k : ℕ) (o : Option Sort) (pl : Option
 of_cell st x k o None is_pointer t sense access operand e =
     absurd (false≢true (both (is_pointer || not st.split) false (both (is_single t) ((is_pointer || not st.split) && false) e).1).1)
 of_cell st x k o (Some place) is_pointer t sense access operand e =
-    let two = both (is_single t) ((is_pointer || not st.split) && is_reached st k place) e in
-    let rest = both (is_pointer || not st.split) (is_reached st k place) two.1 in
+    let two = both (is_single t) ((is_pointer || not st.split) && is_seen st k place) e in
+    let rest = both (is_pointer || not st.split) (is_seen st k place) two.1 in
     record {
       is_pointer = is_pointer;
       type = t;
@@ -88,7 +89,7 @@ of_cell st x k o (Some place) is_pointer t sense access operand e =
       operand = operand;
       is = refl;
       word = two.0;
-      reached = rest.1;
+      seen = rest.1;
       side = sides is_pointer st.split rest.0;
     }
 
@@ -124,17 +125,17 @@ first_of st x k o pl r = record {
   operand = r.operand;
   is = r.is;
   word = r.word;
-  reached = r.reached;
+  seen = r.seen;
   side = r.side;
 }
 
--- a parameter by reference
-of_address : (st : Setting) (x : List ℕ) (k : ℕ) (t : Kind) (pl : Option Place) → is_led st k (by_address t) pl ≡ true
+-- a parameter by reference, where it is seen
+of_address : (st : Setting) (x : List ℕ) (k : ℕ) (t : Kind) (pl : Option Place) → (is_single t && (not st.split && has_seen st k pl)) ≡ true
     → IsLed st x k (Some (n.by_reference t)) pl
 of_address st x k t None e = absurd (false≢true (both (not st.split) false (both (is_single t) (not st.split && false) e).1).1)
 of_address st x k t (Some place) e =
-    let two = both (is_single t) (not st.split && is_reached st k place) e in
-    let rest = both (not st.split) (is_reached st k place) two.1 in
+    let two = both (is_single t) (not st.split && is_seen st k place) e in
+    let rest = both (not st.split) (is_seen st k place) two.1 in
     record {
       far = false;
       type = t;
@@ -147,7 +148,7 @@ of_address st x k t (Some place) e =
       operand = refl;
       is = refl;
       word = two.0;
-      reached = rest.1;
+      seen = rest.1;
       side = sym (not-true st.split rest.0);
     }
 
@@ -195,24 +196,24 @@ load_closed kind.Byte k indexed place = refl
 load_closed kind.Double k indexed place = refl
 
 -- through a word one word is given
-one_led : (z : Surroundings) (d k need : ℕ) (far : Bool) (t : Kind) (place : Place) → is_single t ≡ true → is_reached z.setting k place ≡ true
+one_led : (z : Surroundings) (d k need : ℕ) (far : Bool) (t : Kind) (place : Place) → is_single t ≡ true → is_seen z.setting k place ≡ true
     → far ≡ z.setting.split → 1 ≤ need
     → Simulates z d as_value 1 k need (pieces (load t true false (mode_of k place) ∷ []))
     (λ s. then_go (led_located far t (Some place) 0 s) (λ p u. read p u))
-one_led z d k need far t place single reached side enough =
+one_led z d k need far t place single seen side enough =
     let wide = single_width t single in
     subst (λ (j : ℕ). Simulates z d as_value j k need (pieces (load t true false (mode_of k place) ∷ [])) (λ s. then_go (led_located far t (Some place) 0 s) (λ p u. read p u)))
-    wide (cells_give z d k need far t place reached side (omega (arith, wide, enough)))
+    wide (cells_give z d k need far t place seen side (omega (arith, wide, enough)))
 
 one_element : (z : Surroundings) (d k need : ℕ) (far : Bool) (t : Kind) (place : Place) (a : Part) (value : State → Outcome (List ℕ)) → is_single t ≡ true
-    → is_reached z.setting k place ≡ true → far ≡ z.setting.split → 1 ≤ need → IsWhole a → Simulates z d as_value 1 k need a value
+    → is_seen z.setting k place ≡ true → far ≡ z.setting.split → 1 ≤ need → IsWhole a → Simulates z d as_value 1 k need a value
     → Simulates z d as_value 1 k need (a ⨟ pieces (index_to_x false) ⨟ pieces (load t true true (mode_of k place) ∷ []))
     (λ s. then_go (then_go (value s) as_index) (λ i u. then_go (led_located far t (Some place) (index_or_zero i) u) (λ p v. read p v)))
-one_element z d k need far t place a value single reached side enough whole sim =
+one_element z d k need far t place a value single seen side enough whole sim =
     let wide = single_width t single in
     subst (λ (j : ℕ). Simulates z d as_value j k need (a ⨟ pieces (index_to_x false) ⨟ pieces (load t true true (mode_of k place) ∷ []))
     (λ s. then_go (then_go (value s) as_index) (λ i u. then_go (led_located far t (Some place) (index_or_zero i) u) (λ p v. read p v))))
-    wide (elements_give z d k need far t place a value reached side (omega (arith, wide, enough)) whole sim)
+    wide (elements_give z d k need far t place a value seen side (omega (arith, wide, enough)) whole sim)
 
 -- the code of such a name
 pub led_code : (c : Scope) (st : Setting) (x : List ℕ) (at : At) (aim : Aim) (k : ℕ) (r : IsLed st x k (c.names x) (c.places x))
@@ -242,7 +243,7 @@ led_simulates c results z call d x at aim k need r enough =
     (closed_values z d k need aim (nothing ⨟ pieces (load r.type true false (mode_of k r.place) ∷ []))
     (λ s. then_go (led_located r.far r.type (Some r.place) 0 s) (λ p t. read p t)) (led_whole r.type k r.place)
     (first_simulates z d as_value 1 k need (pieces (load r.type true false (mode_of k r.place) ∷ []))
-    (λ s. then_go (led_located r.far r.type (Some r.place) 0 s) (λ p t. read p t)) (one_led z d k need r.far r.type r.place r.word r.reached r.side enough))) where
+    (λ s. then_go (led_located r.far r.type (Some r.place) 0 s) (λ p t. read p t)) (one_led z d k need r.far r.type r.place r.word r.seen r.side enough))) where
       h : Here
       h = read_with c results z.setting
 
@@ -290,7 +291,7 @@ element_simulates c results z call d x e at aim k need r enough whole sim =
     ∙ ap (λ (a : Access). then_go (then_go (value h call e k s) as_index) (λ i u. then_go (locate_by h x a i u) (λ p v. read p v))) r.access
     ∙ ap (λ (o : Option Place). meant o s) r.is)
     (closed_values z d k need aim part (λ s. meant (Some r.place) s) (element_made (code c e as_value k) r.type k r.place whole)
-    (one_element z d k need (r.is_pointer && z.setting.split) r.type r.place (code c e as_value k) (λ s. value h call e k s) r.word r.reached r.side enough whole sim)) where
+    (one_element z d k need (r.is_pointer && z.setting.split) r.type r.place (code c e as_value k) (λ s. value h call e k s) r.word r.seen r.side enough whole sim)) where
       h : Here
       h = read_with c results z.setting
 

@@ -3,36 +3,37 @@ use Rattle.std.proofs.Common.{◌≡◌, ◌⊎◌, inl, inr, ℕ, ℤ, ◌+◌,
 use Rattle.std.specs.Prelude.{is_some, Option, Some, None, nat_lt, if◌then◌else◌}
 use Rattle.std.proofs.lemmas.Bool.{false≢true}
 use Rattle.std.proofs.Math.Logic.{⊎_elim}
-use Rattle.hp_word.specs.Words.{word_of}
-use Rattle.hp_word.proofs.WordLaws.{word_of-below}
-use Rattle.spl_tree.specs.declared.expressions.Kind.{Kind}
-use Rattle.spl_tree.specs.declared.expressions.Kind.TheVariants as kind
-use Rattle.spl_tree.specs.declared.names_and_places.At.{At}
-use Rattle.spl_tree.specs.Trees as tree
-use Rattle.spl_meaning.specs.Names as n
-use Rattle.spl_meaning.specs.Names.{Sort}
-use Rattle.spl_meaning.specs.Kinds.{named_operand}
-use Rattle.spl_meaning.specs.Pending.{result_words}
-use Rattle.spl_meaning.specs.Places.{Place}
-use Rattle.spl_meaning.specs.References.{Here, Setting, Access, its_own, access_of, own_located, locate_by, read}
-use Rattle.spl_meaning.specs.States.{State, Outcome, done, then_go}
-use Rattle.spl_meaning.specs.Values.{Callee, Sense, a_constant, a_variable, sense_of, text_done, named_value, value, arguments}
-use Rattle.spl_code.specs.Parts.{Part, pieces, nothing, ◌⨟◌}
-use Rattle.spl_code.specs.Constants.{constant, text_constant}
-use Rattle.spl_code.specs.Operands.{mode_of, load, loaded, at_place}
-use Rattle.spl_code.specs.Calls.{Scope}
-use Rattle.spl_code.specs.Code as made
-use Rattle.spl_code.specs.Code.{Aim, as_value, closing, code}
-use Rattle.spl_code.specs.Instructions.{LDI, LDNI, LSL, ORI}
-use Rattle.spl_follow.specs.Standing.{IsClosed, due_after}
-use Rattle.spl_follow.specs.Simulating.{Surroundings, Simulates}
-use Rattle.spl_values.specs.Reached.{is_reached, IsWhole}
-use Rattle.spl_values.proofs.ConstantLemmas.{constants_give}
-use Rattle.spl_values.proofs.VariableLemmas.{both}
-use Rattle.spl_values.proofs.WholeLemmas.{whole_pieces, whole_first, same_simulates, first_simulates}
-use Rattle.spl_operators.specs.Laws.{is_word_operand, is_single}
-use Rattle.spl_variables.proofs.OwnLemmas.{own_words_give}
-use Rattle.spl_conditions.proofs.ConditionLemmas.{closed_values}
+use Rattle.spl_statement_code.specs.hp_word.Words.{word_of}
+use Rattle.spl_statement_code.proofs.hp_word_proofs.WordLaws.{word_of-below}
+use Rattle.spl_statement_code.specs.spl_tree.declared.expressions.Kind.{Kind}
+use Rattle.spl_statement_code.specs.spl_tree.declared.expressions.Kind.TheVariants as kind
+use Rattle.spl_statement_code.specs.spl_tree.declared.names_and_places.At.{At}
+use Rattle.spl_statement_code.specs.spl_tree.Trees as tree
+use Rattle.spl_statement_code.specs.spl_meaning.Names as n
+use Rattle.spl_statement_code.specs.spl_meaning.Names.{Sort}
+use Rattle.spl_statement_code.specs.spl_meaning.Kinds.{named_operand}
+use Rattle.spl_statement_code.specs.spl_meaning.Pending.{result_words}
+use Rattle.spl_statement_code.specs.spl_meaning.Places.{Place}
+use Rattle.spl_statement_code.specs.spl_meaning.References.{Here, Setting, Access, its_own, access_of, own_located, locate_by, read}
+use Rattle.spl_statement_code.specs.spl_meaning.States.{State, Outcome, done, then_go}
+use Rattle.spl_statement_code.specs.spl_meaning.Values.{Callee, Sense, a_constant, a_variable, sense_of, text_done, named_value, value, arguments}
+use Rattle.spl_statement_code.specs.spl_code.Parts.{Part, pieces, nothing, ◌⨟◌}
+use Rattle.spl_statement_code.specs.spl_code.Constants.{constant, text_constant}
+use Rattle.spl_statement_code.specs.spl_code.Operands.{mode_of, load, loaded, at_place}
+use Rattle.spl_statement_code.specs.spl_code.Calls.{Scope}
+use Rattle.spl_statement_code.specs.spl_code.Code as made
+use Rattle.spl_statement_code.specs.spl_code.Code.{Aim, as_value, closing, code}
+use Rattle.spl_statement_code.specs.spl_code.Instructions.{LDI, LDNI, LSL, ORI}
+use Rattle.spl_addresses.specs.spl_follow.Standing.{IsClosed, due_after}
+use Rattle.spl_addresses.specs.spl_follow.Simulating.{Surroundings, Simulates}
+use Rattle.spl_addresses.specs.spl_values.Reached.{IsWhole}
+use Rattle.spl_addresses.proofs.spl_values_proofs.ConstantLemmas.{constants_give}
+use Rattle.spl_addresses.proofs.spl_values_proofs.VariableLemmas.{both}
+use Rattle.spl_addresses.proofs.spl_values_proofs.WholeLemmas.{whole_pieces, whole_first, same_simulates, first_simulates}
+use Rattle.spl_tops.specs.spl_operators.Laws.{is_word_operand, is_single}
+use Rattle.spl_tops.specs.Seen.{is_seen}
+use Rattle.spl_addresses.proofs.spl_variables_proofs.OwnLemmas.{own_words_give}
+use Rattle.spl_tops.proofs.spl_conditions_proofs.ConditionLemmas.{closed_values}
 use Rattle.spl_word_operators.proofs.OperatorLemmas.{closing_whole}
 use Rattle.spl_names.specs.Names.{read_with, is_covered_name}
 use Rattle.spl_names.proofs.LedLemmas.{IsLed, led_case, single_word, single_width, led_code, led_whole, led_simulates}
@@ -69,7 +70,7 @@ text_simulates z d aim k need None e enough = absurd (false≢true e)
 
 -- ---- names
 
--- what a covered name is: a constant that has a value, a variable of one word where it is reached, or one whose word leads to a word
+-- what a covered name is: a constant that has a value, a variable of one word where it is seen, or one whose word leads to a word
 pub record IsVariable (st : Setting) (x : List ℕ) (k : ℕ) (o : Option Sort) (pl : Option Place) : Type 0 where
   pub type : Kind
   pub place : Place
@@ -78,7 +79,7 @@ pub record IsVariable (st : Setting) (x : List ℕ) (k : ℕ) (o : Option Sort) 
   pub operand : is_word_operand (named_operand o) ≡ true
   pub is : pl ≡ Some place
   pub word : is_single type ≡ true
-  pub reached : is_reached st k place ≡ true
+  pub seen : is_seen st k place ≡ true
 
 pub record IsConstant (x : List ℕ) (o : Option Sort) : Type 0 where
   pub number : ℤ
@@ -90,11 +91,11 @@ pub name_cases : (st : Setting) (x : List ℕ) (k : ℕ) (o : Option Sort) (pl :
     → IsConstant x o ⊎ (IsVariable st x k o pl ⊎ IsLed st x k o pl)
 name_cases st x k (Some (n.equate (Some v))) pl e = inl (record { number = v; sense = refl; operand = refl })
 name_cases st x k (Some (n.simple t own)) (Some place) e =
-    let two = both (is_single t) (is_reached st k place) e in
-    inr (inl (record { type = t; place = place; sense = refl; access = refl; operand = single_word t two.0; is = refl; word = two.0; reached = two.1 }))
+    let two = both (is_single t) (is_seen st k place) e in
+    inr (inl (record { type = t; place = place; sense = refl; access = refl; operand = single_word t two.0; is = refl; word = two.0; seen = two.1 }))
 name_cases st x k (Some (n.value t)) (Some place) e =
-    let two = both (is_single t) (is_reached st k place) e in
-    inr (inl (record { type = t; place = place; sense = refl; access = refl; operand = single_word t two.0; is = refl; word = two.0; reached = two.1 }))
+    let two = both (is_single t) (is_seen st k place) e in
+    inr (inl (record { type = t; place = place; sense = refl; access = refl; operand = single_word t two.0; is = refl; word = two.0; seen = two.1 }))
 name_cases st x k (Some (n.simple t own)) None e = absurd (false≢true (both (is_single t) false e).1)
 name_cases st x k (Some (n.value t)) None e = absurd (false≢true (both (is_single t) false e).1)
 name_cases st x k None pl e = absurd (false≢true e)
@@ -139,12 +140,12 @@ variable_whole t k place word =
     whole_first (pieces (loaded (its_own t) false (mode_of k place))) (whole_pieces (loaded (its_own t) false (mode_of k place)) (loaded_closed t k place word))
 
 -- a variable's one word is given
-one_variable : (z : Surroundings) (d k need : ℕ) (t : Kind) (place : Place) → is_single t ≡ true → is_reached z.setting k place ≡ true → 1 ≤ need
+one_variable : (z : Surroundings) (d k need : ℕ) (t : Kind) (place : Place) → is_single t ≡ true → is_seen z.setting k place ≡ true → 1 ≤ need
     → Simulates z d as_value 1 k need (pieces (loaded (its_own t) false (mode_of k place))) (λ s. then_go (own_located t (Some place) None s) (λ p u. read p u))
-one_variable z d k need t place single reached enough =
+one_variable z d k need t place single seen enough =
     let wide = single_width t single in
     subst (λ (j : ℕ). Simulates z d as_value j k need (pieces (loaded (its_own t) false (mode_of k place))) (λ s. then_go (own_located t (Some place) None s) (λ p u. read p u)))
-    wide (own_words_give z d k need t place reached (omega (arith, wide, enough)))
+    wide (own_words_give z d k need t place seen (omega (arith, wide, enough)))
 
 -- a covered name's code is whole, whatever is wanted of it
 pub name_whole : (c : Scope) (st : Setting) (x : List ℕ) (at : At) (aim : Aim) (k : ℕ) → is_covered_name st k (c.names x) (c.places x) ≡ true
@@ -178,7 +179,7 @@ name_simulates c results z call d x at aim k need e enough =
     (closed_values z d k need aim (nothing ⨟ pieces (loaded (its_own r.type) false (mode_of k r.place)))
     (λ s. then_go (own_located r.type (Some r.place) None s) (λ p t. read p t)) (variable_whole r.type k r.place r.word)
     (first_simulates z d as_value 1 k need (pieces (loaded (its_own r.type) false (mode_of k r.place))) (λ s. then_go (own_located r.type (Some r.place) None s) (λ p t. read p t))
-    (one_variable z d k need r.type r.place r.word r.reached enough))))
+    (one_variable z d k need r.type r.place r.word r.seen enough))))
     (λ r. led_simulates c results z call d x at aim k need r enough) other)
     (name_cases z.setting x k (c.names x) (c.places x) e) where
       h : Here

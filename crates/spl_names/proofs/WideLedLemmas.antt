@@ -2,33 +2,33 @@
 use Rattle.std.proofs.Common.{◌≡◌, ℕ, ◌+◌, ◌≤◌, Bool, true, false, List, [], ◌∷◌, refl, sym, ap, subst, ◌∙◌}
 use Rattle.std.specs.Prelude.{Option, Some, None, ◌&&◌, ◌||◌, not}
 use Rattle.std.proofs.lemmas.Bool.{false≢true, not-true}
-use Rattle.spl_tree.specs.declared.expressions.Kind.{Kind}
-use Rattle.spl_tree.specs.declared.expressions.Kind.TheVariants as kind
-use Rattle.spl_tree.specs.declared.names_and_places.At.{At}
-use Rattle.spl_tree.specs.Trees as tree
-use Rattle.spl_tree.specs.Trees.{Tree}
-use Rattle.spl_meaning.specs.Names as n
-use Rattle.spl_meaning.specs.Names.{Sort}
-use Rattle.spl_meaning.specs.Kinds.{of, named_operand}
-use Rattle.spl_meaning.specs.Pending.{result_words}
-use Rattle.spl_meaning.specs.Places.{Place}
-use Rattle.spl_meaning.specs.References.{Here, Setting, Located, Access, its_own, by_address, by_cell, its_result, nowhere, access_of, target_access, index_or_zero, led_located, locate_by, read}
-use Rattle.spl_meaning.specs.States.{State, Outcome, done, then_go}
-use Rattle.spl_meaning.specs.Statements.{is_intrinsic}
-use Rattle.spl_meaning.specs.Values.{Callee, Sense, a_variable, sense_of, as_index, named_value, value, arguments}
-use Rattle.spl_branch.specs.declared.pieces.Piece.{Piece}
-use Rattle.spl_code.specs.Parts.{Part, pieces, nothing, ◌⨟◌}
-use Rattle.spl_code.specs.Operands.{mode_of, load, loaded, index_to_x, at_place}
-use Rattle.spl_code.specs.Stores.{from_top, stored, cell_stored}
-use Rattle.spl_code.specs.Calls.{Scope}
-use Rattle.spl_code.specs.Code as made
-use Rattle.spl_code.specs.Code.{as_value, code}
+use Rattle.spl_statement_code.specs.spl_tree.declared.expressions.Kind.{Kind}
+use Rattle.spl_statement_code.specs.spl_tree.declared.expressions.Kind.TheVariants as kind
+use Rattle.spl_statement_code.specs.spl_tree.declared.names_and_places.At.{At}
+use Rattle.spl_statement_code.specs.spl_tree.Trees as tree
+use Rattle.spl_statement_code.specs.spl_tree.Trees.{Tree}
+use Rattle.spl_statement_code.specs.spl_meaning.Names as n
+use Rattle.spl_statement_code.specs.spl_meaning.Names.{Sort}
+use Rattle.spl_statement_code.specs.spl_meaning.Kinds.{of, named_operand}
+use Rattle.spl_statement_code.specs.spl_meaning.Pending.{result_words}
+use Rattle.spl_statement_code.specs.spl_meaning.Places.{Place}
+use Rattle.spl_statement_code.specs.spl_meaning.References.{Here, Setting, Located, Access, its_own, by_address, by_cell, its_result, nowhere, access_of, target_access, index_or_zero, led_located, locate_by, read}
+use Rattle.spl_statement_code.specs.spl_meaning.States.{State, Outcome, done, then_go}
+use Rattle.spl_statement_code.specs.spl_meaning.Statements.{is_intrinsic}
+use Rattle.spl_statement_code.specs.spl_meaning.Values.{Callee, Sense, a_variable, sense_of, as_index, named_value, value, arguments}
+use Rattle.spl_statement_code.specs.spl_branch.declared.pieces.Piece.{Piece}
+use Rattle.spl_statement_code.specs.spl_code.Parts.{Part, pieces, nothing, ◌⨟◌}
+use Rattle.spl_statement_code.specs.spl_code.Operands.{mode_of, load, loaded, index_to_x, at_place}
+use Rattle.spl_statement_code.specs.spl_code.Stores.{from_top, stored, cell_stored}
+use Rattle.spl_statement_code.specs.spl_code.Calls.{Scope}
+use Rattle.spl_statement_code.specs.spl_code.Code as made
+use Rattle.spl_statement_code.specs.spl_code.Code.{as_value, code}
 use Rattle.spl_statement_code.specs.Assignments.{assigned_access}
-use Rattle.spl_follow.specs.Simulating.{Surroundings, Simulates}
-use Rattle.spl_values.specs.Reached.{is_reached, IsWhole}
-use Rattle.spl_values.proofs.VariableLemmas.{both}
-use Rattle.spl_values.proofs.WholeLemmas.{whole_pieces, whole_first, whole_last, whole_behind, same_simulates, first_simulates, last_simulates}
-use Rattle.spl_operands.proofs.ReadLemmas.{cells_give, elements_give}
+use Rattle.spl_addresses.specs.spl_follow.Simulating.{Surroundings, Simulates}
+use Rattle.spl_addresses.specs.spl_values.Reached.{is_seen, IsWhole}
+use Rattle.spl_addresses.proofs.spl_values_proofs.VariableLemmas.{both}
+use Rattle.spl_addresses.proofs.spl_values_proofs.WholeLemmas.{whole_pieces, whole_first, whole_last, whole_behind, same_simulates, first_simulates, last_simulates}
+use Rattle.spl_addresses.proofs.spl_operands_proofs.ReadLemmas.{cells_give, elements_give}
 use Rattle.spl_names.specs.Names.{read_with, is_wide_element, is_wide_led}
 
 -- ---- what words lead to
@@ -42,7 +42,7 @@ pub record IsLed (st : Setting) (k : ℕ) (a : Access) (pl : Option Place) : Typ
   pub leads : (c : Scope) (results : List ℕ → Option (Kind × Place)) (x : List ℕ) (s : State)
       → locate_by (read_with c results st) x a None s ≡ led_located far kind.Double (c.places x) 0 s
   pub is : pl ≡ Some place
-  pub reached : is_reached st k place ≡ true
+  pub seen : is_seen st k place ≡ true
   pub side : far ≡ st.split
 
 -- to elements
@@ -51,7 +51,7 @@ pub record IsElement (st : Setting) (k : ℕ) (a : Access) (pl : Option Place) :
   pub place : Place
   pub access : a ≡ by_cell is_pointer kind.Double
   pub is : pl ≡ Some place
-  pub reached : is_reached st k place ≡ true
+  pub seen : is_seen st k place ≡ true
   pub side : (is_pointer && st.split) ≡ st.split
 
 -- the mode in which the elements of an array, or of a pointer, are
@@ -63,8 +63,8 @@ sides false true e = absurd (false≢true e)
 -- by how the name leads
 pub element_case : (st : Setting) (k : ℕ) (a : Access) (pl : Option Place) → is_wide_element st k a pl ≡ true → IsElement st k a pl
 element_case st k (by_cell is_pointer kind.Double) (Some place) e =
-    let two = both (is_pointer || not st.split) (is_reached st k place) e in
-    record { is_pointer = is_pointer; place = place; access = refl; is = refl; reached = two.1; side = sides is_pointer st.split two.0 }
+    let two = both (is_pointer || not st.split) (is_seen st k place) e in
+    record { is_pointer = is_pointer; place = place; access = refl; is = refl; seen = two.1; side = sides is_pointer st.split two.0 }
 element_case st k (by_cell is_pointer kind.Double) None e = absurd (false≢true (both (is_pointer || not st.split) false e).1)
 element_case st k (by_cell is_pointer kind.Integer) pl e = absurd (false≢true e)
 element_case st k (by_cell is_pointer kind.Logical) pl e = absurd (false≢true e)
@@ -83,14 +83,14 @@ first_of st k a pl r = record {
   stores = ap (λ (b : Access). stored b false k r.place) r.access;
   leads = λ c results x s. ap (λ (b : Access). locate_by (read_with c results st) x b None s) r.access;
   is = r.is;
-  reached = r.reached;
+  seen = r.seen;
   side = r.side;
 }
 
 pub led_case : (st : Setting) (k : ℕ) (a : Access) (pl : Option Place) → is_wide_led st k a pl ≡ true → IsLed st k a pl
 led_case st k (by_cell is_pointer t) pl e = first_of st k (by_cell is_pointer t) pl (element_case st k (by_cell is_pointer t) pl e)
 led_case st k (by_address kind.Double) (Some place) e =
-    let two = both (not st.split) (is_reached st k place) e in
+    let two = both (not st.split) (is_seen st k place) e in
     record {
       far = false;
       place = place;
@@ -98,7 +98,7 @@ led_case st k (by_address kind.Double) (Some place) e =
       stores = refl;
       leads = λ c results x s. refl;
       is = refl;
-      reached = two.1;
+      seen = two.1;
       side = sym (not-true st.split two.0);
     }
 led_case st k (by_address kind.Double) None e = absurd (false≢true (both (not st.split) false e).1)
@@ -210,7 +210,7 @@ led_simulates c results z call d x at k need e enough =
           (λ s. then_go (led_located r.far kind.Double (Some r.place) 0 s) (λ p t. read p t))
           (first_simulates z d as_value 2 k need (pieces (load kind.Double true false (mode_of k r.place) ∷ []))
           (λ s. then_go (led_located r.far kind.Double (Some r.place) 0 s) (λ p t. read p t))
-          (cells_give z d k need r.far kind.Double r.place r.reached r.side enough)))
+          (cells_give z d k need r.far kind.Double r.place r.seen r.side enough)))
 
 -- ---- elements
 
@@ -270,4 +270,4 @@ element_simulates c results z call d x i at k need e enough whole sim =
           ∙ ap (λ (a : Access). then_go (then_go (value h call i k s) as_index) (λ j u. then_go (locate_by h x a j u) (λ p v. read p v))) r.access
           ∙ ap (λ (o : Option Place). meant r.is_pointer o s) r.is)
           (last_simulates z d as_value 2 k need part (λ s. meant r.is_pointer (Some r.place) s)
-          (elements_give z d k need (r.is_pointer && z.setting.split) kind.Double r.place (code c i as_value k) (λ s. value h call i k s) r.reached r.side enough whole sim))
+          (elements_give z d k need (r.is_pointer && z.setting.split) kind.Double r.place (code c i as_value k) (λ s. value h call i k s) r.seen r.side enough whole sim))

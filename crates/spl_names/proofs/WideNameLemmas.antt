@@ -2,28 +2,29 @@
 use Rattle.std.proofs.Common.{◌≡◌, ℕ, ◌+◌, ◌≤◌, true, false, List, refl, sym, ap, subst, ◌∙◌}
 use Rattle.std.specs.Prelude.{Option, Some, None}
 use Rattle.std.proofs.lemmas.Bool.{false≢true}
-use Rattle.spl_tree.specs.declared.expressions.Kind.{Kind}
-use Rattle.spl_tree.specs.declared.expressions.Kind.TheVariants as kind
-use Rattle.spl_tree.specs.declared.names_and_places.At.{At}
-use Rattle.spl_tree.specs.Trees as tree
-use Rattle.spl_meaning.specs.Kinds.{of, named_operand}
-use Rattle.spl_meaning.specs.Names as n
-use Rattle.spl_meaning.specs.Names.{Sort}
-use Rattle.spl_meaning.specs.Pending.{result_words}
-use Rattle.spl_meaning.specs.Places.{Place}
-use Rattle.spl_meaning.specs.References.{Here, Setting, Access, its_own, access_of, target_access, own_located, locate_by, read}
-use Rattle.spl_meaning.specs.States.{State, Outcome, done, then_go}
-use Rattle.spl_meaning.specs.Values.{Callee, Sense, a_variable, sense_of, named_value, value, arguments}
-use Rattle.spl_code.specs.Calls.{Scope}
-use Rattle.spl_code.specs.Code as made
-use Rattle.spl_code.specs.Code.{as_value, code}
-use Rattle.spl_code.specs.Operands.{mode_of, loaded, at_place}
-use Rattle.spl_code.specs.Parts.{Part, pieces, nothing, ◌⨟◌}
+use Rattle.spl_statement_code.specs.spl_tree.declared.expressions.Kind.{Kind}
+use Rattle.spl_statement_code.specs.spl_tree.declared.expressions.Kind.TheVariants as kind
+use Rattle.spl_statement_code.specs.spl_tree.declared.names_and_places.At.{At}
+use Rattle.spl_statement_code.specs.spl_tree.Trees as tree
+use Rattle.spl_statement_code.specs.spl_meaning.Kinds.{of, named_operand}
+use Rattle.spl_statement_code.specs.spl_meaning.Names as n
+use Rattle.spl_statement_code.specs.spl_meaning.Names.{Sort}
+use Rattle.spl_statement_code.specs.spl_meaning.Pending.{result_words}
+use Rattle.spl_statement_code.specs.spl_meaning.Places.{Place}
+use Rattle.spl_statement_code.specs.spl_meaning.References.{Here, Setting, Access, its_own, access_of, target_access, own_located, locate_by, read}
+use Rattle.spl_statement_code.specs.spl_meaning.States.{State, Outcome, done, then_go}
+use Rattle.spl_statement_code.specs.spl_meaning.Values.{Callee, Sense, a_variable, sense_of, named_value, value, arguments}
+use Rattle.spl_statement_code.specs.spl_code.Calls.{Scope}
+use Rattle.spl_statement_code.specs.spl_code.Code as made
+use Rattle.spl_statement_code.specs.spl_code.Code.{as_value, code}
+use Rattle.spl_statement_code.specs.spl_code.Operands.{mode_of, loaded, at_place}
+use Rattle.spl_statement_code.specs.spl_code.Parts.{Part, pieces, nothing, ◌⨟◌}
 use Rattle.spl_statement_code.specs.Assignments.{assigned_access}
-use Rattle.spl_follow.specs.Simulating.{Surroundings, Simulates}
-use Rattle.spl_values.specs.Reached.{is_reached, IsWhole}
-use Rattle.spl_values.proofs.WholeLemmas.{whole_pieces, whole_first, whole_last, same_simulates, first_simulates, last_simulates}
-use Rattle.spl_variables.proofs.OwnLemmas.{own_words_give}
+use Rattle.spl_addresses.specs.spl_follow.Simulating.{Surroundings, Simulates}
+use Rattle.spl_addresses.specs.spl_values.Reached.{IsWhole}
+use Rattle.spl_addresses.proofs.spl_values_proofs.WholeLemmas.{whole_pieces, whole_first, whole_last, same_simulates, first_simulates, last_simulates}
+use Rattle.spl_tops.specs.Seen.{is_seen}
+use Rattle.spl_addresses.proofs.spl_variables_proofs.OwnLemmas.{own_words_give}
 use Rattle.spl_names.specs.Names.{read_with, is_wide_name}
 
 -- what such a name is
@@ -35,14 +36,14 @@ pub record IsWide (st : Setting) (x : List ℕ) (k : ℕ) (o : Option Sort) (pl 
   pub made : assigned_access o ≡ its_own kind.Double
   pub operand : named_operand o ≡ of kind.Double
   pub is : pl ≡ Some place
-  pub reached : is_reached st k place ≡ true
+  pub seen : is_seen st k place ≡ true
 
 -- by what it stands for
 pub wide_case : (st : Setting) (x : List ℕ) (k : ℕ) (o : Option Sort) (pl : Option Place) → is_wide_name st k o pl ≡ true → IsWide st x k o pl
 wide_case st x k (Some (n.simple kind.Double own)) (Some place) e =
-    record { place = place; sense = refl; access = refl; target = refl; made = refl; operand = refl; is = refl; reached = e }
+    record { place = place; sense = refl; access = refl; target = refl; made = refl; operand = refl; is = refl; seen = e }
 wide_case st x k (Some (n.value kind.Double)) (Some place) e =
-    record { place = place; sense = refl; access = refl; target = refl; made = refl; operand = refl; is = refl; reached = e }
+    record { place = place; sense = refl; access = refl; target = refl; made = refl; operand = refl; is = refl; seen = e }
 wide_case st x k (Some (n.simple kind.Double own)) None e = absurd (false≢true e)
 wide_case st x k (Some (n.value kind.Double)) None e = absurd (false≢true e)
 wide_case st x k (Some (n.simple kind.Integer own)) pl e = absurd (false≢true e)
@@ -91,7 +92,7 @@ name_simulates c results z call d x at k need r enough =
     ∙ ap (λ (o : Option Place). then_go (own_located kind.Double o None s) (λ p t. read p t)) r.is)
     (last_simulates z d as_value 2 k need (nothing ⨟ pieces (loaded (its_own kind.Double) false (mode_of k r.place))) (λ s. then_go (own_located kind.Double (Some r.place) None s) (λ p t. read p t))
     (first_simulates z d as_value 2 k need (pieces (loaded (its_own kind.Double) false (mode_of k r.place))) (λ s. then_go (own_located kind.Double (Some r.place) None s) (λ p t. read p t))
-    (own_words_give z d k need kind.Double r.place r.reached enough))) where
+    (own_words_give z d k need kind.Double r.place r.seen enough))) where
       h : Here
       h = read_with c results z.setting
 

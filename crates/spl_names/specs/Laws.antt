@@ -1,15 +1,15 @@
 -- The laws of this crate: names without an index, as values and as addresses.
 use Rattle.std.specs.Prelude.{◌≡◌, ℕ, ◌≤◌, true, List, Option}
-use Rattle.spl_tree.specs.declared.expressions.Kind.{Kind}
-use Rattle.spl_tree.specs.declared.names_and_places.At.{At}
-use Rattle.spl_tree.specs.Trees as tree
-use Rattle.spl_meaning.specs.Places.{Place}
-use Rattle.spl_meaning.specs.References.{Setting, access_of}
-use Rattle.spl_meaning.specs.Values.{Callee, value}
-use Rattle.spl_code.specs.Calls.{Scope}
-use Rattle.spl_code.specs.Code.{Aim, as_value, code}
-use Rattle.spl_follow.specs.Simulating.{Surroundings, Simulates}
-use Rattle.spl_values.specs.Reached.{IsWhole}
+use Rattle.spl_statement_code.specs.spl_tree.declared.expressions.Kind.{Kind}
+use Rattle.spl_statement_code.specs.spl_tree.declared.names_and_places.At.{At}
+use Rattle.spl_statement_code.specs.spl_tree.Trees as tree
+use Rattle.spl_statement_code.specs.spl_meaning.Places.{Place}
+use Rattle.spl_statement_code.specs.spl_meaning.References.{Setting, access_of}
+use Rattle.spl_statement_code.specs.spl_meaning.Values.{Callee, value}
+use Rattle.spl_statement_code.specs.spl_code.Calls.{Scope}
+use Rattle.spl_statement_code.specs.spl_code.Code.{Aim, as_value, code}
+use Rattle.spl_addresses.specs.spl_follow.Simulating.{Surroundings, Simulates}
+use Rattle.spl_addresses.specs.spl_values.Reached.{IsWhole}
 use Rattle.spl_names.specs.Names.{read_with, is_covered_name, is_addressed, is_wide_name, is_wide_led}
 
 -- the code of a name that is covered is whole, whatever is wanted of it

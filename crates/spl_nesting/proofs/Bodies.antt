@@ -1,20 +1,20 @@
 -- A claim of the statements of all bodies is one of a unit: where it goes along the steps to a body, and to the greater of two.
 use Rattle.std.proofs.Common.{◌≡◌, ℕ, max, Bool, true, false, List, [], ◌∷◌, ap}
 use Rattle.std.specs.Prelude.{◌||◌, not}
-use Rattle.spl_tree.specs.Symbols.{Lexeme}
-use Rattle.spl_tree.specs.Trees.{Tree}
-use Rattle.spl_tree.specs.StatementTrees as stat
-use Rattle.spl_tree.specs.StatementTrees.{Statements, statements}
-use Rattle.spl_tree.specs.Statements as st
-use Rattle.spl_tree.specs.DeclarationTrees as decl
-use Rattle.spl_tree.specs.DeclarationTrees.{declarations}
-use Rattle.spl_tree.specs.Declarations as dl
-use Rattle.spl_tree.specs.Declarations.{can_be_body, is_subroutine}
-use Rattle.spl_tree.specs.Units as un
-use Rattle.spl_tree.specs.Units.{Unit_of}
-use Rattle.spl_tree.specs.Parts as part
-use Rattle.spl_tree.specs.Parts.{Part}
-use Rattle.spl_tree.specs.OpenDeclarations.{DeclarationStep, is_begin, begins_block}
+use Rattle.spl_sound.specs.spl_tree.Symbols.{Lexeme}
+use Rattle.spl_sound.specs.spl_tree.Trees.{Tree}
+use Rattle.spl_sound.specs.spl_tree.StatementTrees as stat
+use Rattle.spl_sound.specs.spl_tree.StatementTrees.{Statements, statements}
+use Rattle.spl_sound.specs.spl_tree.Statements as st
+use Rattle.spl_sound.specs.spl_tree.DeclarationTrees as decl
+use Rattle.spl_sound.specs.spl_tree.DeclarationTrees.{declarations}
+use Rattle.spl_sound.specs.spl_tree.Declarations as dl
+use Rattle.spl_sound.specs.spl_tree.Declarations.{can_be_body, is_subroutine}
+use Rattle.spl_sound.specs.spl_tree.Units as un
+use Rattle.spl_sound.specs.spl_tree.Units.{Unit_of}
+use Rattle.spl_sound.specs.spl_tree.Parts as part
+use Rattle.spl_sound.specs.spl_tree.Parts.{Part}
+use Rattle.spl_sound.specs.spl_tree.OpenDeclarations.{DeclarationStep, is_begin, begins_block}
 use Rattle.spl_nesting.specs.Nesting.{most_in, most_in_all, most_in_unit}
 
 -- a claim of a part that begins some tokens, with a number

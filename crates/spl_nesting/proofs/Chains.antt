@@ -2,17 +2,17 @@
 use Rattle.std.proofs.Common.{◌≡◌, ◌≤◌, ℕ, ◌+◌, suc, max, Bool, true, false, List, refl, arith}
 use Rattle.std.specs.Prelude.{nat_lt}
 use Rattle.std.proofs.lemmas.Bool.{ltb-true, ltb-false}
-use Rattle.spl_tree.specs.Symbols.{Lexeme}
-use Rattle.spl_tree.specs.StatementTrees as stat
-use Rattle.spl_tree.specs.StatementTrees.{statements}
-use Rattle.spl_tree.specs.Statements as st
-use Rattle.spl_tree.specs.DeclarationTrees as decl
-use Rattle.spl_tree.specs.DeclarationTrees.{declarations}
-use Rattle.spl_tree.specs.Units.{Unit_of}
-use Rattle.spl_tree.specs.Parts as part
-use Rattle.spl_tree.specs.Parts.{Part}
-use Rattle.spl_tree.specs.OpenExpressions.{Step, Opens, here, inner, of_statement, of_declaration}
-use Rattle.spl_tree.specs.OpenStatements.{StatementStep}
+use Rattle.spl_sound.specs.spl_tree.Symbols.{Lexeme}
+use Rattle.spl_sound.specs.spl_tree.StatementTrees as stat
+use Rattle.spl_sound.specs.spl_tree.StatementTrees.{statements}
+use Rattle.spl_sound.specs.spl_tree.Statements as st
+use Rattle.spl_sound.specs.spl_tree.DeclarationTrees as decl
+use Rattle.spl_sound.specs.spl_tree.DeclarationTrees.{declarations}
+use Rattle.spl_sound.specs.spl_tree.Units.{Unit_of}
+use Rattle.spl_sound.specs.spl_tree.Parts as part
+use Rattle.spl_sound.specs.spl_tree.Parts.{Part}
+use Rattle.spl_sound.specs.spl_tree.OpenExpressions.{Step, Opens, here, inner, of_statement, of_declaration}
+use Rattle.spl_sound.specs.spl_tree.OpenStatements.{StatementStep}
 use Rattle.spl_nesting.specs.Nesting.{nested, nested_among, most_in_unit}
 use Rattle.spl_nesting.proofs.Bodies.{Goes, unit_goes}
 

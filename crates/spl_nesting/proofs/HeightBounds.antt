@@ -1,14 +1,14 @@
 -- Each part that may wait has at most 63 words.
 use Rattle.std.proofs.Common.{◌≡◌, ◌≤◌, ℕ, ◌+◌, ◌*◌, Bool, true, false, List, [], ◌∷◌, refl, arith}
 use Rattle.std.specs.Prelude.{if◌then◌else◌}
-use Rattle.spl_tree.specs.declared.expressions.Kind.TheVariants as kind
-use Rattle.spl_tree.specs.Trees as tree
-use Rattle.spl_tree.specs.Trees.{Tree, Trees}
-use Rattle.spl_tree.specs.StatementTrees as stat
-use Rattle.spl_tree.specs.StatementTrees.{Statement, Statements, Target, Source, Effect, Test}
-use Rattle.spl_meaning.specs.Names.{Names, Formal}
-use Rattle.spl_meaning.specs.Kinds.{Operand, of, const, unknown, operand_width, callable, kind_of, is_connective, compares_text}
-use Rattle.spl_meaning.specs.Pending.{most, most_of, formals_words, first_formal, other_formals, argument_words, profile_formals, profile_result_words, left_words, behind_index, waiting, index_most, target_most, behind_first, behind_second, source_most, effect_most, test_most, trees_most, statement_most, statements_most}
+use Rattle.spl_sound.specs.spl_tree.declared.expressions.Kind.TheVariants as kind
+use Rattle.spl_sound.specs.spl_tree.Trees as tree
+use Rattle.spl_sound.specs.spl_tree.Trees.{Tree, Trees}
+use Rattle.spl_sound.specs.spl_tree.StatementTrees as stat
+use Rattle.spl_sound.specs.spl_tree.StatementTrees.{Statement, Statements, Target, Source, Effect, Test}
+use Rattle.spl_sound.specs.spl_meaning.Names.{Names, Formal}
+use Rattle.spl_sound.specs.spl_meaning.Kinds.{Operand, of, const, unknown, operand_width, callable, kind_of, is_connective, compares_text}
+use Rattle.spl_sound.specs.spl_meaning.Pending.{most, most_of, formals_words, first_formal, other_formals, argument_words, profile_formals, profile_result_words, left_words, behind_index, waiting, index_most, target_most, behind_first, behind_second, source_most, effect_most, test_most, trees_most, statement_most, statements_most}
 use Rattle.spl_nesting.specs.Heights.{height, height_among, height_index, height_target, height_source, height_effect, height_test, statement_height, statements_height}
 use Rattle.spl_nesting.specs.HeightLaws.{HaveFewWords, PartsHaveFewWords, DepthsFit}
 

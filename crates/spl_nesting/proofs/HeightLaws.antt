@@ -2,7 +2,7 @@
 use Rattle.std.proofs.Common.{◌+◌, arith}
 use Rattle.std.proofs.Math.Logic.{∥∥₁_elim}
 use Rattle.std.proofs.Math.Bridge.{le_prop}
-use Rattle.spl_grammar.specs.Verdicts.{spelled}
+use Rattle.spl_sound.specs.spl_grammar.Verdicts.{spelled}
 use Rattle.spl_sound.specs.Spelled.{Spelled}
 use Rattle.spl_nesting.specs.HeightLaws.{FewPartsWait, FewPartsWaitInUnits}
 use Rattle.spl_nesting.proofs.HighChains.{unit_high}

@@ -3,24 +3,24 @@
 use Rattle.std.proofs.Common.{◌≡◌, ◌≤◌, ℕ, ◌+◌, ◌*◌, ◌-◌, ◌/◌, ◌==◌, suc, zero, max, Bool, true, false, List, [], ◌∷◌, Option, refl, ap, ◌∙◌, arith}
 use Rattle.std.specs.Prelude.{nat_lt}
 use Rattle.std.proofs.lemmas.Bool.{ltb-true, ltb-false, eqb-true}
-use Rattle.spl_tree.specs.declared.names_and_places.At.{At}
-use Rattle.spl_tree.specs.declared.symbols.Symbol.TheVariants as s
-use Rattle.spl_tree.specs.declared.symbols.Reserved.TheVariants as w
-use Rattle.spl_tree.specs.Symbols.{Lexeme, Is}
-use Rattle.spl_tree.specs.Operators.{Form, bytes_of}
-use Rattle.spl_tree.specs.Trees as tree
-use Rattle.spl_tree.specs.Trees.{Tree, trees}
-use Rattle.spl_tree.specs.StatementTrees as stat
-use Rattle.spl_tree.specs.StatementTrees.{statements}
-use Rattle.spl_tree.specs.Expressions as g
-use Rattle.spl_tree.specs.Statements as st
-use Rattle.spl_tree.specs.DeclarationTrees as decl
-use Rattle.spl_tree.specs.Units.{Unit_of}
-use Rattle.spl_tree.specs.Parts as part
-use Rattle.spl_tree.specs.Parts.{Part}
-use Rattle.spl_tree.specs.OpenExpressions as op
-use Rattle.spl_tree.specs.OpenExpressions.{Step, Opens, here, inner, of_statement, of_declaration}
-use Rattle.spl_tree.specs.OpenStatements.{StatementStep, expr, cond}
+use Rattle.spl_sound.specs.spl_tree.declared.names_and_places.At.{At}
+use Rattle.spl_sound.specs.spl_tree.declared.symbols.Symbol.TheVariants as s
+use Rattle.spl_sound.specs.spl_tree.declared.symbols.Reserved.TheVariants as w
+use Rattle.spl_sound.specs.spl_tree.Symbols.{Lexeme, Is}
+use Rattle.spl_sound.specs.spl_tree.Operators.{Form, bytes_of}
+use Rattle.spl_sound.specs.spl_tree.Trees as tree
+use Rattle.spl_sound.specs.spl_tree.Trees.{Tree, trees}
+use Rattle.spl_sound.specs.spl_tree.StatementTrees as stat
+use Rattle.spl_sound.specs.spl_tree.StatementTrees.{statements}
+use Rattle.spl_sound.specs.spl_tree.Expressions as g
+use Rattle.spl_sound.specs.spl_tree.Statements as st
+use Rattle.spl_sound.specs.spl_tree.DeclarationTrees as decl
+use Rattle.spl_sound.specs.spl_tree.Units.{Unit_of}
+use Rattle.spl_sound.specs.spl_tree.Parts as part
+use Rattle.spl_sound.specs.spl_tree.Parts.{Part}
+use Rattle.spl_sound.specs.spl_tree.OpenExpressions as op
+use Rattle.spl_sound.specs.spl_tree.OpenExpressions.{Step, Opens, here, inner, of_statement, of_declaration}
+use Rattle.spl_sound.specs.spl_tree.OpenStatements.{StatementStep, expr, cond}
 use Rattle.spl_nesting.specs.Nesting.{most_in_unit}
 use Rattle.spl_nesting.specs.Heights.{height, height_among, height_index, height_target, height_source, height_effect, height_test, statement_height, statements_height}
 use Rattle.spl_nesting.proofs.Bodies.{Goes, unit_goes}

@@ -1,10 +1,10 @@
 -- Known values: FORs in one another, and operands that wait.
 use Rattle.std.proofs.Common.{◌≡◌, [], ◌∷◌, refl}
-use Rattle.spl_tree.specs.declared.names_and_places.At.{At}
-use Rattle.spl_tree.specs.Trees as tree
-use Rattle.spl_tree.specs.Trees.{Tree}
-use Rattle.spl_tree.specs.StatementTrees as stat
-use Rattle.spl_tree.specs.StatementTrees.{Statement, statements}
+use Rattle.spl_sound.specs.spl_tree.declared.names_and_places.At.{At}
+use Rattle.spl_sound.specs.spl_tree.Trees as tree
+use Rattle.spl_sound.specs.spl_tree.Trees.{Tree}
+use Rattle.spl_sound.specs.spl_tree.StatementTrees as stat
+use Rattle.spl_sound.specs.spl_tree.StatementTrees.{Statement, statements}
 use Rattle.spl_nesting.specs.Nesting.{nested, fors}
 use Rattle.spl_nesting.specs.Heights.{height, statement_height}
 

@@ -1,14 +1,14 @@
 -- In a unit that tokens spell, the depth of each body fits a word, where no call has more than 63 words.
 use Rattle.std.specs.Prelude.{slice_get, Some, ℕ, ◌+◌, ◌*◌, ◌≡◌, ◌≤◌, ◌<◌, List, []}
-use Rattle.spl_tree.specs.Symbols.{Lexeme}
-use Rattle.spl_tree.specs.StatementTrees.{Statements}
-use Rattle.spl_tree.specs.DeclarationTrees.{UnitTree}
-use Rattle.spl_reading.specs.Readers.{Got}
-use Rattle.spl_grammar.specs.Verdicts.{Verdict}
-use Rattle.spl_meaning.specs.Names.{Names}
-use Rattle.spl_meaning.specs.Kinds.{callable}
-use Rattle.spl_meaning.specs.Tables.{Source}
-use Rattle.spl_meaning.specs.Pending.{formals_words, profile_formals, profile_result_words, link_words, statements_most, depth}
+use Rattle.spl_sound.specs.spl_tree.Symbols.{Lexeme}
+use Rattle.spl_sound.specs.spl_tree.StatementTrees.{Statements}
+use Rattle.spl_sound.specs.spl_tree.DeclarationTrees.{UnitTree}
+use Rattle.spl_sound.specs.spl_reading.Readers.{Got}
+use Rattle.spl_sound.specs.spl_grammar.Verdicts.{Verdict}
+use Rattle.spl_sound.specs.spl_meaning.Names.{Names}
+use Rattle.spl_sound.specs.spl_meaning.Kinds.{callable}
+use Rattle.spl_sound.specs.spl_meaning.Tables.{Source}
+use Rattle.spl_sound.specs.spl_meaning.Pending.{formals_words, profile_formals, profile_result_words, link_words, statements_most, depth}
 use Rattle.spl_sound.specs.Spelled.{AreSpelled}
 use Rattle.spl_nesting.specs.Nesting.{most_in_unit}
 use Rattle.spl_nesting.specs.Heights.{statements_height}

@@ -1,10 +1,10 @@
 -- How many parts may wait at one point of an expression or a statement, each with the words of a call at most: left operands, arguments,
 -- values and addresses that stand before others.
 use Rattle.std.specs.Prelude.{ℕ, suc, max}
-use Rattle.spl_tree.specs.Trees as tree
-use Rattle.spl_tree.specs.Trees.{Tree, Trees}
-use Rattle.spl_tree.specs.StatementTrees as stat
-use Rattle.spl_tree.specs.StatementTrees.{Statement, Statements, Target, Source, Effect, Test}
+use Rattle.spl_sound.specs.spl_tree.Trees as tree
+use Rattle.spl_sound.specs.spl_tree.Trees.{Tree, Trees}
+use Rattle.spl_sound.specs.spl_tree.StatementTrees as stat
+use Rattle.spl_sound.specs.spl_tree.StatementTrees.{Statement, Statements, Target, Source, Effect, Test}
 
 abbrev mutual
   -- in an expression

@@ -1,9 +1,9 @@
 -- How many constructs stand around a statement in a unit, and how many of them are FORs.
 use Rattle.std.specs.Prelude.{ℕ, suc, max, [], ◌∷◌}
-use Rattle.spl_tree.specs.StatementTrees as stat
-use Rattle.spl_tree.specs.StatementTrees.{Statement, Statements, statements}
-use Rattle.spl_tree.specs.DeclarationTrees as decl
-use Rattle.spl_tree.specs.DeclarationTrees.{Declaration, Declarations, UnitTree, declarations}
+use Rattle.spl_sound.specs.spl_tree.StatementTrees as stat
+use Rattle.spl_sound.specs.spl_tree.StatementTrees.{Statement, Statements, statements}
+use Rattle.spl_sound.specs.spl_tree.DeclarationTrees as decl
+use Rattle.spl_sound.specs.spl_tree.DeclarationTrees.{Declaration, Declarations, UnitTree, declarations}
 
 abbrev mutual
   -- the most constructs that stand around one statement inside a statement

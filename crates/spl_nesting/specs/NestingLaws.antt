@@ -1,11 +1,11 @@
 -- In a unit that tokens spell, at most 64 constructs stand around a statement, and so at most 64 FORs.
 use Rattle.std.specs.Prelude.{ℕ, slice_get, Some, ◌≡◌, ◌≤◌, List, []}
-use Rattle.spl_tree.specs.Symbols.{Lexeme}
-use Rattle.spl_tree.specs.DeclarationTrees.{UnitTree}
-use Rattle.spl_tree.specs.OpenExpressions.{limit}
-use Rattle.spl_reading.specs.Readers.{Got}
-use Rattle.spl_grammar.specs.Verdicts.{Verdict}
-use Rattle.spl_meaning.specs.Tables.{Source}
+use Rattle.spl_sound.specs.spl_tree.Symbols.{Lexeme}
+use Rattle.spl_sound.specs.spl_tree.DeclarationTrees.{UnitTree}
+use Rattle.spl_sound.specs.spl_tree.OpenExpressions.{limit}
+use Rattle.spl_sound.specs.spl_reading.Readers.{Got}
+use Rattle.spl_sound.specs.spl_grammar.Verdicts.{Verdict}
+use Rattle.spl_sound.specs.spl_meaning.Tables.{Source}
 use Rattle.spl_sound.specs.Spelled.{AreSpelled}
 use Rattle.spl_nesting.specs.Nesting.{nested_among, fors_among, most_in_unit}
 

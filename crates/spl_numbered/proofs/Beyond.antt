@@ -1,8 +1,8 @@
 -- How many tokens, and how many headings, stand in a segment whose number is not below this one.
 use Rattle.std.specs.Prelude.{ℕ, ◌+◌, nat_lt, if◌then◌else◌, List, [], ◌∷◌}
-use Rattle.spl_tree.specs.Symbols.{Lexeme}
-use Rattle.spl_tree.specs.DeclarationTrees as decl
-use Rattle.spl_tree.specs.DeclarationTrees.{Declaration, Declarations}
+use Rattle.spl_bounds.specs.spl_tree.Symbols.{Lexeme}
+use Rattle.spl_bounds.specs.spl_tree.DeclarationTrees as decl
+use Rattle.spl_bounds.specs.spl_tree.DeclarationTrees.{Declaration, Declarations}
 
 -- a segment, as one
 abbrev pub out : ℕ → ℕ → ℕ

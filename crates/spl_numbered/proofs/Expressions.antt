@@ -1,11 +1,11 @@
 -- An expression takes its tokens from the front.
 use Rattle.std.proofs.Common.{◌≤◌, ℕ, Bool, List, Option, arith}
-use Rattle.spl_tree.specs.declared.names_and_places.At.{At}
-use Rattle.spl_tree.specs.Symbols.{Lexeme}
-use Rattle.spl_tree.specs.Operators.{Form}
-use Rattle.spl_tree.specs.Trees as tree
-use Rattle.spl_tree.specs.Trees.{Tree}
-use Rattle.spl_tree.specs.Expressions as g
+use Rattle.spl_bounds.specs.spl_tree.declared.names_and_places.At.{At}
+use Rattle.spl_bounds.specs.spl_tree.Symbols.{Lexeme}
+use Rattle.spl_bounds.specs.spl_tree.Operators.{Form}
+use Rattle.spl_bounds.specs.spl_tree.Trees as tree
+use Rattle.spl_bounds.specs.spl_tree.Trees.{Tree}
+use Rattle.spl_bounds.specs.spl_tree.Expressions as g
 use Rattle.spl_numbered.proofs.Beyond.{beyond}
 
 pub constant_eats : (top : ℕ) {v : tree.Constant} {ts rest : List Lexeme} → g.Constant v ts rest → beyond top rest ≤ beyond top ts

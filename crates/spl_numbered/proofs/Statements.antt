@@ -1,9 +1,9 @@
 -- A statement takes its tokens from the front.
 use Rattle.std.proofs.Common.{◌≤◌, ℕ, List, arith}
-use Rattle.spl_tree.specs.Symbols.{Lexeme}
-use Rattle.spl_tree.specs.Trees.{Tree}
-use Rattle.spl_tree.specs.StatementTrees as stat
-use Rattle.spl_tree.specs.Statements as st
+use Rattle.spl_bounds.specs.spl_tree.Symbols.{Lexeme}
+use Rattle.spl_bounds.specs.spl_tree.Trees.{Tree}
+use Rattle.spl_bounds.specs.spl_tree.StatementTrees as stat
+use Rattle.spl_bounds.specs.spl_tree.Statements as st
 use Rattle.spl_numbered.proofs.Beyond.{beyond}
 use Rattle.spl_numbered.proofs.Expressions.{constant_eats, level_eats, arguments_eat}
 

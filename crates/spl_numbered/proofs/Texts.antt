@@ -3,17 +3,17 @@ use Rattle.std.proofs.Common.{◌≡◌, ◌≤◌, ◌<◌, ℕ, zero, suc, ◌
 use Rattle.std.specs.List.{slice_get}
 use Rattle.std.specs.Cmp.Lexicographic.{pointwise}
 use Rattle.std.proofs.lemmas.Bool.{lt-ltb, or_parts, or_from, eq-eqb, eqb-true, and_from, and_parts}
-use Rattle.spl_cuts.specs.Signs.{stop, Found, Placed, Listed}
-use Rattle.spl_cuts.specs.Cutting.{has_name, with_name, with_names, listed, CutsWithin}
-use Rattle.spl_cuts.specs.Cutting as cu
-use Rattle.spl_cuts.specs.Lexemes.{lexeme, lexemes}
-use Rattle.spl_cuts.specs.Whole.{Ends}
-use Rattle.spl_cuts.specs.Whole as w
-use Rattle.spl_cuts.proofs.WholeLemmas.{cut_whole}
-use Rattle.spl_tree.specs.DeclarationTrees.{declarations}
-use Rattle.spl_grammar.specs.Verdicts.{spelled}
-use Rattle.spl_meaning.specs.Tables.{Routine, routines_of}
-use Rattle.spl_places.specs.Programs.{Each}
+use Rattle.spl_bounds.specs.spl_cuts.Signs.{stop, Found, Placed, Listed}
+use Rattle.spl_bounds.specs.spl_cuts.Cutting.{has_name, with_name, with_names, listed, CutsWithin}
+use Rattle.spl_bounds.specs.spl_cuts.Cutting as cu
+use Rattle.spl_bounds.specs.spl_cuts.Lexemes.{lexeme, lexemes}
+use Rattle.spl_bounds.specs.spl_cuts.Whole.{Ends}
+use Rattle.spl_bounds.specs.spl_cuts.Whole as w
+use Rattle.spl_bounds.proofs.spl_cuts_proofs.WholeLemmas.{cut_whole}
+use Rattle.spl_bounds.specs.spl_tree.DeclarationTrees.{declarations}
+use Rattle.spl_bounds.specs.spl_grammar.Verdicts.{spelled}
+use Rattle.spl_bounds.specs.spl_meaning.Tables.{Routine, routines_of}
+use Rattle.spl_bounds.specs.spl_places.Programs.{Each}
 use Rattle.spl_numbered.proofs.Beyond.{out, beyond, all_out}
 use Rattle.spl_numbered.specs.Laws.{TextsNumberSegments}
 use Rattle.spl_numbered.proofs.Units.{unit_eats, main_in, routines_in}

@@ -1,21 +1,21 @@
 -- The segments of a unit's procedures and of its main body are those of tokens.
 use Rattle.std.proofs.Common.{◌≡◌, ◌≤◌, ◌<◌, ℕ, ◌+◌, nat_lt, Bool, true, false, if◌then◌else◌, List, [], ◌∷◌, length, Option, refl, arith}
 use Rattle.std.proofs.lemmas.Bool.{ltb-true}
-use Rattle.spl_tree.specs.declared.expressions.Kind.{Kind}
-use Rattle.spl_tree.specs.Symbols.{Lexeme}
-use Rattle.spl_tree.specs.StatementTrees as stat
-use Rattle.spl_tree.specs.Trees as tree
-use Rattle.spl_tree.specs.Expressions as g
-use Rattle.spl_tree.specs.DeclarationTrees as decl
-use Rattle.spl_tree.specs.DeclarationTrees.{Placed, Declarations, declarations}
-use Rattle.spl_tree.specs.Declarations as dl
-use Rattle.spl_tree.specs.Units as un
-use Rattle.spl_tree.specs.Units.{Unit_of, segment_at}
-use Rattle.spl_grammar.proofs.StatementTokens.{no_longer_list}
-use Rattle.spl_meaning.specs.Stops.{declaration_stops}
-use Rattle.spl_meaning.specs.Names.{Sort, Table, nothing_declared}
-use Rattle.spl_meaning.specs.Tables.{Routine, with_declaration, routines_among}
-use Rattle.spl_places.specs.Programs.{Each}
+use Rattle.spl_bounds.specs.spl_tree.declared.expressions.Kind.{Kind}
+use Rattle.spl_bounds.specs.spl_tree.Symbols.{Lexeme}
+use Rattle.spl_bounds.specs.spl_tree.StatementTrees as stat
+use Rattle.spl_bounds.specs.spl_tree.Trees as tree
+use Rattle.spl_bounds.specs.spl_tree.Expressions as g
+use Rattle.spl_bounds.specs.spl_tree.DeclarationTrees as decl
+use Rattle.spl_bounds.specs.spl_tree.DeclarationTrees.{Placed, Declarations, declarations}
+use Rattle.spl_bounds.specs.spl_tree.Declarations as dl
+use Rattle.spl_bounds.specs.spl_tree.Units as un
+use Rattle.spl_bounds.specs.spl_tree.Units.{Unit_of, segment_at}
+use Rattle.spl_bounds.proofs.spl_grammar_proofs.StatementTokens.{no_longer_list}
+use Rattle.spl_bounds.specs.spl_meaning.Stops.{declaration_stops}
+use Rattle.spl_bounds.specs.spl_meaning.Names.{Sort, Table, nothing_declared}
+use Rattle.spl_bounds.specs.spl_meaning.Tables.{Routine, with_declaration, routines_among}
+use Rattle.spl_bounds.specs.spl_places.Programs.{Each}
 use Rattle.spl_numbered.proofs.Beyond.{out, beyond, declared_out, all_out}
 use Rattle.spl_numbered.proofs.Expressions.{constant_eats}
 use Rattle.spl_numbered.proofs.Statements.{statement_eats, statements_eat}

@@ -1,11 +1,11 @@
 -- The units of texts number their segments.
 use Rattle.std.specs.Prelude.{ℕ, ◌≡◌, List, []}
-use Rattle.spl_cuts.specs.Signs.{Listed}
-use Rattle.spl_cuts.specs.Cutting.{CutsWithin}
-use Rattle.spl_cuts.specs.Lexemes.{lexemes}
-use Rattle.spl_reading.specs.Readers.{Got}
-use Rattle.spl_grammar.specs.Verdicts.{Verdict}
-use Rattle.spl_meaning.specs.Tables.{Source}
+use Rattle.spl_bounds.specs.spl_cuts.Signs.{Listed}
+use Rattle.spl_bounds.specs.spl_cuts.Cutting.{CutsWithin}
+use Rattle.spl_bounds.specs.spl_cuts.Lexemes.{lexemes}
+use Rattle.spl_bounds.specs.spl_reading.Readers.{Got}
+use Rattle.spl_bounds.specs.spl_grammar.Verdicts.{Verdict}
+use Rattle.spl_bounds.specs.spl_meaning.Tables.{Source}
 use Rattle.spl_bounds.specs.Segments.{NumbersSegments}
 
 -- a unit that has the segments of a text, whose tokens spell it

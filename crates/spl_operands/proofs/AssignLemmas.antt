@@ -1,41 +1,41 @@
 -- Assignments through the words of names: the index, where there is one, the value, and the store behind them.
 use Rattle.std.proofs.Common.{◌≡◌, ℕ, ◌+◌, ◌-◌, ◌≤◌, Bool, true, false, List, [], ◌∷◌, ◌++◌, length, refl, sym, subst, arith}
 use Rattle.std.specs.Prelude.{Option, Some, None}
-use Rattle.hp_word.specs.declared.arithmetic.Code.{Code}
-use Rattle.hp_instr.specs.declared.instruction.Instr.TheVariants as instr
-use Rattle.hp_instr.specs.declared.instruction.Mode.{Mode}
-use Rattle.hp_instr.specs.declared.instruction.Mode.TheVariants.{SMinus}
-use Rattle.hp_instr.specs.Instructions.{op}
-use Rattle.hp_session.specs.State.{Machine}
-use Rattle.hp_flat.specs.Step.{at_left}
-use Rattle.spl_tree.specs.declared.names_and_places.At.{At}
-use Rattle.spl_tree.specs.declared.expressions.Kind.{Kind}
-use Rattle.spl_tree.specs.declared.expressions.Kind.TheVariants as kind
-use Rattle.spl_branch.specs.declared.pieces.Piece.{Piece}
-use Rattle.spl_branch.specs.declared.pieces.Piece.TheVariants.{Do, Begin}
-use Rattle.spl_meaning.specs.Kinds.{width}
-use Rattle.spl_meaning.specs.Operations.{kept}
-use Rattle.spl_meaning.specs.Places.{Place}
-use Rattle.spl_meaning.specs.References.{Setting, Located, led_located, index_or_zero, store}
-use Rattle.spl_meaning.specs.States.{Data, State, Outcome, then_go, stopping}
-use Rattle.spl_meaning.specs.Values.{as_index}
-use Rattle.spl_code.specs.Code.{as_value}
-use Rattle.spl_code.specs.Instructions.{LDX, DEL}
-use Rattle.spl_code.specs.Operands.{mode_of}
-use Rattle.spl_code.specs.Parts.{Part, pieces, piece, nothing, ◌⨟◌}
-use Rattle.spl_follow.specs.Spots.{Spot, pos, Point, on, Ground}
-use Rattle.spl_follow.specs.Leading.{Leads}
-use Rattle.spl_follow.specs.Standing.{Stands}
-use Rattle.spl_follow.specs.Matching.{Matched, Coded, IsValue}
-use Rattle.spl_follow.specs.Following.{Rate, tally, tally_with, Follows, NoExit}
-use Rattle.spl_follow.specs.Doing.{doing}
-use Rattle.spl_follow.specs.Parts.{Completes, Leaving}
-use Rattle.spl_follow.specs.Simulating.{Surroundings, Simulates, Performs}
-use Rattle.spl_follow.proofs.WayLemmas.{goes_none}
-use Rattle.spl_follow.proofs.FollowLemmas.{bind_follows, no_exit}
-use Rattle.spl_follow.proofs.KeepLemmas.{kept_top, kept_stack, value_word, value_ready, values_join}
-use Rattle.spl_follow.proofs.PartLemmas.{stand_in_order, statements_begin_noted}
-use Rattle.spl_follow.proofs.StandLemmas.{closed_last}
+use Rattle.spl_values.specs.hp_word.declared.arithmetic.Code.{Code}
+use Rattle.spl_values.specs.hp_instr.declared.instruction.Instr.TheVariants as instr
+use Rattle.spl_values.specs.hp_instr.declared.instruction.Mode.{Mode}
+use Rattle.spl_values.specs.hp_instr.declared.instruction.Mode.TheVariants.{SMinus}
+use Rattle.spl_values.specs.hp_instr.Instructions.{op}
+use Rattle.spl_values.specs.hp_session.State.{Machine}
+use Rattle.spl_values.specs.hp_flat.Step.{at_left}
+use Rattle.spl_values.specs.spl_tree.declared.names_and_places.At.{At}
+use Rattle.spl_values.specs.spl_tree.declared.expressions.Kind.{Kind}
+use Rattle.spl_values.specs.spl_tree.declared.expressions.Kind.TheVariants as kind
+use Rattle.spl_values.specs.spl_branch.declared.pieces.Piece.{Piece}
+use Rattle.spl_values.specs.spl_branch.declared.pieces.Piece.TheVariants.{Do, Begin}
+use Rattle.spl_values.specs.spl_meaning.Kinds.{width}
+use Rattle.spl_values.specs.spl_meaning.Operations.{kept}
+use Rattle.spl_values.specs.spl_meaning.Places.{Place}
+use Rattle.spl_values.specs.spl_meaning.References.{Setting, Located, led_located, index_or_zero, store}
+use Rattle.spl_values.specs.spl_meaning.States.{Data, State, Outcome, then_go, stopping}
+use Rattle.spl_values.specs.spl_meaning.Values.{as_index}
+use Rattle.spl_values.specs.spl_code.Code.{as_value}
+use Rattle.spl_values.specs.spl_code.Instructions.{LDX, DEL}
+use Rattle.spl_values.specs.spl_code.Operands.{mode_of}
+use Rattle.spl_values.specs.spl_code.Parts.{Part, pieces, piece, nothing, ◌⨟◌}
+use Rattle.spl_values.specs.spl_follow.Spots.{Spot, pos, Point, on, Ground}
+use Rattle.spl_values.specs.spl_follow.Leading.{Leads}
+use Rattle.spl_values.specs.spl_follow.Standing.{Stands}
+use Rattle.spl_values.specs.spl_follow.Matching.{Matched, Coded, IsValue}
+use Rattle.spl_values.specs.spl_follow.Following.{Rate, tally, tally_with, Follows, NoExit}
+use Rattle.spl_values.specs.spl_follow.Doing.{doing}
+use Rattle.spl_values.specs.spl_follow.Parts.{Completes, Leaving}
+use Rattle.spl_values.specs.spl_follow.Simulating.{Surroundings, Simulates, Performs}
+use Rattle.spl_values.proofs.spl_follow_proofs.WayLemmas.{goes_none}
+use Rattle.spl_values.proofs.spl_follow_proofs.FollowLemmas.{bind_follows, no_exit}
+use Rattle.spl_values.proofs.spl_follow_proofs.KeepLemmas.{kept_top, kept_stack, value_word, value_ready, values_join}
+use Rattle.spl_values.proofs.spl_follow_proofs.PartLemmas.{stand_in_order, statements_begin_noted}
+use Rattle.spl_values.proofs.spl_follow_proofs.StandLemmas.{closed_last}
 use Rattle.spl_values.specs.Reached.{is_reached, IsWhole}
 use Rattle.spl_values.proofs.GiveLemmas.{last_leads}
 use Rattle.spl_values.proofs.SumLemmas.{front_on}

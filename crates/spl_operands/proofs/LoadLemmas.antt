@@ -2,35 +2,35 @@
 use Rattle.std.proofs.Common.{◌≡◌, ℕ, ◌+◌, ◌-◌, ◌/◌, ◌%◌, ◌<◌, ◌≤◌, Bool, true, false, List, [], ◌∷◌, length, refl, sym, ap, subst, ◌∙◌, arith}
 use Rattle.std.specs.Prelude.{Ok, Err, Result, slice_index}
 use Rattle.std.proofs.lemmas.Bool.{false≢true}
-use Rattle.hp_word.specs.declared.endings.Trap.{Trap}
-use Rattle.hp_word.specs.declared.endings.Trap.TheVariants.{Bounds}
-use Rattle.hp_word.specs.Bytes.{byte_at}
-use Rattle.hp_word.proofs.ByteLaws.{byte_at-below}
-use Rattle.hp_instr.specs.declared.instruction.Instr.{Instr}
-use Rattle.hp_instr.specs.declared.instruction.Instr.TheVariants as instr
-use Rattle.hp_instr.specs.declared.instruction.Mode.{Mode}
-use Rattle.hp_session.specs.State.{Machine, Outcome as Row, then_with}
-use Rattle.hp_session.specs.declared.places.Place.{Place as Operand}
-use Rattle.hp_session.specs.declared.places.Place.TheVariants.{Db, Stack}
-use Rattle.hp_session.specs.Places.{operand, moved, read_at, byte_read, word_of_byte, address}
-use Rattle.hp_memory_rows.specs.MemoryRows.{memory_row}
-use Rattle.hp_flat.specs.Step.{at_left}
-use Rattle.hp_yields.specs.Rows.{Sided, held}
-use Rattle.hp_yields.proofs.MemoryYields as rows
-use Rattle.spl_tree.specs.declared.expressions.Kind.{Kind}
-use Rattle.spl_tree.specs.declared.expressions.Kind.TheVariants as kind
-use Rattle.spl_frames.specs.Words.{AreWords}
-use Rattle.spl_meaning.specs.Kinds.{width}
-use Rattle.spl_meaning.specs.References.{Setting, Located, word_at, word_read, read_by, read}
-use Rattle.spl_meaning.specs.States.{Data, State, Begun, End, Outcome, done, leaves, spent, ends, strays, trapped, then_go}
-use Rattle.spl_follow.specs.Spots.{Spot, pos, Point, Ground}
-use Rattle.spl_follow.specs.Leading.{Leads}
-use Rattle.spl_follow.specs.Matching.{Outer, Matched, IsValue}
-use Rattle.spl_follow.specs.Following.{Rate, tally_with, Follows, NoExit}
-use Rattle.spl_follow.specs.Doing.{going, doing}
-use Rattle.spl_follow.specs.Yielding.{Yields}
-use Rattle.spl_follow.proofs.RowLemmas.{stray_here, row_value}
-use Rattle.spl_follow.proofs.PartLemmas.{rows_trap}
+use Rattle.spl_values.specs.hp_word.declared.endings.Trap.{Trap}
+use Rattle.spl_values.specs.hp_word.declared.endings.Trap.TheVariants.{Bounds}
+use Rattle.spl_values.specs.hp_word.Bytes.{byte_at}
+use Rattle.spl_values.proofs.hp_word_proofs.ByteLaws.{byte_at-below}
+use Rattle.spl_values.specs.hp_instr.declared.instruction.Instr.{Instr}
+use Rattle.spl_values.specs.hp_instr.declared.instruction.Instr.TheVariants as instr
+use Rattle.spl_values.specs.hp_instr.declared.instruction.Mode.{Mode}
+use Rattle.spl_values.specs.hp_session.State.{Machine, Outcome as Row, then_with}
+use Rattle.spl_values.specs.hp_session.declared.places.Place.{Place as Operand}
+use Rattle.spl_values.specs.hp_session.declared.places.Place.TheVariants.{Db, Stack}
+use Rattle.spl_values.specs.hp_session.Places.{operand, moved, read_at, byte_read, word_of_byte, address}
+use Rattle.spl_values.specs.hp_memory_rows.MemoryRows.{memory_row}
+use Rattle.spl_values.specs.hp_flat.Step.{at_left}
+use Rattle.spl_values.specs.hp_yields.Rows.{Sided, held}
+use Rattle.spl_values.proofs.hp_yields_proofs.MemoryYields as rows
+use Rattle.spl_values.specs.spl_tree.declared.expressions.Kind.{Kind}
+use Rattle.spl_values.specs.spl_tree.declared.expressions.Kind.TheVariants as kind
+use Rattle.spl_values.specs.spl_frames.Words.{AreWords}
+use Rattle.spl_values.specs.spl_meaning.Kinds.{width}
+use Rattle.spl_values.specs.spl_meaning.References.{Setting, Located, word_at, word_read, read_by, read}
+use Rattle.spl_values.specs.spl_meaning.States.{Data, State, Begun, End, Outcome, done, leaves, spent, ends, strays, trapped, then_go}
+use Rattle.spl_values.specs.spl_follow.Spots.{Spot, pos, Point, Ground}
+use Rattle.spl_values.specs.spl_follow.Leading.{Leads}
+use Rattle.spl_values.specs.spl_follow.Matching.{Outer, Matched, IsValue}
+use Rattle.spl_values.specs.spl_follow.Following.{Rate, tally_with, Follows, NoExit}
+use Rattle.spl_values.specs.spl_follow.Doing.{going, doing}
+use Rattle.spl_values.specs.spl_follow.Yielding.{Yields}
+use Rattle.spl_values.proofs.spl_follow_proofs.RowLemmas.{stray_here, row_value}
+use Rattle.spl_values.proofs.spl_follow_proofs.PartLemmas.{rows_trap}
 use Rattle.spl_values.specs.Reached.{is_word_kind}
 use Rattle.spl_operands.specs.Operands.{finding, Finds, Refers, Seen, Loading}
 use Rattle.spl_operands.proofs.SeeLemmas.{see}

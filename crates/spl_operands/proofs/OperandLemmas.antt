@@ -2,24 +2,24 @@
 use Rattle.std.proofs.Common.{◌≡◌, ℕ, ◌+◌, ◌%◌, ◌<◌, ◌≤◌, Bool, true, false, length, refl, sym, ap, subst, ◌∙◌, arith}
 use Rattle.std.specs.Prelude.{Some, Result, Ok, Err, not, nat_lt, nat_le, slice_index}
 use Rattle.std.proofs.lemmas.Bool.{ltb-true, leb-true, false≢true, not-true}
-use Rattle.hp_word.specs.declared.endings.Trap.{Trap}
-use Rattle.hp_word.specs.declared.endings.Trap.TheVariants.{Bounds}
-use Rattle.hp_instr.specs.declared.instruction.Mode.{Mode}
-use Rattle.hp_instr.specs.declared.instruction.Mode.TheVariants.{SMinus}
-use Rattle.hp_session.specs.State.{Machine, then_with, wrapped}
-use Rattle.hp_session.specs.declared.places.Place.{Place as Operand}
-use Rattle.hp_session.specs.declared.places.Place.TheVariants.{Db, Stack}
-use Rattle.hp_session.specs.Places.{address, base, moved, operand, byte_operand, read_at, index}
-use Rattle.hp_yields.specs.Rows.{Sided}
-use Rattle.hp_yields.proofs.MemoryYields as rows
-use Rattle.spl_tree.specs.declared.expressions.Kind.{Kind}
-use Rattle.spl_tree.specs.declared.expressions.Kind.TheVariants as kind
-use Rattle.spl_meaning.specs.Places.{Place, data_word, above_base, below_base, below_return}
-use Rattle.spl_meaning.specs.References.{Setting, address_of, element_address, element_located, led_located}
-use Rattle.spl_meaning.specs.States.{Data, State, Outcome, done}
-use Rattle.spl_meaning.specs.References.{Located}
-use Rattle.spl_code.specs.Operands.{mode_of}
-use Rattle.spl_follow.specs.Matching.{Outer, Matched}
+use Rattle.spl_values.specs.hp_word.declared.endings.Trap.{Trap}
+use Rattle.spl_values.specs.hp_word.declared.endings.Trap.TheVariants.{Bounds}
+use Rattle.spl_values.specs.hp_instr.declared.instruction.Mode.{Mode}
+use Rattle.spl_values.specs.hp_instr.declared.instruction.Mode.TheVariants.{SMinus}
+use Rattle.spl_values.specs.hp_session.State.{Machine, then_with, wrapped}
+use Rattle.spl_values.specs.hp_session.declared.places.Place.{Place as Operand}
+use Rattle.spl_values.specs.hp_session.declared.places.Place.TheVariants.{Db, Stack}
+use Rattle.spl_values.specs.hp_session.Places.{address, base, moved, operand, byte_operand, read_at, index}
+use Rattle.spl_values.specs.hp_yields.Rows.{Sided}
+use Rattle.spl_values.proofs.hp_yields_proofs.MemoryYields as rows
+use Rattle.spl_values.specs.spl_tree.declared.expressions.Kind.{Kind}
+use Rattle.spl_values.specs.spl_tree.declared.expressions.Kind.TheVariants as kind
+use Rattle.spl_values.specs.spl_meaning.Places.{Place, data_word, above_base, below_base, below_return}
+use Rattle.spl_values.specs.spl_meaning.References.{Setting, address_of, element_address, element_located, led_located}
+use Rattle.spl_values.specs.spl_meaning.States.{Data, State, Outcome, done}
+use Rattle.spl_values.specs.spl_meaning.References.{Located}
+use Rattle.spl_values.specs.spl_code.Operands.{mode_of}
+use Rattle.spl_values.specs.spl_follow.Matching.{Outer, Matched}
 use Rattle.spl_values.specs.Reached.{is_reached}
 use Rattle.spl_values.proofs.VariableLemmas.{both}
 use Rattle.spl_operands.specs.Operands.{Based, counted_by, finding, Finds, Refers}

@@ -1,43 +1,44 @@
 -- Values read through the word of a name, with an index or without, by the loads of their kinds.
 use Rattle.std.proofs.Common.{◌≡◌, ℕ, ◌+◌, ◌-◌, ◌≤◌, Bool, true, false, List, [], ◌∷◌, ◌++◌, length, take, refl, sym, subst, ◌∙◌, arith}
 use Rattle.std.specs.Prelude.{Option, Some, None}
-use Rattle.hp_instr.specs.declared.instruction.Instr.TheVariants as instr
-use Rattle.hp_instr.specs.declared.instruction.Mode.{Mode}
-use Rattle.hp_instr.specs.Instructions.{op}
-use Rattle.hp_session.specs.State.{Machine, word}
-use Rattle.hp_stack_rows.specs.StackRows.{operated}
-use Rattle.hp_flat.specs.Step.{at_left}
-use Rattle.hp_yields.specs.Rows.{Places}
-use Rattle.hp_yields.proofs.StackYields as stack_rows
-use Rattle.spl_tree.specs.declared.expressions.Kind.{Kind}
-use Rattle.spl_tree.specs.declared.expressions.Kind.TheVariants as kind
-use Rattle.spl_branch.specs.declared.pieces.Piece.TheVariants.{Do}
-use Rattle.spl_meaning.specs.Kinds.{width}
-use Rattle.spl_meaning.specs.Places.{Place}
-use Rattle.spl_meaning.specs.References.{Setting, Located, led_located, index_or_zero, read}
-use Rattle.spl_meaning.specs.States.{Data, State, Begun, Outcome, done, then_go}
-use Rattle.spl_meaning.specs.Values.{as_index}
-use Rattle.spl_code.specs.Code.{as_value}
-use Rattle.spl_code.specs.Instructions.{STAX}
-use Rattle.spl_code.specs.Operands.{mode_of}
-use Rattle.spl_code.specs.Parts.{Part, pieces, ◌⨟◌}
-use Rattle.spl_follow.specs.Spots.{Spot, pos, Point, on, landed, Ground}
-use Rattle.spl_follow.specs.Leading.{Leads}
-use Rattle.spl_follow.specs.Matching.{outer, Matches, Matched, Kept, IsValue}
-use Rattle.spl_follow.specs.Following.{Rate, tally, tally_with, Follows, NoExit}
-use Rattle.spl_follow.specs.Doing.{doing}
-use Rattle.spl_follow.specs.Parts.{Ready}
-use Rattle.spl_follow.specs.Simulating.{Surroundings, Simulates}
-use Rattle.spl_follow.proofs.FollowLemmas.{bind_follows, widen}
-use Rattle.spl_follow.proofs.KeepLemmas.{kept_same, kept_top, kept_stack, matched_length, value_word}
-use Rattle.spl_follow.proofs.RowLemmas.{becomes_goes, becomes_matches, yields_matched, yields_kept}
-use Rattle.spl_follow.proofs.PartLemmas.{stand_in_order}
-use Rattle.spl_follow.proofs.StandLemmas.{closed_last}
-use Rattle.spl_values.specs.Reached.{is_reached, IsWhole}
+use Rattle.spl_values.specs.hp_instr.declared.instruction.Instr.TheVariants as instr
+use Rattle.spl_values.specs.hp_instr.declared.instruction.Mode.{Mode}
+use Rattle.spl_values.specs.hp_instr.Instructions.{op}
+use Rattle.spl_values.specs.hp_session.State.{Machine, word}
+use Rattle.spl_values.specs.hp_stack_rows.StackRows.{operated}
+use Rattle.spl_values.specs.hp_flat.Step.{at_left}
+use Rattle.spl_values.specs.hp_yields.Rows.{Places}
+use Rattle.spl_values.proofs.hp_yields_proofs.StackYields as stack_rows
+use Rattle.spl_values.specs.spl_tree.declared.expressions.Kind.{Kind}
+use Rattle.spl_values.specs.spl_tree.declared.expressions.Kind.TheVariants as kind
+use Rattle.spl_values.specs.spl_branch.declared.pieces.Piece.TheVariants.{Do}
+use Rattle.spl_values.specs.spl_meaning.Kinds.{width}
+use Rattle.spl_values.specs.spl_meaning.Places.{Place}
+use Rattle.spl_values.specs.spl_meaning.References.{Setting, Located, led_located, index_or_zero, read}
+use Rattle.spl_values.specs.spl_meaning.States.{Data, State, Begun, Outcome, done, then_go}
+use Rattle.spl_values.specs.spl_meaning.Values.{as_index}
+use Rattle.spl_values.specs.spl_code.Code.{as_value}
+use Rattle.spl_values.specs.spl_code.Instructions.{STAX}
+use Rattle.spl_values.specs.spl_code.Operands.{mode_of}
+use Rattle.spl_values.specs.spl_code.Parts.{Part, pieces, ◌⨟◌}
+use Rattle.spl_values.specs.spl_follow.Spots.{Spot, pos, Point, on, landed, Ground}
+use Rattle.spl_values.specs.spl_follow.Leading.{Leads}
+use Rattle.spl_values.specs.spl_follow.Matching.{outer, Matches, Matched, Kept, IsValue}
+use Rattle.spl_values.specs.spl_follow.Following.{Rate, tally, tally_with, Follows, NoExit}
+use Rattle.spl_values.specs.spl_follow.Doing.{doing}
+use Rattle.spl_values.specs.spl_follow.Parts.{Ready}
+use Rattle.spl_values.specs.spl_follow.Simulating.{Surroundings, Simulates}
+use Rattle.spl_values.proofs.spl_follow_proofs.FollowLemmas.{bind_follows, widen}
+use Rattle.spl_values.proofs.spl_follow_proofs.KeepLemmas.{kept_same, kept_top, kept_stack, matched_length, value_word}
+use Rattle.spl_values.proofs.spl_follow_proofs.RowLemmas.{becomes_goes, becomes_matches, yields_matched, yields_kept}
+use Rattle.spl_values.proofs.spl_follow_proofs.PartLemmas.{stand_in_order}
+use Rattle.spl_values.proofs.spl_follow_proofs.StandLemmas.{closed_last}
+use Rattle.spl_values.specs.Reached.{is_seen, IsWhole}
 use Rattle.spl_values.proofs.GiveLemmas.{last_leads}
 use Rattle.spl_operands.specs.Operands.{Refers, Loading, HasIndex}
 use Rattle.spl_operands.specs.Laws.{CellsSimulate, ElementsSimulate}
-use Rattle.spl_operands.proofs.OperandLemmas.{place_refers, first_element, indexed_element}
+use Rattle.spl_operands.proofs.OperandLemmas.{first_element, indexed_element}
+use Rattle.spl_operands.proofs.SeenLemmas.{seen_refers}
 use Rattle.spl_operands.proofs.LoadLemmas.{loading, load_follows}
 
 -- ---- cells
@@ -73,20 +74,20 @@ reference_gives z d k need t mode i o enough refers = record {
 }
 
 -- through a name's word
-value_cells : (z : Surroundings) (d k need : ℕ) (far : Bool) (t : Kind) (place : Place) → is_reached z.setting k place ≡ true → far ≡ z.setting.split
+value_cells : (z : Surroundings) (d k need : ℕ) (far : Bool) (t : Kind) (place : Place) → is_seen z.setting k place ≡ true → far ≡ z.setting.split
     → width t ≤ need
     → Simulates z d as_value (width t) k need (pieces (Do (loading t true false (mode_of k place)) ∷ []))
     (λ s. then_go (led_located far t (Some place) 0 s) (λ p u. read p u))
-value_cells z d k need far t place reached side enough =
+value_cells z d k need far t place seen side enough =
     reference_gives z d k need t (mode_of k place) true (λ s. led_located far t (Some place) 0 s) enough
-    (λ s m matches room. place_refers z.setting t far false 0 k k place s m reached side matches room (λ cell. first_element t cell m))
+    (λ s m matches room. seen_refers z.setting t far false 0 k place s m seen side matches room (λ cell. first_element t cell m))
 
 -- by the kind
 pub cells_give : CellsSimulate
-cells_give z d k need far kind.Integer place reached side enough = value_cells z d k need far kind.Integer place reached side enough
-cells_give z d k need far kind.Logical place reached side enough = value_cells z d k need far kind.Logical place reached side enough
-cells_give z d k need far kind.Byte place reached side enough = value_cells z d k need far kind.Byte place reached side enough
-cells_give z d k need far kind.Double place reached side enough = value_cells z d k need far kind.Double place reached side enough
+cells_give z d k need far kind.Integer place seen side enough = value_cells z d k need far kind.Integer place seen side enough
+cells_give z d k need far kind.Logical place seen side enough = value_cells z d k need far kind.Logical place seen side enough
+cells_give z d k need far kind.Byte place seen side enough = value_cells z d k need far kind.Byte place seen side enough
+cells_give z d k need far kind.Double place seen side enough = value_cells z d k need far kind.Double place seen side enough
 
 -- ---- indices
 
@@ -126,15 +127,15 @@ index_by g w p r st s m d0 m0 k (v ∷ u ∷ vs) leads x = let wide = x.wide in 
 
 -- the element at an index that is in X
 element_loaded : (g : Ground) (w : Rate) (p q : Spot) (st : Setting) (t : Kind) (far : Bool) (place : Place) (k : ℕ) (d0 : Data) (m0 : Machine) (o : Option ℕ)
-    (s : State) (m : Machine) → is_reached st k place ≡ true → far ≡ st.split → s.now.top + k + width t ≤ s.now.stack
+    (s : State) (m : Machine) → is_seen st k place ≡ true → far ≡ st.split → s.now.top + k + width t ≤ s.now.stack
     → Leads g (on p) q (doing g.segments (loading t true true (mode_of k place)) q) → HasIndex st p k d0 m0 o s m
     → Follows g w (pos q - pos p) 0 w.reach (tally s) m (IsValue st q (width t) k d0 m0) NoExit
     (then_go (led_located far t (Some place) (index_or_zero o) s) (λ y u. read y u))
-element_loaded g w p q st t far place k d0 m0 None s m reached side room leads x = absurd x
-element_loaded g w p q st t far place k d0 m0 (Some v) s m reached side room leads x =
+element_loaded g w p q st t far place k d0 m0 None s m seen side room leads x = absurd x
+element_loaded g w p q st t far place k d0 m0 (Some v) s m seen side room leads x =
     load_follows g w (on p) q st t (mode_of k place) true true k d0 m0 s.begun s m (led_located far t (Some place) v s) leads
     (record { at = x.at; owes = refl; matches = x.matches; kept = x.kept; silent = x.silent; room = room })
-    (place_refers st t far true v k k place s (at_left m) reached side x.matches (omega (arith, room)) (λ cell. indexed_element t cell v (at_left m) x.index))
+    (seen_refers st t far true v k place s (at_left m) seen side x.matches (omega (arith, room)) (λ cell. indexed_element t cell v (at_left m) x.index))
 
 -- where an index is in X there is as much room as at the beginning
 index_room : (st : Setting) (p : Spot) (k n need : ℕ) (d0 : Data) (m0 : Machine) (o : Option ℕ) (s : State) (m : Machine) → d0.top + k + need ≤ d0.stack
@@ -147,11 +148,11 @@ index_room st p k n need d0 m0 (Some v) s m room enough has =
 
 -- STAX and the load of the kind behind the code of the index
 value_elements : (z : Surroundings) (d k need : ℕ) (far : Bool) (t : Kind) (place : Place) (a : Part) (value : State → Outcome (List ℕ))
-    → is_reached z.setting k place ≡ true → far ≡ z.setting.split → width t ≤ need → IsWhole a
+    → is_seen z.setting k place ≡ true → far ≡ z.setting.split → width t ≤ need → IsWhole a
     → Simulates z d as_value 1 k need a value
     → Simulates z d as_value (width t) k need (a ⨟ pieces (STAX ∷ []) ⨟ pieces (Do (loading t true true (mode_of k place)) ∷ []))
     (λ s. then_go (then_go (value s) as_index) (λ i u. then_go (led_located far t (Some place) (index_or_zero i) u) (λ p v. read p v)))
-value_elements z d k need far t place a value reached side enough whole sim = record {
+value_elements z d k need far t place a value seen side enough whole sim = record {
   does = λ h ws p q s l m stands front ready.
       let x = a h ws in
       let last = stand_in_order z.ground z.sites (x.pieces ++ STAX ∷ []) (Do (loading t true true (mode_of k place)) ∷ []) p q
@@ -172,14 +173,14 @@ value_elements z d k need far t place a value reached side enough whole sim = re
       (sim.does h ws p cut.0 s l m cut.1 front ready)
       (λ vs u m1 is fewer. index_by z.ground z.rate cut.0 last.0 z.setting u m1 s.now m k vs to_x is)
       (omega (arith, before, turn)) (omega arith) (omega (arith, many)) (omega (arith, many)))
-      (λ o u m1 has fewer. element_loaded z.ground z.rate last.0 q z.setting t far place k s.now m o u m1 reached side
+      (λ o u m1 has fewer. element_loaded z.ground z.rate last.0 q z.setting t far place k s.now m o u m1 seen side
       (index_room z.setting last.0 k (width t) need s.now m o u m1 room enough has) loads has)
       (omega (arith, before, turn, rise)) (omega arith) (omega (arith, many)) (omega (arith, many));
 }
 
 -- by the kind
 pub elements_give : ElementsSimulate
-elements_give z d k need far kind.Integer place a value reached side enough whole sim = value_elements z d k need far kind.Integer place a value reached side enough whole sim
-elements_give z d k need far kind.Logical place a value reached side enough whole sim = value_elements z d k need far kind.Logical place a value reached side enough whole sim
-elements_give z d k need far kind.Byte place a value reached side enough whole sim = value_elements z d k need far kind.Byte place a value reached side enough whole sim
-elements_give z d k need far kind.Double place a value reached side enough whole sim = value_elements z d k need far kind.Double place a value reached side enough whole sim
+elements_give z d k need far kind.Integer place a value seen side enough whole sim = value_elements z d k need far kind.Integer place a value seen side enough whole sim
+elements_give z d k need far kind.Logical place a value seen side enough whole sim = value_elements z d k need far kind.Logical place a value seen side enough whole sim
+elements_give z d k need far kind.Byte place a value seen side enough whole sim = value_elements z d k need far kind.Byte place a value seen side enough whole sim
+elements_give z d k need far kind.Double place a value seen side enough whole sim = value_elements z d k need far kind.Double place a value seen side enough whole sim

@@ -2,13 +2,13 @@
 use Rattle.std.proofs.Common.{◌≡◌, ℕ, zero, suc, ◌+◌, ◌<◌, ◌≤◌, Bool, true, false, List, [], ◌∷◌, length, refl, sym, ap, subst, arith}
 use Rattle.std.specs.Prelude.{Option, Some, None, nat_lt, if◌then◌else◌, slice_index}
 use Rattle.std.proofs.lemmas.Bool.{ltb-true, ltb-false, false≢true}
-use Rattle.hp_word.specs.declared.endings.Trap.TheVariants.{Bounds}
-use Rattle.hp_session.specs.State.{Machine}
-use Rattle.hp_yields.specs.Rows.{held}
-use Rattle.spl_frames.specs.Words.{AreWords}
-use Rattle.spl_meaning.specs.References.{Setting, data_word_read, word_at}
-use Rattle.spl_meaning.specs.States.{State, Outcome, done, ends, strays, trapped, then_go}
-use Rattle.spl_follow.specs.Matching.{Outer, Matched}
+use Rattle.spl_values.specs.hp_word.declared.endings.Trap.TheVariants.{Bounds}
+use Rattle.spl_values.specs.hp_session.State.{Machine}
+use Rattle.spl_values.specs.hp_yields.Rows.{held}
+use Rattle.spl_values.specs.spl_frames.Words.{AreWords}
+use Rattle.spl_values.specs.spl_meaning.References.{Setting, data_word_read, word_at}
+use Rattle.spl_values.specs.spl_meaning.States.{State, Outcome, done, ends, strays, trapped, then_go}
+use Rattle.spl_values.specs.spl_follow.Matching.{Outer, Matched}
 use Rattle.spl_operands.specs.Operands.{Seen}
 
 -- a word of words

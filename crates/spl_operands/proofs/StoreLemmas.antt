@@ -4,45 +4,45 @@ use Rattle.std.proofs.Common.{◌≡◌, ℕ, ◌+◌, ◌-◌, ◌/◌, ◌%◌
 use Rattle.std.specs.Prelude.{Option, Some, Ok, Err, Result, slice_index}
 use Rattle.std.proofs.lemmas.List.{append-nil}
 use Rattle.std.proofs.Math.Seq.{take-length}
-use Rattle.hp_word.specs.declared.arithmetic.Code.{Code}
-use Rattle.hp_word.specs.declared.endings.Trap.{Trap}
-use Rattle.hp_word.specs.declared.endings.Trap.TheVariants.{Bounds}
-use Rattle.hp_word.specs.Bytes.{with_byte}
-use Rattle.hp_word.proofs.ByteLaws.{with_byte-below}
-use Rattle.hp_instr.specs.declared.instruction.Instr.{Instr}
-use Rattle.hp_instr.specs.declared.instruction.Instr.TheVariants as instr
-use Rattle.hp_instr.specs.declared.instruction.Mode.{Mode}
-use Rattle.hp_instr.specs.declared.instruction.Mode.TheVariants.{SMinus}
-use Rattle.hp_instr.specs.Instructions.{op}
-use Rattle.hp_session.specs.State.{Machine, Outcome as Row, then_with, word}
-use Rattle.hp_session.specs.declared.places.Place.{Place as Operand}
-use Rattle.hp_session.specs.Places.{read_at, word_of_byte, written, byte_written, address}
-use Rattle.hp_stack_rows.specs.StackRows.{operated}
-use Rattle.hp_memory_rows.specs.MemoryRows.{memory_row}
-use Rattle.hp_flat.specs.Step.{at_left}
-use Rattle.hp_yields.specs.Rows.{Places, held}
-use Rattle.hp_yields.proofs.MemoryYields as rows
-use Rattle.hp_yields.proofs.StackYields as stack_rows
-use Rattle.spl_tree.specs.declared.expressions.Kind.{Kind}
-use Rattle.spl_tree.specs.declared.expressions.Kind.TheVariants as kind
-use Rattle.spl_meaning.specs.Kinds.{width}
-use Rattle.spl_meaning.specs.Operations.{kept}
-use Rattle.spl_meaning.specs.Places.{Place}
-use Rattle.spl_meaning.specs.References.{Setting, Located, led_located, placed_word, word_stored, store_by, store}
-use Rattle.spl_meaning.specs.States.{Data, State, End, Outcome, done, leaves, spent, ends, strays, trapped, then_go}
-use Rattle.spl_code.specs.Operands.{mode_of}
-use Rattle.spl_follow.specs.Spots.{Spot, pos, on, landed, Ground}
-use Rattle.spl_follow.specs.Leading.{Leads}
-use Rattle.spl_follow.specs.Matching.{outer, Matched, Kept, Coded, IsValue, Arrives}
-use Rattle.spl_follow.specs.Following.{Rate, tally, Follows, NoExit}
-use Rattle.spl_follow.specs.Doing.{going, doing}
-use Rattle.spl_follow.specs.Yielding.{Becomes, Puts, PutsFar}
-use Rattle.spl_follow.specs.Parts.{Completes}
-use Rattle.spl_follow.proofs.FollowLemmas.{then_follows, tail_follows}
-use Rattle.spl_follow.proofs.KeepLemmas.{kept_same, kept_on, kept_lower, kept_top, value_word}
-use Rattle.spl_follow.proofs.RowLemmas.{stray_here, row_trap, becomes_goes, becomes_matches, row_drops, row_stores, row_stores_far}
+use Rattle.spl_values.specs.hp_word.declared.arithmetic.Code.{Code}
+use Rattle.spl_values.specs.hp_word.declared.endings.Trap.{Trap}
+use Rattle.spl_values.specs.hp_word.declared.endings.Trap.TheVariants.{Bounds}
+use Rattle.spl_values.specs.hp_word.Bytes.{with_byte}
+use Rattle.spl_values.proofs.hp_word_proofs.ByteLaws.{with_byte-below}
+use Rattle.spl_values.specs.hp_instr.declared.instruction.Instr.TheVariants as instr
+use Rattle.spl_values.specs.hp_instr.declared.instruction.Mode.{Mode}
+use Rattle.spl_values.specs.hp_instr.declared.instruction.Mode.TheVariants.{SMinus}
+use Rattle.spl_values.specs.hp_instr.Instructions.{op}
+use Rattle.spl_values.specs.hp_session.State.{Machine, Outcome as Row, then_with, word}
+use Rattle.spl_values.specs.hp_session.declared.places.Place.{Place as Operand}
+use Rattle.spl_values.specs.hp_session.Places.{read_at, word_of_byte, written, byte_written, address}
+use Rattle.spl_values.specs.hp_stack_rows.StackRows.{operated}
+use Rattle.spl_values.specs.hp_memory_rows.MemoryRows.{memory_row}
+use Rattle.spl_values.specs.hp_flat.Step.{at_left}
+use Rattle.spl_values.specs.hp_yields.Rows.{Places, held}
+use Rattle.spl_values.proofs.hp_yields_proofs.MemoryYields as rows
+use Rattle.spl_values.proofs.hp_yields_proofs.StackYields as stack_rows
+use Rattle.spl_values.specs.spl_tree.declared.expressions.Kind.{Kind}
+use Rattle.spl_values.specs.spl_tree.declared.expressions.Kind.TheVariants as kind
+use Rattle.spl_values.specs.spl_meaning.Kinds.{width}
+use Rattle.spl_values.specs.spl_meaning.Operations.{kept}
+use Rattle.spl_values.specs.spl_meaning.Places.{Place}
+use Rattle.spl_values.specs.spl_meaning.References.{Setting, Located, led_located, placed_word, word_stored, store_by, store}
+use Rattle.spl_values.specs.spl_meaning.States.{Data, State, End, Outcome, done, leaves, spent, ends, strays, trapped, then_go}
+use Rattle.spl_values.specs.spl_code.Operands.{mode_of}
+use Rattle.spl_values.specs.spl_follow.Spots.{Spot, pos, on, landed, Ground}
+use Rattle.spl_values.specs.spl_follow.Leading.{Leads}
+use Rattle.spl_values.specs.spl_follow.Matching.{outer, Matched, Kept, Coded, IsValue, Arrives}
+use Rattle.spl_values.specs.spl_follow.Following.{Rate, tally, Follows, NoExit}
+use Rattle.spl_values.specs.spl_follow.Doing.{going, doing}
+use Rattle.spl_values.specs.spl_follow.Yielding.{Becomes, Puts, PutsFar}
+use Rattle.spl_values.specs.spl_follow.Parts.{Completes}
+use Rattle.spl_values.proofs.spl_follow_proofs.FollowLemmas.{then_follows, tail_follows}
+use Rattle.spl_values.proofs.spl_follow_proofs.KeepLemmas.{kept_same, kept_on, kept_lower, kept_top, value_word}
+use Rattle.spl_values.proofs.spl_follow_proofs.RowLemmas.{stray_here, row_trap, becomes_goes, becomes_matches, row_drops, row_stores, row_stores_far}
 use Rattle.spl_values.specs.Reached.{is_word_kind, is_reached}
 use Rattle.spl_operands.specs.Operands.{finding, Finds, Refers, Seen, Storing, Indexing}
+pub use Rattle.spl_operands.specs.Operands.{storing}
 use Rattle.spl_operands.proofs.SeeLemmas.{see}
 use Rattle.spl_operands.proofs.OperandLemmas.{top_based, direct, place_refers, indexed_element}
 use Rattle.spl_operands.proofs.LoadLemmas.{word_is_found, past_read, byte_address, byte_side}
@@ -166,13 +166,6 @@ byte_put g w p q st mode i x far a k v d0 m0 s m leads y f =
     (past_read (word_of_byte f.place) far (a / 2) (at_left m) (byte_side f.place far (at_left m) f.side) (byte_address f.place a f.at) past))))
 
 -- ---- by the kind
-
--- the instruction of a store: STOR, STB, STD
-abbrev pub storing : Kind → Bool → Bool → Mode → Instr
-storing kind.Integer i x mode = instr.Memory 5 true x i mode
-storing kind.Logical i x mode = instr.Memory 5 true x i mode
-storing kind.Byte i x mode = instr.Memory 14 false x i mode
-storing kind.Double i x mode = instr.Memory 14 true x i mode
 
 -- a store where its operand is at an address
 value_is_put : (g : Ground) (w : Rate) (p q : Spot) (st : Setting) (t : Kind) (mode : Mode) (i x far : Bool) (a k v : ℕ) (d0 : Data) (m0 : Machine)

@@ -1,19 +1,21 @@
 -- Where the operand of a memory instruction is; that it is what a reference of the source leads to; and what is seen where a word is read.
-use Rattle.std.specs.Prelude.{◌≡◌, ℕ, ◌+◌, ◌<◌, ◌≤◌, Bool, false, List, [], ◌∷◌, length, slice_index, Option, Some, None, Result, Ok, Err}
-use Rattle.hp_word.specs.declared.endings.Trap.{Trap}
-use Rattle.hp_word.specs.declared.endings.Trap.TheVariants.{Bounds}
-use Rattle.hp_instr.specs.declared.instruction.Mode.{Mode}
-use Rattle.hp_session.specs.State.{Machine, word}
-use Rattle.hp_session.specs.declared.places.Place.{Place}
-use Rattle.hp_session.specs.Places.{base, operand, byte_operand, address}
-use Rattle.hp_yields.specs.Rows.{Sided, held}
-use Rattle.spl_tree.specs.declared.expressions.Kind.{Kind}
-use Rattle.spl_tree.specs.declared.expressions.Kind.TheVariants as kind
-use Rattle.spl_meaning.specs.References.{Setting, Located}
-use Rattle.spl_meaning.specs.States.{Data, State, Begun, Outcome, done, leaves, spent, ends, strays, trapped}
-use Rattle.spl_follow.specs.Spots.{Spot, spot, Point}
-use Rattle.spl_follow.specs.Matching.{Matched, Kept, Coded, IsValue}
-use Rattle.spl_follow.specs.Following.{Owes}
+use Rattle.std.specs.Prelude.{◌≡◌, ℕ, ◌+◌, ◌<◌, ◌≤◌, Bool, true, false, List, [], ◌∷◌, length, slice_index, Option, Some, None, Result, Ok, Err}
+use Rattle.spl_values.specs.hp_word.declared.endings.Trap.{Trap}
+use Rattle.spl_values.specs.hp_word.declared.endings.Trap.TheVariants.{Bounds}
+use Rattle.spl_values.specs.hp_instr.declared.instruction.Instr.{Instr}
+use Rattle.spl_values.specs.hp_instr.declared.instruction.Instr.TheVariants as instr
+use Rattle.spl_values.specs.hp_instr.declared.instruction.Mode.{Mode}
+use Rattle.spl_values.specs.hp_session.State.{Machine, word}
+use Rattle.spl_values.specs.hp_session.declared.places.Place.{Place}
+use Rattle.spl_values.specs.hp_session.Places.{base, operand, byte_operand, address}
+use Rattle.spl_values.specs.hp_yields.Rows.{Sided, held}
+use Rattle.spl_values.specs.spl_tree.declared.expressions.Kind.{Kind}
+use Rattle.spl_values.specs.spl_tree.declared.expressions.Kind.TheVariants as kind
+use Rattle.spl_values.specs.spl_meaning.References.{Setting, Located}
+use Rattle.spl_values.specs.spl_meaning.States.{Data, State, Begun, Outcome, done, leaves, spent, ends, strays, trapped}
+use Rattle.spl_values.specs.spl_follow.Spots.{Spot, spot, Point}
+use Rattle.spl_values.specs.spl_follow.Matching.{Matched, Kept, Coded, IsValue}
+use Rattle.spl_values.specs.spl_follow.Following.{Owes}
 
 -- ---- where an operand is
 
@@ -88,6 +90,13 @@ HasIndex st p k d0 m0 None s m = ⊥
 HasIndex st p k d0 m0 (Some v) s m = IsIndex st p k d0 m0 v s m
 
 -- ---- where stores stand
+
+-- the instruction of a store: STOR, STB, STD
+abbrev pub storing : Kind → Bool → Bool → Mode → Instr
+storing kind.Integer i x mode = instr.Memory 5 true x i mode
+storing kind.Logical i x mode = instr.Memory 5 true x i mode
+storing kind.Byte i x mode = instr.Memory 14 false x i mode
+storing kind.Double i x mode = instr.Memory 14 true x i mode
 
 -- the index of a reference waits on top, on k words
 abbrev pub IndexWaits : Setting → Spot → ℕ → Data → Machine → Option ℕ → State → Machine → Type 0

@@ -6,8 +6,8 @@ use Rattle.hp_instr.specs.Fields.{is_op}
 use Rattle.hp_instr.specs.Given.{has_word}
 use Rattle.spl_branch.specs.declared.pieces.Piece.{Piece}
 use Rattle.spl_branch.specs.Pieces.{is_single}
-use Rattle.spl_meaning.specs.Kinds.{Class, integers, logicals, doubles, mixed}
-use Rattle.spl_meaning.specs.References as refs
+use Rattle.spl_code.specs.spl_meaning.Kinds.{Class, integers, logicals, doubles, mixed}
+use Rattle.spl_code.specs.spl_meaning.References as refs
 use Rattle.spl_code.specs.Instructions.{operate}
 use Rattle.spl_operations.specs.declared.operands.Access.{Access}
 use Rattle.spl_operations.specs.declared.operands.Access.TheVariants as access

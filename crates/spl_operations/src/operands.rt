@@ -1,8 +1,8 @@
 //! The words of names: where they are for instructions, and what loads them or takes their addresses.
 ghost use Rattle.std.specs.Prelude.{◌≡◌, true, OnOk, IfOk, option_map};
 ghost use Rattle.hp_instr.specs.Given.{is_mode};
-ghost use Rattle.spl_meaning.specs.References as refs;
-ghost use Rattle.spl_meaning.specs.References.{access_of};
+ghost use Rattle.spl_code.specs.spl_meaning.References as refs;
+ghost use Rattle.spl_code.specs.spl_meaning.References.{access_of};
 ghost use Rattle.spl_sorts.specs.Sorts.{sort_of};
 ghost use Rattle.spl_places.specs.Spots.{spot_of};
 ghost use Rattle.spl_code.specs.Instructions as instr;
@@ -14,8 +14,8 @@ ghost use Rattle.spl_operations.specs.Views.{access_view};
 use crate::puts::{instruct, operate, shift_by};
 use hp_instr::{Instr, Mode, Op, major, shift};
 use spl_branch::Code;
-use spl_depths::plus;
 use spl_places::Place;
+use spl_places::spl_depths::plus;
 use spl_sorts::Sort;
 use spl_tree::Kind;
 use std::alloc::AllocError;

@@ -1,7 +1,7 @@
 //! What operators are in the code.
 ghost use Rattle.std.specs.Prelude.{◌≡◌, true, OnOk};
 ghost use Rattle.std.specs.List.{list_all};
-ghost use Rattle.spl_meaning.specs.Kinds as kinds;
+ghost use Rattle.spl_code.specs.spl_meaning.Kinds as kinds;
 ghost use Rattle.spl_sorts.specs.Sorts.{operand_of};
 ghost use Rattle.spl_code.specs.Parts.{pieces};
 ghost use Rattle.spl_code.specs.Operators as operators;

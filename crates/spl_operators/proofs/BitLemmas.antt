@@ -7,28 +7,28 @@ use Rattle.std.proofs.lemmas.Nat.{and_le_l, or_lt, xor_lt}
 use Rattle.std.proofs.lemmas.Nat.Bits.{bit_at_and, bit_at_or, bit_at_xor}
 use Rattle.std.proofs.Math.Logic.{⊎_elim}
 use Rattle.std.proofs.Math.Nat.{div-one, mod-lt}
-use Rattle.hp_word.specs.Bits.{bit}
-use Rattle.hp_word.proofs.BitLemmas.{bit-at, number_of-first}
-use Rattle.hp_instr.specs.declared.instruction.Instr.TheVariants as i
-use Rattle.hp_instr.specs.Instructions.{op}
-use Rattle.hp_session.specs.State.{Machine, word}
-use Rattle.hp_stack_rows.specs.StackRows.{operated}
-use Rattle.hp_yields.proofs.StackYields as rows
-use Rattle.spl_meaning.specs.Kinds.{lor_operator, xor_operator}
-use Rattle.spl_meaning.specs.Operations.{bit_of, on_bits, bits_done}
-use Rattle.spl_meaning.specs.States.{done, then_go}
-use Rattle.spl_code.specs.Code.{as_value}
-use Rattle.spl_code.specs.Instructions.{operate}
-use Rattle.spl_code.specs.Operators.{bit_operator}
-use Rattle.spl_code.specs.Parts.{pieces, ◌⨟◌}
-use Rattle.spl_follow.specs.Spots.{pos, on}
-use Rattle.spl_follow.specs.Doing.{doing}
-use Rattle.spl_follow.specs.Following.{tally, Follows, NoExit}
-use Rattle.spl_follow.specs.Matching.{IsValue}
-use Rattle.spl_follow.specs.Simulating.{Surroundings, Simulates}
-use Rattle.spl_follow.specs.Yielding.{Yields}
-use Rattle.spl_follow.proofs.KeepLemmas.{value_word}
-use Rattle.spl_values.proofs.GiveLemmas.{last_leads}
+use Rattle.spl_conditions.specs.hp_word.Bits.{bit}
+use Rattle.spl_conditions.proofs.hp_word_proofs.BitLemmas.{bit-at, number_of-first}
+use Rattle.spl_conditions.specs.hp_instr.declared.instruction.Instr.TheVariants as i
+use Rattle.spl_conditions.specs.hp_instr.Instructions.{op}
+use Rattle.spl_conditions.specs.hp_session.State.{Machine, word}
+use Rattle.spl_conditions.specs.hp_stack_rows.StackRows.{operated}
+use Rattle.spl_conditions.proofs.hp_yields_proofs.StackYields as rows
+use Rattle.spl_conditions.specs.spl_meaning.Kinds.{lor_operator, xor_operator}
+use Rattle.spl_conditions.specs.spl_meaning.Operations.{bit_of, on_bits, bits_done}
+use Rattle.spl_conditions.specs.spl_meaning.States.{done, then_go}
+use Rattle.spl_conditions.specs.spl_code.Code.{as_value}
+use Rattle.spl_conditions.specs.spl_code.Instructions.{operate}
+use Rattle.spl_conditions.specs.spl_code.Operators.{bit_operator}
+use Rattle.spl_conditions.specs.spl_code.Parts.{pieces, ◌⨟◌}
+use Rattle.spl_conditions.specs.spl_follow.Spots.{pos, on}
+use Rattle.spl_conditions.specs.spl_follow.Doing.{doing}
+use Rattle.spl_conditions.specs.spl_follow.Following.{tally, Follows, NoExit}
+use Rattle.spl_conditions.specs.spl_follow.Matching.{IsValue}
+use Rattle.spl_conditions.specs.spl_follow.Simulating.{Surroundings, Simulates}
+use Rattle.spl_conditions.specs.spl_follow.Yielding.{Yields}
+use Rattle.spl_conditions.proofs.spl_follow_proofs.KeepLemmas.{value_word}
+use Rattle.spl_conditions.proofs.spl_values_proofs.GiveLemmas.{last_leads}
 use Rattle.spl_operators.specs.Laws.{land_operator, is_bitwise, BitsSimulate}
 use Rattle.spl_operators.proofs.RowLemmas.{words_row, value_there}
 use Rattle.spl_operators.proofs.OperandLemmas.{Makes, operands_then}

@@ -4,40 +4,40 @@ use Rattle.std.specs.Prelude.{Option, Some, None, ◌==◌, ◌||◌, if◌then�
 use Rattle.std.proofs.lemmas.Bool.{eqb-true, eqb-false, false≢true}
 use Rattle.std.proofs.lemmas.Nat.{mod_below, mul-lt}
 use Rattle.std.proofs.Math.Logic.{⊎_elim}
-use Rattle.hp_word.specs.declared.arithmetic.Quotient.{Quotient}
-use Rattle.hp_word.specs.declared.endings.Trap.TheVariants.{IntegerOverflow, DivideByZero}
-use Rattle.hp_word.specs.Bytes.{double, high_word, low_word}
-use Rattle.hp_word.specs.Words.{signed, word_of, is_out_of_word, word_result, multiplied, divided, logically_multiplied, logically_divided}
-use Rattle.hp_word.proofs.WordLaws.{word_of-below}
-use Rattle.hp_instr.specs.declared.instruction.Instr.TheVariants as i
-use Rattle.hp_instr.specs.Instructions.{op}
-use Rattle.hp_session.specs.State.{Machine, word}
-use Rattle.hp_stack_rows.specs.StackRows.{operated}
-use Rattle.hp_yields.specs.Rows.{Divides, DividesLogically}
-use Rattle.hp_yields.proofs.StackYields as rows
-use Rattle.spl_branch.specs.declared.pieces.Piece.{Piece}
-use Rattle.spl_meaning.specs.Kinds.{Class, integers, logicals, doubles, mixed, times, modulo}
-use Rattle.spl_meaning.specs.Operations.{quotient_done, by_class}
-use Rattle.spl_meaning.specs.References.{Setting}
-use Rattle.spl_meaning.specs.States.{Data, State, Outcome, done, ends, trapped, then_go}
-use Rattle.spl_code.specs.Code.{as_value}
-use Rattle.spl_code.specs.Instructions.{ZERO, DEL, DELB, CAB, operate}
-use Rattle.spl_code.specs.Operators.{class_operator}
-use Rattle.spl_code.specs.Parts.{Part, pieces, ◌⨟◌}
-use Rattle.spl_follow.specs.Spots.{Spot, pos, on, Ground}
-use Rattle.spl_follow.specs.Matching.{IsValue}
-use Rattle.spl_follow.specs.Following.{Rate, tally, Follows, NoExit}
-use Rattle.spl_follow.specs.Doing.{doing}
-use Rattle.spl_follow.specs.Simulating.{Surroundings, Simulates}
-use Rattle.spl_follow.specs.Standing.{Stands}
-use Rattle.spl_follow.specs.Yielding.{Yields}
-use Rattle.spl_follow.proofs.FollowLemmas.{widen}
-use Rattle.spl_follow.proofs.KeepLemmas.{value_word, value_ready}
-use Rattle.spl_follow.proofs.PartLemmas.{stand_in_order, rows_trap}
-use Rattle.spl_follow.proofs.StandLemmas.{closed_last, stands_le}
-use Rattle.spl_values.specs.Reached.{is_word_class, IsWhole}
-use Rattle.spl_values.proofs.GiveLemmas.{last_leads}
-use Rattle.spl_values.proofs.SumLemmas.{operands_follow, front_on, settling, operation_gives}
+use Rattle.spl_conditions.specs.hp_word.declared.arithmetic.Quotient.{Quotient}
+use Rattle.spl_conditions.specs.hp_word.declared.endings.Trap.TheVariants.{IntegerOverflow, DivideByZero}
+use Rattle.spl_conditions.specs.hp_word.Bytes.{double, high_word, low_word}
+use Rattle.spl_conditions.specs.hp_word.Words.{signed, word_of, is_out_of_word, word_result, multiplied, divided, logically_multiplied, logically_divided}
+use Rattle.spl_conditions.proofs.hp_word_proofs.WordLaws.{word_of-below}
+use Rattle.spl_conditions.specs.hp_instr.declared.instruction.Instr.TheVariants as i
+use Rattle.spl_conditions.specs.hp_instr.Instructions.{op}
+use Rattle.spl_conditions.specs.hp_session.State.{Machine, word}
+use Rattle.spl_conditions.specs.hp_stack_rows.StackRows.{operated}
+use Rattle.spl_conditions.specs.hp_yields.Rows.{Divides, DividesLogically}
+use Rattle.spl_conditions.proofs.hp_yields_proofs.StackYields as rows
+use Rattle.spl_conditions.specs.spl_branch.declared.pieces.Piece.{Piece}
+use Rattle.spl_conditions.specs.spl_meaning.Kinds.{Class, integers, logicals, doubles, mixed, times, modulo}
+use Rattle.spl_conditions.specs.spl_meaning.Operations.{quotient_done, by_class}
+use Rattle.spl_conditions.specs.spl_meaning.References.{Setting}
+use Rattle.spl_conditions.specs.spl_meaning.States.{Data, State, Outcome, done, ends, trapped, then_go}
+use Rattle.spl_conditions.specs.spl_code.Code.{as_value}
+use Rattle.spl_conditions.specs.spl_code.Instructions.{ZERO, DEL, DELB, CAB, operate}
+use Rattle.spl_conditions.specs.spl_code.Operators.{class_operator}
+use Rattle.spl_conditions.specs.spl_code.Parts.{Part, pieces, ◌⨟◌}
+use Rattle.spl_conditions.specs.spl_follow.Spots.{Spot, pos, on, Ground}
+use Rattle.spl_conditions.specs.spl_follow.Matching.{IsValue}
+use Rattle.spl_conditions.specs.spl_follow.Following.{Rate, tally, Follows, NoExit}
+use Rattle.spl_conditions.specs.spl_follow.Doing.{doing}
+use Rattle.spl_conditions.specs.spl_follow.Simulating.{Surroundings, Simulates}
+use Rattle.spl_conditions.specs.spl_follow.Standing.{Stands}
+use Rattle.spl_conditions.specs.spl_follow.Yielding.{Yields}
+use Rattle.spl_conditions.proofs.spl_follow_proofs.FollowLemmas.{widen}
+use Rattle.spl_conditions.proofs.spl_follow_proofs.KeepLemmas.{value_word, value_ready}
+use Rattle.spl_conditions.proofs.spl_follow_proofs.PartLemmas.{stand_in_order, rows_trap}
+use Rattle.spl_conditions.proofs.spl_follow_proofs.StandLemmas.{closed_last, stands_le}
+use Rattle.spl_conditions.specs.spl_values.Reached.{is_word_class, IsWhole}
+use Rattle.spl_conditions.proofs.spl_values_proofs.GiveLemmas.{last_leads}
+use Rattle.spl_conditions.proofs.spl_values_proofs.SumLemmas.{operands_follow, front_on, settling, operation_gives}
 use Rattle.spl_operators.specs.Laws.{over, is_quotient, ProductsSimulate, QuotientsSimulate}
 use Rattle.spl_operators.proofs.RowLemmas.{words_row, row_then, value_there, lower_deleted, upper_deleted, zero_behind_two, rotated}
 

@@ -2,23 +2,23 @@
 use Rattle.std.proofs.Common.{◌≡◌, ℕ, zero, suc, ◌+◌, ◌-◌, ◌<◌, ◌≤◌, List, [], ◌∷◌, ◌++◌, length, take, refl, ap, subst, ◌∙◌, arith}
 use Rattle.std.specs.Prelude.{slice_index}
 use Rattle.std.proofs.lemmas.List.{append_assoc}
-use Rattle.hp_instr.specs.declared.instruction.Instr.TheVariants as i
-use Rattle.hp_instr.specs.Instructions.{op}
-use Rattle.hp_session.specs.State.{Machine, Outcome as Row, word}
-use Rattle.hp_stack_rows.specs.StackRows.{operated}
-use Rattle.hp_yields.proofs.StackYields as rows
-use Rattle.spl_meaning.specs.References.{Setting}
-use Rattle.spl_meaning.specs.States.{Data, State, Outcome, done}
-use Rattle.spl_frames.specs.Words.{AreWords}
-use Rattle.spl_follow.specs.Spots.{Spot, pos, on, Ground}
-use Rattle.spl_follow.specs.Leading.{Leads}
-use Rattle.spl_follow.specs.Matching.{Outer, IsValue}
-use Rattle.spl_follow.specs.Following.{Rate, tally, Follows, NoExit}
-use Rattle.spl_follow.specs.Doing.{going, doing}
-use Rattle.spl_follow.specs.Yielding.{Yields}
-use Rattle.spl_follow.proofs.FollowLemmas.{then_follows}
-use Rattle.spl_follow.proofs.KeepLemmas.{kept_top, kept_stack, value_word}
-use Rattle.spl_follow.proofs.RowLemmas.{row_value}
+use Rattle.spl_conditions.specs.hp_instr.declared.instruction.Instr.TheVariants as i
+use Rattle.spl_conditions.specs.hp_instr.Instructions.{op}
+use Rattle.spl_conditions.specs.hp_session.State.{Machine, Outcome as Row, word}
+use Rattle.spl_conditions.specs.hp_stack_rows.StackRows.{operated}
+use Rattle.spl_conditions.proofs.hp_yields_proofs.StackYields as rows
+use Rattle.spl_conditions.specs.spl_meaning.References.{Setting}
+use Rattle.spl_conditions.specs.spl_meaning.States.{Data, State, Outcome, done}
+use Rattle.spl_conditions.specs.spl_frames.Words.{AreWords}
+use Rattle.spl_conditions.specs.spl_follow.Spots.{Spot, pos, on, Ground}
+use Rattle.spl_conditions.specs.spl_follow.Leading.{Leads}
+use Rattle.spl_conditions.specs.spl_follow.Matching.{Outer, IsValue}
+use Rattle.spl_conditions.specs.spl_follow.Following.{Rate, tally, Follows, NoExit}
+use Rattle.spl_conditions.specs.spl_follow.Doing.{going, doing}
+use Rattle.spl_conditions.specs.spl_follow.Yielding.{Yields}
+use Rattle.spl_conditions.proofs.spl_follow_proofs.FollowLemmas.{then_follows}
+use Rattle.spl_conditions.proofs.spl_follow_proofs.KeepLemmas.{kept_top, kept_stack, value_word}
+use Rattle.spl_conditions.proofs.spl_follow_proofs.RowLemmas.{row_value}
 
 -- ---- one row
 

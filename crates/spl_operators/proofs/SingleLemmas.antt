@@ -5,48 +5,48 @@ use Rattle.std.proofs.lemmas.Bool.{eqb-true, eqb-false, leb-true, ltb-true, ltb-
 use Rattle.std.proofs.lemmas.List.{append-nil}
 use Rattle.std.proofs.lemmas.Nat.{and_mask}
 use Rattle.std.proofs.Math.Logic.{⊎_elim}
-use Rattle.hp_word.specs.declared.endings.Trap.TheVariants.{IntegerOverflow}
-use Rattle.hp_word.specs.Bits.{shifted, field}
-use Rattle.hp_word.specs.Words.{word_result, negated, logically_subtracted}
-use Rattle.hp_word.proofs.FieldLemmas.{field-below}
-use Rattle.hp_word.proofs.ShiftLemmas.{shifted-below, power_bound}
-use Rattle.hp_word.proofs.WordLaws.{word_of-below}
-use Rattle.hp_instr.specs.Bits.{bits}
-use Rattle.hp_instr.specs.Fields.{field_length}
-use Rattle.hp_instr.specs.declared.instruction.Instr.TheVariants as i
-use Rattle.hp_instr.specs.Instructions.{op}
-use Rattle.hp_session.specs.State.{Machine, word}
-use Rattle.hp_stack_rows.specs.StackRows.{operated}
-use Rattle.hp_word_rows.specs.WordRows.{shift_of, shifting, immediate_row}
-use Rattle.hp_flat.specs.Step.{at_left}
-use Rattle.hp_yields.specs.Rows.{Settles}
-use Rattle.hp_yields.proofs.StackYields as stack
-use Rattle.hp_yields.proofs.WordYields as rows
-use Rattle.spl_branch.specs.declared.pieces.Piece.{Piece}
-use Rattle.spl_tree.specs.declared.expressions.Kind.TheVariants as kind
-use Rattle.spl_meaning.specs.Kinds.{Operand, of, const, unknown, positive, negative}
-use Rattle.spl_meaning.specs.Operations.{word_done, minus_done, signed_done, shift_numbered, shift_done, field_done, transferred}
-use Rattle.spl_meaning.specs.States.{Data, State, Outcome, done, ends, trapped, then_go}
-use Rattle.spl_code.specs.Code.{as_value}
-use Rattle.spl_code.specs.Instructions.{ZERO, XCH, EXF, ANDI, shift, operate}
-use Rattle.spl_code.specs.Operators.{minus_operator, sign_operator}
-use Rattle.spl_code.specs.Parts.{Part, pieces, ◌⨟◌}
-use Rattle.spl_follow.specs.Spots.{Spot, pos, on}
-use Rattle.spl_follow.specs.Doing.{doing}
-use Rattle.spl_follow.specs.Following.{tally, tally_with, Follows, NoExit}
-use Rattle.spl_follow.specs.Matching.{IsValue}
-use Rattle.spl_follow.specs.Simulating.{Surroundings, Simulates}
-use Rattle.spl_follow.specs.Standing.{Stands}
-use Rattle.spl_follow.specs.Yielding.{Yields}
-use Rattle.spl_follow.proofs.FollowLemmas.{bind_follows}
-use Rattle.spl_follow.proofs.KeepLemmas.{value_word}
-use Rattle.spl_follow.proofs.PartLemmas.{rows_trap}
-use Rattle.spl_follow.proofs.StandLemmas.{stands_le}
-use Rattle.spl_follow.proofs.WayLemmas.{goes_none}
-use Rattle.spl_values.specs.Reached.{IsWhole}
-use Rattle.spl_values.proofs.GiveLemmas.{last_leads, value_row}
-use Rattle.spl_values.proofs.SumLemmas.{yielding, logically_subtracted_small}
-use Rattle.spl_values.proofs.VariableLemmas.{both}
+use Rattle.spl_conditions.specs.hp_word.declared.endings.Trap.TheVariants.{IntegerOverflow}
+use Rattle.spl_conditions.specs.hp_word.Bits.{shifted, field}
+use Rattle.spl_conditions.specs.hp_word.Words.{word_result, negated, logically_subtracted}
+use Rattle.spl_conditions.proofs.hp_word_proofs.FieldLemmas.{field-below}
+use Rattle.spl_conditions.proofs.hp_word_proofs.ShiftLemmas.{shifted-below, power_bound}
+use Rattle.spl_conditions.proofs.hp_word_proofs.WordLaws.{word_of-below}
+use Rattle.spl_conditions.specs.hp_instr.Bits.{bits}
+use Rattle.spl_conditions.specs.hp_instr.Fields.{field_length}
+use Rattle.spl_conditions.specs.hp_instr.declared.instruction.Instr.TheVariants as i
+use Rattle.spl_conditions.specs.hp_instr.Instructions.{op}
+use Rattle.spl_conditions.specs.hp_session.State.{Machine, word}
+use Rattle.spl_conditions.specs.hp_stack_rows.StackRows.{operated}
+use Rattle.spl_conditions.specs.hp_word_rows.WordRows.{shift_of, shifting, immediate_row}
+use Rattle.spl_conditions.specs.hp_flat.Step.{at_left}
+use Rattle.spl_conditions.specs.hp_yields.Rows.{Settles}
+use Rattle.spl_conditions.proofs.hp_yields_proofs.StackYields as stack
+use Rattle.spl_conditions.proofs.hp_yields_proofs.WordYields as rows
+use Rattle.spl_conditions.specs.spl_branch.declared.pieces.Piece.{Piece}
+use Rattle.spl_conditions.specs.spl_tree.declared.expressions.Kind.TheVariants as kind
+use Rattle.spl_conditions.specs.spl_meaning.Kinds.{Operand, of, const, unknown, positive, negative}
+use Rattle.spl_conditions.specs.spl_meaning.Operations.{word_done, minus_done, signed_done, shift_numbered, shift_done, field_done, transferred}
+use Rattle.spl_conditions.specs.spl_meaning.States.{Data, State, Outcome, done, ends, trapped, then_go}
+use Rattle.spl_conditions.specs.spl_code.Code.{as_value}
+use Rattle.spl_conditions.specs.spl_code.Instructions.{ZERO, XCH, EXF, ANDI, shift, operate}
+use Rattle.spl_conditions.specs.spl_code.Operators.{minus_operator, sign_operator}
+use Rattle.spl_conditions.specs.spl_code.Parts.{Part, pieces, ◌⨟◌}
+use Rattle.spl_conditions.specs.spl_follow.Spots.{Spot, pos, on}
+use Rattle.spl_conditions.specs.spl_follow.Doing.{doing}
+use Rattle.spl_conditions.specs.spl_follow.Following.{tally, tally_with, Follows, NoExit}
+use Rattle.spl_conditions.specs.spl_follow.Matching.{IsValue}
+use Rattle.spl_conditions.specs.spl_follow.Simulating.{Surroundings, Simulates}
+use Rattle.spl_conditions.specs.spl_follow.Standing.{Stands}
+use Rattle.spl_conditions.specs.spl_follow.Yielding.{Yields}
+use Rattle.spl_conditions.proofs.spl_follow_proofs.FollowLemmas.{bind_follows}
+use Rattle.spl_conditions.proofs.spl_follow_proofs.KeepLemmas.{value_word}
+use Rattle.spl_conditions.proofs.spl_follow_proofs.PartLemmas.{rows_trap}
+use Rattle.spl_conditions.proofs.spl_follow_proofs.StandLemmas.{stands_le}
+use Rattle.spl_conditions.proofs.spl_follow_proofs.WayLemmas.{goes_none}
+use Rattle.spl_conditions.specs.spl_values.Reached.{IsWhole}
+use Rattle.spl_conditions.proofs.spl_values_proofs.GiveLemmas.{last_leads, value_row}
+use Rattle.spl_conditions.proofs.spl_values_proofs.SumLemmas.{yielding, logically_subtracted_small}
+use Rattle.spl_conditions.proofs.spl_values_proofs.VariableLemmas.{both}
 use Rattle.spl_conditions.proofs.ComplementLemmas.{value_then}
 use Rattle.spl_operators.specs.Laws.{is_word_operand, SignsSimulate, ShiftsSimulate, FieldsSimulate, TransfersSimulate}
 use Rattle.spl_operators.proofs.RowLemmas.{row_then, value_there, zero_behind_one, exchanged}

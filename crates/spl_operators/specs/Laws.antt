@@ -1,15 +1,15 @@
 -- The laws of this crate: operators of one and of two single words, each over its operands as variables. The left operand waits for the right one.
 use Rattle.std.specs.Prelude.{◌≡◌, ℕ, ◌+◌, ◌≤◌, ◌<◌, ◌==◌, ◌&&◌, ◌||◌, nat_le, Bool, true, false, List}
-use Rattle.spl_tree.specs.declared.expressions.Kind.{Kind}
-use Rattle.spl_tree.specs.declared.expressions.Kind.TheVariants as kind
-use Rattle.spl_meaning.specs.Kinds.{Class, Operand, of, const, unknown, lor_operator, xor_operator, times, modulo, positive, negative}
-use Rattle.spl_meaning.specs.Operations.{by_class, bits_done, signed_done, shift_done, field_done, transferred}
-use Rattle.spl_meaning.specs.States.{State, Outcome, then_go}
-use Rattle.spl_code.specs.Code.{as_value}
-use Rattle.spl_code.specs.Operators.{class_operator, bit_operator, sign_operator, shift_operator, field_operator, transfer}
-use Rattle.spl_code.specs.Parts.{Part, pieces, ◌⨟◌}
-use Rattle.spl_follow.specs.Simulating.{Surroundings, Simulates}
-use Rattle.spl_values.specs.Reached.{is_word_class, IsWhole}
+use Rattle.spl_conditions.specs.spl_tree.declared.expressions.Kind.{Kind}
+use Rattle.spl_conditions.specs.spl_tree.declared.expressions.Kind.TheVariants as kind
+use Rattle.spl_conditions.specs.spl_meaning.Kinds.{Class, Operand, of, const, unknown, lor_operator, xor_operator, times, modulo, positive, negative}
+use Rattle.spl_conditions.specs.spl_meaning.Operations.{by_class, bits_done, signed_done, shift_done, field_done, transferred}
+use Rattle.spl_conditions.specs.spl_meaning.States.{State, Outcome, then_go}
+use Rattle.spl_conditions.specs.spl_code.Code.{as_value}
+use Rattle.spl_conditions.specs.spl_code.Operators.{class_operator, bit_operator, sign_operator, shift_operator, field_operator, transfer}
+use Rattle.spl_conditions.specs.spl_code.Parts.{Part, pieces, ◌⨟◌}
+use Rattle.spl_conditions.specs.spl_follow.Simulating.{Surroundings, Simulates}
+use Rattle.spl_conditions.specs.spl_values.Reached.{is_word_class, IsWhole}
 
 -- ---- two operands
 

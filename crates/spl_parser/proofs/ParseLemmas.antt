@@ -13,8 +13,8 @@ use Rattle.spl_tree.specs.DeclarationTrees.{UnitTree}
 use Rattle.spl_tree.specs.Units.{Unit_of}
 use Rattle.spl_tree.specs.Views.{letters}
 use Rattle.spl_tree.specs.Spells.{unit_tree}
-use Rattle.spl_reading.specs.Readers.{Outcome, Got, Bad, Deep}
-use Rattle.spl_reading.specs.ReadDeclarations.{unit}
+use Rattle.spl_grammar.specs.spl_reading.Readers.{Outcome, Got, Bad, Deep}
+use Rattle.spl_grammar.specs.spl_reading.ReadDeclarations.{unit}
 use Rattle.spl_grammar.specs.Ends.{Ended}
 use Rattle.spl_grammar.specs.Verdicts.{NotTooDeep, Verdict, spelled, refused, too_deep}
 use Rattle.spl_grammar.proofs.LocalReaders.{Left, entire, cut, end_of}

@@ -5,7 +5,7 @@ use Rattle.spl_tree.specs.declared.units.SplUnit.{SplUnit}
 use Rattle.spl_tree.specs.Symbols.{Lexeme, lexeme_of}
 use Rattle.spl_tree.specs.DeclarationTrees.{UnitTree}
 use Rattle.spl_tree.specs.Spells.{Spells, unit_tree}
-use Rattle.spl_reading.specs.Readers.{Outcome, Got, Bad, Deep}
+use Rattle.spl_grammar.specs.spl_reading.Readers.{Outcome, Got, Bad, Deep}
 use Rattle.spl_grammar.specs.Verdicts.{Verdict, NotTooDeep}
 use Rattle.spl_tokens.specs.declared.faults.Fault.{Fault}
 use Rattle.spl_tokens.specs.declared.faults.Fault.TheVariants as fault

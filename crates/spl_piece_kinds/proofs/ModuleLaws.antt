@@ -3,30 +3,30 @@
 -- 2. body by body, the parts of a module                          (kinds_module, kinds_written)
 use Rattle.std.proofs.Common.{ℕ, suc, ◌+◌, ◌/◌, ◌%◌, ◌==◌, ◌&&◌, nat_lt, nat_eq, min, ℤ, Bool, true, false, List, [], ◌∷◌, ◌++◌, length, replicate, codes, Option, Some, None, refl}
 use Rattle.std.specs.List.{slice_get}
-use Rattle.hp_word.specs.Words.{word_of, double_of}
-use Rattle.spl_tree.specs.declared.expressions.Kind.{Kind}
-use Rattle.spl_tree.specs.declared.expressions.Kind.TheVariants as kind
-use Rattle.spl_tree.specs.DeclarationTrees as decl
-use Rattle.spl_tree.specs.DeclarationTrees.{Declaration, Declarations, declarations}
-use Rattle.spl_meaning.specs.Names.{Table}
-use Rattle.spl_meaning.specs.Tables.{Subroutine}
-use Rattle.spl_meaning.specs.Places as p
-use Rattle.spl_meaning.specs.Places.{Cell, Initial, cell_word, only}
-use Rattle.spl_meaning.specs.Pending.{formals_words}
-use Rattle.spl_meaning.specs.Bodies.{Body, Named, subroutine_body}
-use Rattle.spl_branch.specs.declared.pieces.Piece.{Piece}
-use Rattle.spl_branch.specs.declared.pieces.Piece.TheVariants.{Mark}
-use Rattle.spl_code.specs.Parts.{Part, piece, nothing}
-use Rattle.spl_code.specs.Constants.{constant}
-use Rattle.spl_code.specs.Operands.{mode_of}
-use Rattle.spl_code.specs.Instructions.{STOR}
-use Rattle.spl_code.specs.Stores.{store}
-use Rattle.spl_statement_code.specs.Landings.{Landing}
-use Rattle.spl_body_code.specs.Frames.{ROOM, ADDS, granted, zeroed, last_zeros}
-use Rattle.spl_body_code.specs.Cells.{LADD, base_pushed, cell_from, viewed, cell_set, cells_set, value_pushed, first_set, initial_set, initials_set}
-use Rattle.spl_body_code.specs.Bodies.{Frame, frame_of, mode_entered, procedure_entered, procedure_left, procedure_code, subroutine_left, subroutine_code, main_code}
-use Rattle.spl_scopes.specs.Entries.{Owner, main, routine, Entry, module_entries, routines_behind}
-use Rattle.spl_scopes.specs.Scopes.{Placed, routine_bodies, outer_body}
+use Rattle.spl_module_code.specs.hp_word.Words.{word_of, double_of}
+use Rattle.spl_module_code.specs.spl_tree.declared.expressions.Kind.{Kind}
+use Rattle.spl_module_code.specs.spl_tree.declared.expressions.Kind.TheVariants as kind
+use Rattle.spl_module_code.specs.spl_tree.DeclarationTrees as decl
+use Rattle.spl_module_code.specs.spl_tree.DeclarationTrees.{Declaration, Declarations, declarations}
+use Rattle.spl_module_code.specs.spl_meaning.Names.{Table}
+use Rattle.spl_module_code.specs.spl_meaning.Tables.{Subroutine}
+use Rattle.spl_module_code.specs.spl_meaning.Places as p
+use Rattle.spl_module_code.specs.spl_meaning.Places.{Cell, Initial, cell_word, only}
+use Rattle.spl_module_code.specs.spl_meaning.Pending.{formals_words}
+use Rattle.spl_module_code.specs.spl_meaning.Bodies.{Body, Named, subroutine_body}
+use Rattle.spl_module_code.specs.spl_branch.declared.pieces.Piece.{Piece}
+use Rattle.spl_module_code.specs.spl_branch.declared.pieces.Piece.TheVariants.{Mark}
+use Rattle.spl_module_code.specs.spl_code.Parts.{Part, piece, nothing}
+use Rattle.spl_module_code.specs.spl_code.Constants.{constant}
+use Rattle.spl_module_code.specs.spl_code.Operands.{mode_of}
+use Rattle.spl_module_code.specs.spl_code.Instructions.{STOR}
+use Rattle.spl_module_code.specs.spl_code.Stores.{store}
+use Rattle.spl_module_code.specs.spl_statement_code.Landings.{Landing}
+use Rattle.spl_module_code.specs.spl_body_code.Frames.{ROOM, ADDS, granted, zeroed, last_zeros}
+use Rattle.spl_module_code.specs.spl_body_code.Cells.{LADD, base_pushed, cell_from, viewed, cell_set, cells_set, value_pushed, first_set, initial_set, initials_set}
+use Rattle.spl_module_code.specs.spl_body_code.Bodies.{Frame, frame_of, mode_entered, procedure_entered, procedure_left, procedure_code, subroutine_left, subroutine_code, main_code}
+use Rattle.spl_module_code.specs.spl_scopes.Entries.{Owner, main, routine, Entry, module_entries, routines_behind}
+use Rattle.spl_module_code.specs.spl_scopes.Scopes.{Placed, routine_bodies, outer_body}
 use Rattle.spl_module_code.specs.LabelsOfBodies.{Label, labels_among, with_landings}
 use Rattle.spl_module_code.specs.Bodies.{context_of, body_statements, subroutine_part, subroutine_parts, routine_part}
 use Rattle.spl_module_code.specs.Modules.{inner_behind, routine_at, inner_with, inner_at, entries_behind, declared_part, declared_parts, holds_main, main_at, marks_before}

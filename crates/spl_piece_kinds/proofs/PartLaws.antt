@@ -1,8 +1,8 @@
 -- Parts whose pieces have instructions of their kinds, put together.
 use Rattle.std.proofs.Common.{◌≡◌, ℕ, zero, suc, ◌+◌, ◌&&◌, Bool, true, false, if◌then◌else◌, List, [], ◌∷◌, ◌++◌, replicate, refl}
 use Rattle.std.proofs.lemmas.Bool.{false≢true, and_from}
-use Rattle.spl_branch.specs.declared.pieces.Piece.{Piece}
-use Rattle.spl_code.specs.Parts.{Part, pieces, ◌⨟◌, with_fresh, call_wanted}
+use Rattle.spl_module_code.specs.spl_branch.declared.pieces.Piece.{Piece}
+use Rattle.spl_module_code.specs.spl_code.Parts.{Part, pieces, ◌⨟◌, with_fresh, call_wanted}
 use Rattle.spl_piece_kinds.specs.Kinds.{have_kinds, HasKinds}
 
 -- ---- pieces

@@ -1,8 +1,8 @@
 -- Parts of code whose pieces have instructions of their kinds.
 use Rattle.std.specs.Prelude.{◌≡◌, ℕ, Bool, true, List}
 use Rattle.std.specs.List.{list_all}
-use Rattle.spl_branch.specs.declared.pieces.Piece.{Piece}
-use Rattle.spl_code.specs.Parts.{Part, Wanted}
+use Rattle.spl_module_code.specs.spl_branch.declared.pieces.Piece.{Piece}
+use Rattle.spl_module_code.specs.spl_code.Parts.{Part, Wanted}
 use Rattle.spl_sites.specs.Beginnings.{is_of_kind}
 
 -- each of some pieces has an instruction of its kind

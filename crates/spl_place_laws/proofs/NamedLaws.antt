@@ -1,25 +1,25 @@
 -- The table of places of items, and of parameters, is that of their entries.
 use Rattle.std.proofs.Common.{ℕ, ◌≡◌, ◌+◌, Bool, true, false, nat_lt, List, [], ◌∷◌, ◌++◌, map, refl, sym, ap, ◌∙◌}
 use Rattle.std.specs.Prelude.{pos, if◌then◌else◌}
-use Rattle.hp_word.specs.Words.{word_of}
-use Rattle.spl_tree.specs.declared.expressions.Kind.{Kind}
-use Rattle.spl_tree.specs.declared.expressions.Kind.TheVariants as kind
-use Rattle.spl_tree.specs.DeclarationTrees as decl
-use Rattle.spl_tree.specs.DeclarationTrees.{Item, Declaration, Declarations}
-use Rattle.spl_meaning.specs.Names as n
-use Rattle.spl_meaning.specs.Names.{Names, Sort, Table, Formal}
-use Rattle.spl_meaning.specs.Tables.{shaped}
-use Rattle.spl_meaning.specs.Places as p
-use Rattle.spl_meaning.specs.Places.{data_word, above_base, below_base, below_return, is_own, item_words, where_own, only, place_of, places_from}
-use Rattle.spl_meaning.specs.Pending.{formal_words, formals_words}
-use Rattle.spl_meaning.specs.Bodies.{parameter_places}
-use Rattle.spl_found.specs.OwnNames.{over, with_name, behind_declaration}
-use Rattle.spl_places.specs.declared.places.Starts.{Starts}
-use Rattle.spl_places.specs.ListedData.{Datum, items_data, declaration_data, list_data}
-use Rattle.spl_places.specs.Spots.{behind_item}
-use Rattle.spl_places.specs.Held.{is_data, named}
-use Rattle.spl_places.specs.Programs.{Each}
-use Rattle.spl_formals.specs.ResultWords.{place_word}
+use Rattle.spl_entries.specs.hp_word.Words.{word_of}
+use Rattle.spl_entries.specs.spl_tree.declared.expressions.Kind.{Kind}
+use Rattle.spl_entries.specs.spl_tree.declared.expressions.Kind.TheVariants as kind
+use Rattle.spl_entries.specs.spl_tree.DeclarationTrees as decl
+use Rattle.spl_entries.specs.spl_tree.DeclarationTrees.{Item, Declaration, Declarations}
+use Rattle.spl_entries.specs.spl_meaning.Names as n
+use Rattle.spl_entries.specs.spl_meaning.Names.{Names, Sort, Table, Formal}
+use Rattle.spl_entries.specs.spl_meaning.Tables.{shaped}
+use Rattle.spl_entries.specs.spl_meaning.Places as p
+use Rattle.spl_entries.specs.spl_meaning.Places.{data_word, above_base, below_base, below_return, is_own, item_words, where_own, only, place_of, places_from}
+use Rattle.spl_entries.specs.spl_meaning.Pending.{formal_words, formals_words}
+use Rattle.spl_entries.specs.spl_meaning.Bodies.{parameter_places}
+use Rattle.spl_entries.specs.spl_found.OwnNames.{over, with_name, behind_declaration}
+use Rattle.spl_entries.specs.spl_places.declared.places.Starts.{Starts}
+use Rattle.spl_entries.specs.spl_places.ListedData.{Datum, items_data, declaration_data, list_data}
+use Rattle.spl_entries.specs.spl_places.Spots.{behind_item}
+use Rattle.spl_entries.specs.spl_places.Held.{is_data, named}
+use Rattle.spl_entries.specs.spl_places.Programs.{Each}
+use Rattle.spl_entries.specs.spl_formals.ResultWords.{place_word}
 use Rattle.spl_entries.specs.Entries.{item_entries, parameter_entries}
 use Rattle.spl_place_laws.specs.NamedEntries.{IsData, words_by, item_words_by, parameter_words_by}
 

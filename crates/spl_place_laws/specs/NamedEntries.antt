@@ -1,10 +1,10 @@
 -- Entries with the names of what they are of.
 use Rattle.std.specs.Prelude.{◌≡◌, ℕ, true, List, [], ◌∷◌, map}
-use Rattle.spl_meaning.specs.Names.{Table, Formal}
-use Rattle.spl_meaning.specs.Places as p
-use Rattle.spl_places.specs.ListedData.{Datum}
-use Rattle.spl_places.specs.Held.{is_data}
-use Rattle.spl_formals.specs.ResultWords.{place_word}
+use Rattle.spl_entries.specs.spl_meaning.Names.{Table, Formal}
+use Rattle.spl_entries.specs.spl_meaning.Places as p
+use Rattle.spl_entries.specs.spl_places.ListedData.{Datum}
+use Rattle.spl_entries.specs.spl_places.Held.{is_data}
+use Rattle.spl_entries.specs.spl_formals.ResultWords.{place_word}
 use Rattle.spl_entries.specs.declared.place_type.Place.{Place}
 
 -- an item that stands for data

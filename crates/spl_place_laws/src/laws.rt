@@ -1,14 +1,14 @@
 //! The laws of this crate, as the contracts of functions that do nothing.
 ghost use Rattle.std.specs.Prelude.{◌≡◌, ℕ, List, map, pos};
-ghost use Rattle.hp_word.specs.Words.{word_of};
-ghost use Rattle.spl_tree.specs.DeclarationTrees.{Declarations};
-ghost use Rattle.spl_meaning.specs.Names.{Names, Formal};
-ghost use Rattle.spl_meaning.specs.Places.{Place, data_word, above_base, below_base, below_return, places_from};
-ghost use Rattle.spl_meaning.specs.Bodies.{parameter_places};
-ghost use Rattle.spl_places.specs.declared.places.Starts.{Starts};
-ghost use Rattle.spl_places.specs.ListedData.{Datum, list_data};
-ghost use Rattle.spl_places.specs.Held.{named};
-ghost use Rattle.spl_places.specs.Programs.{Each};
+ghost use Rattle.spl_entries.specs.hp_word.Words.{word_of};
+ghost use Rattle.spl_entries.specs.spl_tree.DeclarationTrees.{Declarations};
+ghost use Rattle.spl_entries.specs.spl_meaning.Names.{Names, Formal};
+ghost use Rattle.spl_entries.specs.spl_meaning.Places.{Place, data_word, above_base, below_base, below_return, places_from};
+ghost use Rattle.spl_entries.specs.spl_meaning.Bodies.{parameter_places};
+ghost use Rattle.spl_entries.specs.spl_places.declared.places.Starts.{Starts};
+ghost use Rattle.spl_entries.specs.spl_places.ListedData.{Datum, list_data};
+ghost use Rattle.spl_entries.specs.spl_places.Held.{named};
+ghost use Rattle.spl_entries.specs.spl_places.Programs.{Each};
 ghost use Rattle.spl_entries.specs.Entries.{item_entries, parameter_entries};
 ghost use Rattle.spl_place_laws.specs.NamedEntries.{IsData, words_by, item_words_by, parameter_words_by};
 

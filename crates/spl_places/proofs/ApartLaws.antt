@@ -2,10 +2,10 @@
 use Rattle.std.proofs.Common.{ℕ, ◌≡◌, ◌≤◌, ◌⊎◌, ◌+◌, Bool, true, false, nat_lt, List, [], ◌∷◌, ◌++◌, Option, Some, refl, sym, ap, ◌∙◌, subst, inl, inr, arith}
 use Rattle.std.specs.Prelude.{if◌then◌else◌, option_map}
 use Rattle.std.specs.Cmp.Lexicographic.{same_text}
-use Rattle.spl_meaning.specs.Names as n
-use Rattle.spl_meaning.specs.Names.{Sort, Table, find, same_name}
-use Rattle.spl_meaning.specs.Places.{Place, is_own, item_words, where_own, list_words, only, place_of, places_from}
-use Rattle.spl_meaning.specs.Kinds.{width}
+use Rattle.spl_sorts.specs.spl_meaning.Names as n
+use Rattle.spl_sorts.specs.spl_meaning.Names.{Sort, Table, find, same_name}
+use Rattle.spl_sorts.specs.spl_meaning.Places.{Place, is_own, item_words, where_own, list_words, only, place_of, places_from}
+use Rattle.spl_sorts.specs.spl_meaning.Kinds.{width}
 use Rattle.spl_tree.specs.declared.expressions.Kind.{Kind}
 use Rattle.spl_tree.specs.declared.expressions.Kind.TheVariants as kind
 use Rattle.spl_places.specs.Held.{is_data, held}

@@ -1,7 +1,7 @@
 -- A running sum finds where the words of things first pass a limit.
 use Rattle.std.proofs.Common.{ℕ, ◌≡◌, ◌+◌, Bool, true, false, List, [], ◌∷◌, ◌++◌, Option, nat_lt, refl, ap, ◌∙◌}
 use Rattle.std.specs.Prelude.{if◌then◌else◌}
-use Rattle.spl_meaning.specs.Limits.{Full, Sized, passing, sooner_full, first_among}
+use Rattle.spl_sorts.specs.spl_meaning.Limits.{Full, Sized, passing, sooner_full, first_among}
 use Rattle.spl_places.specs.declared.counters.Counter.{Counter}
 use Rattle.spl_places.specs.Counters.{behind_words, found_words, behind, found}
 

@@ -1,8 +1,8 @@
 -- Loops over items: a sum of their words, and the first limit, from one on.
 use Rattle.std.proofs.Common.{◌≡◌, ◌<◌, ◌≤◌, ℕ, ◌+◌, Bool, List, map, drop, length, get_or, Option}
-use Rattle.spl_meaning.specs.Names.{Sort}
-use Rattle.spl_meaning.specs.Places.{where_own}
-use Rattle.spl_meaning.specs.Limits.{Full}
+use Rattle.spl_sorts.specs.spl_meaning.Names.{Sort}
+use Rattle.spl_sorts.specs.spl_meaning.Places.{where_own}
+use Rattle.spl_sorts.specs.spl_meaning.Limits.{Full}
 use Rattle.spl_sorts.specs.Sorts.{sort_of}
 use Rattle.spl_lists.proofs.NameWalks.{onward, onward_end}
 use Rattle.spl_places.specs.declared.data.Datum.{Datum}

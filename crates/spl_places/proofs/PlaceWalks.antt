@@ -2,12 +2,12 @@
 use Rattle.std.proofs.Common.{◌≡◌, ◌<◌, ◌≤◌, ℕ, ◌+◌, Bool, true, false, nat_lt, List, ◌∷◌, [], ◌++◌, map, drop, length, get_or, Option, refl, ◌∙◌, sym, add-zero, add_assoc}
 use Rattle.std.specs.Prelude.{if◌then◌else◌}
 use Rattle.spl_tree.specs.Views.{letters}
-use Rattle.spl_meaning.specs.Names as n
-use Rattle.spl_meaning.specs.Names.{Sort, Table, find}
-use Rattle.spl_meaning.specs.Places.{Place, Array, is_own, item_words, array_words, where_own, only, place_of, array_at, places_from, arrays_from}
+use Rattle.spl_sorts.specs.spl_meaning.Names as n
+use Rattle.spl_sorts.specs.spl_meaning.Names.{Sort, Table, find}
+use Rattle.spl_sorts.specs.spl_meaning.Places.{Place, Array, is_own, item_words, array_words, where_own, only, place_of, array_at, places_from, arrays_from}
 use Rattle.spl_sorts.specs.Sorts.{sort_of}
 use Rattle.spl_lists.proofs.NameWalks.{onward, onward_end}
-use Rattle.spl_found.specs.OwnNames.{with_name}
+use Rattle.spl_depths.specs.spl_found.OwnNames.{with_name}
 use Rattle.spl_places.specs.declared.data.Datum.{Datum}
 use Rattle.spl_places.specs.declared.places.Starts.{Starts}
 use Rattle.spl_places.specs.ListedData as d

@@ -4,12 +4,12 @@ use Rattle.std.specs.Prelude.{if◌then◌else◌}
 use Rattle.spl_tree.specs.declared.names_and_places.At.{At}
 use Rattle.spl_tree.specs.declared.expressions.Kind.{Kind}
 use Rattle.spl_tree.specs.DeclarationTrees.{declarations}
-use Rattle.spl_meaning.specs.Names as n
-use Rattle.spl_meaning.specs.Names.{Sort, Table, Formal, find, nothing_declared, sort_by, parameters, formals_of}
-use Rattle.spl_meaning.specs.Tables.{Source, Routine, unit_table, outer_names, routine_table}
-use Rattle.spl_meaning.specs.Places.{Place, Array, is_own, item_words, array_words, where_own, sum, list_words, list_array_words, only, place_of, array_at, places_from, arrays_from}
-use Rattle.spl_meaning.specs.Bodies.{own_table, all_routines, global_words, own_words, primary_words}
-use Rattle.spl_meaning.specs.Limits.{Sized, passing, sized, joined, unit_data, routine_data, all_data, global_limits, local_limits, most_primary, most_locals, most_data}
+use Rattle.spl_sorts.specs.spl_meaning.Names as n
+use Rattle.spl_sorts.specs.spl_meaning.Names.{Sort, Table, Formal, find, nothing_declared, sort_by, parameters, formals_of}
+use Rattle.spl_sorts.specs.spl_meaning.Tables.{Source, Routine, unit_table, outer_names, routine_table}
+use Rattle.spl_sorts.specs.spl_meaning.Places.{Place, Array, is_own, item_words, array_words, where_own, sum, list_words, list_array_words, only, place_of, array_at, places_from, arrays_from}
+use Rattle.spl_sorts.specs.spl_meaning.Bodies.{own_table, all_routines, global_words, own_words, primary_words}
+use Rattle.spl_sorts.specs.spl_meaning.Limits.{Sized, passing, sized, joined, unit_data, routine_data, all_data, global_limits, local_limits, most_primary, most_locals, most_data}
 use Rattle.spl_places.specs.ListedData.{Datum, list_data}
 use Rattle.spl_places.specs.Counters.{entry, sizes, total_words}
 use Rattle.spl_places.specs.Held.{is_data, held, named}

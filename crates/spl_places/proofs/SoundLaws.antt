@@ -6,15 +6,15 @@ use Rattle.spl_tree.specs.declared.expressions.Kind.{Kind}
 use Rattle.spl_tree.specs.DeclarationTrees as decl
 use Rattle.spl_tree.specs.DeclarationTrees.{Heading, Item, Declaration, Declarations, declarations}
 use Rattle.spl_tree.specs.StatementTrees.{statements}
-use Rattle.spl_meaning.specs.Names.{Sort, Table, find, within, nothing_declared, parameters, formals_of}
-use Rattle.spl_meaning.specs.Tables.{Source, Routine, declared, shaped, with_declaration, routine_in, routines_among, routines_of}
-use Rattle.spl_meaning.specs.Bodies.{all_routines}
-use Rattle.spl_meaning.specs.Stops.{declaration_stops}
-use Rattle.spl_meaning.specs.ExpressionRules.{Scope}
-use Rattle.spl_meaning.specs.Faults.{Fault, unless, IsAmong}
-use Rattle.spl_meaning.specs.DeclarationRules.{Around, Waiting, item_faults, items_faults, local_faults_of, local_faults, heading_faults, procedure_by, procedure_scope, procedure_faults, global_faults, globals_faults, waiting_behind, unit_faults, main_scope}
-use Rattle.spl_meaning.specs.StatementRules.{body_faults}
-use Rattle.spl_meaning.specs.Sound.{IsSound, all_faults, faults_behind}
+use Rattle.spl_sorts.specs.spl_meaning.Names.{Sort, Table, find, within, nothing_declared, parameters, formals_of}
+use Rattle.spl_sorts.specs.spl_meaning.Tables.{Source, Routine, declared, shaped, with_declaration, routine_in, routines_among, routines_of}
+use Rattle.spl_sorts.specs.spl_meaning.Bodies.{all_routines}
+use Rattle.spl_sorts.specs.spl_meaning.Stops.{declaration_stops}
+use Rattle.spl_sorts.specs.spl_meaning.ExpressionRules.{Scope}
+use Rattle.spl_sorts.specs.spl_meaning.Faults.{Fault, unless, IsAmong}
+use Rattle.spl_sorts.specs.spl_meaning.DeclarationRules.{Around, Waiting, item_faults, items_faults, local_faults_of, local_faults, heading_faults, procedure_by, procedure_scope, procedure_faults, global_faults, globals_faults, waiting_behind, unit_faults, main_scope}
+use Rattle.spl_sorts.specs.spl_meaning.StatementRules.{body_faults}
+use Rattle.spl_sorts.specs.spl_meaning.Sound.{IsSound, all_faults, faults_behind}
 use Rattle.spl_places.specs.Held.{NewItems, NewIn, NewNames}
 use Rattle.spl_places.specs.Programs.{Each, NewInUnit, NewInRoutine, NewInAll}
 

@@ -1,7 +1,7 @@
 -- The words of items: where each stands, among those that are OWN or among the others.
 use Rattle.std.specs.Prelude.{◌≡◌, ◌≤◌, ◌⊎◌, ℕ, ◌+◌, Bool, true, false, nat_lt, if◌then◌else◌, [], ◌∷◌, ◌++◌}
-use Rattle.spl_meaning.specs.Names.{Sort, Table}
-use Rattle.spl_meaning.specs.Places.{Place, is_own, item_words, where_own, only, place_of}
+use Rattle.spl_sorts.specs.spl_meaning.Names.{Sort, Table}
+use Rattle.spl_sorts.specs.spl_meaning.Places.{Place, is_own, item_words, where_own, only, place_of}
 
 -- an item: whether it is OWN, its first word, and what it stands for
 pub record Spot : Type 0 where

@@ -1,9 +1,9 @@
 -- Sums of words that may pass a limit, as they run along items.
 use Rattle.std.specs.Prelude.{ℕ, ◌+◌, Bool, nat_lt, if◌then◌else◌, List, [], ◌∷◌, map, Option}
 use Rattle.spl_tree.specs.declared.names_and_places.At.{At}
-use Rattle.spl_meaning.specs.Names.{Sort}
-use Rattle.spl_meaning.specs.Places.{item_words, array_words, where_own, sum}
-use Rattle.spl_meaning.specs.Limits.{Full, Sized, sized, sooner_full}
+use Rattle.spl_sorts.specs.spl_meaning.Names.{Sort}
+use Rattle.spl_sorts.specs.spl_meaning.Places.{item_words, array_words, where_own, sum}
+use Rattle.spl_sorts.specs.spl_meaning.Limits.{Full, Sized, sized, sooner_full}
 use Rattle.spl_places.specs.declared.counters.Counter.{Counter}
 use Rattle.spl_places.specs.declared.counters.Part.{Part}
 use Rattle.spl_places.specs.declared.counters.Part.TheVariants as part

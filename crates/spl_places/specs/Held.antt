@@ -3,10 +3,10 @@ use Rattle.std.specs.Prelude.{◌≡◌, ℕ, Bool, true, false, List, [], ◌�
 use Rattle.spl_tree.specs.declared.expressions.Kind.{Kind}
 use Rattle.spl_tree.specs.DeclarationTrees as decl
 use Rattle.spl_tree.specs.DeclarationTrees.{Item, Declaration, Declarations}
-use Rattle.spl_meaning.specs.Names as n
-use Rattle.spl_meaning.specs.Names.{Names, Sort, Table, find, within}
-use Rattle.spl_meaning.specs.Tables.{declared, shaped, with_declaration}
-use Rattle.spl_meaning.specs.Places.{only}
+use Rattle.spl_sorts.specs.spl_meaning.Names as n
+use Rattle.spl_sorts.specs.spl_meaning.Names.{Names, Sort, Table, find, within}
+use Rattle.spl_sorts.specs.spl_meaning.Tables.{declared, shaped, with_declaration}
+use Rattle.spl_sorts.specs.spl_meaning.Places.{only}
 use Rattle.spl_places.specs.ListedData.{Datum}
 
 -- a variable, an array, a view or a pointer

@@ -1,9 +1,9 @@
 -- A list with its places, worked by hand: INTEGER A; OWN DOUBLE B; BYTE ARRAY C(-1:3); LOGICAL D, where OWN items begin at 10 and others at 1.
 use Rattle.std.specs.Prelude.{◌≡◌, pos, negsuc, true, false, [], ◌∷◌, refl}
 use Rattle.spl_tree.specs.declared.expressions.Kind.TheVariants as kind
-use Rattle.spl_meaning.specs.Names as n
-use Rattle.spl_meaning.specs.Names.{Sort, Table}
-use Rattle.spl_meaning.specs.Places.{list_words, list_array_words}
+use Rattle.spl_sorts.specs.spl_meaning.Names as n
+use Rattle.spl_sorts.specs.spl_meaning.Names.{Sort, Table}
+use Rattle.spl_sorts.specs.spl_meaning.Places.{list_words, list_array_words}
 use Rattle.spl_places.specs.Apart.{spots_from}
 
 -- the names are numbers for short

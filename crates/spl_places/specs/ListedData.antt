@@ -5,9 +5,9 @@ use Rattle.spl_tree.specs.declared.expressions.Kind.{Kind}
 use Rattle.spl_tree.specs.DeclarationTrees as decl
 use Rattle.spl_tree.specs.DeclarationTrees.{Item, Declaration, Declarations}
 use Rattle.spl_tree.specs.Views.{letters}
-use Rattle.spl_meaning.specs.Names.{Names, Sort}
-use Rattle.spl_meaning.specs.Tables.{shaped}
-use Rattle.spl_found.specs.OwnNames.{over, with_name, behind_declaration}
+use Rattle.spl_sorts.specs.spl_meaning.Names.{Names, Sort}
+use Rattle.spl_sorts.specs.spl_meaning.Tables.{shaped}
+use Rattle.spl_depths.specs.spl_found.OwnNames.{over, with_name, behind_declaration}
 use Rattle.spl_sorts.specs.Sorts.{sort_of}
 use Rattle.spl_places.specs.declared.data.Datum as code
 

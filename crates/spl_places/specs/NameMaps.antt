@@ -1,7 +1,7 @@
 -- Maps by names, and what names have in a list behind what they had.
 use Rattle.std.specs.Prelude.{ℕ, List, map, Option, option_map}
 use Rattle.arrayvec.specs.ArrayVec.{ArrayVec}
-use Rattle.spl_meaning.specs.Names.{Table, find, or_else}
+use Rattle.spl_sorts.specs.spl_meaning.Names.{Table, find, or_else}
 use Rattle.spl_places.specs.declared.name_maps.NameMap.{NameMap}
 
 -- a name with its value

@@ -1,7 +1,7 @@
 -- The limits that items pass, by lists of items.
 use Rattle.std.specs.Prelude.{◌+◌, true, false, List, ◌++◌}
-use Rattle.spl_meaning.specs.Places.{item_words, array_words}
-use Rattle.spl_meaning.specs.Limits.{Full, passing, most_primary, most_locals, most_data}
+use Rattle.spl_sorts.specs.spl_meaning.Places.{item_words, array_words}
+use Rattle.spl_sorts.specs.spl_meaning.Limits.{Full, passing, most_primary, most_locals, most_data}
 use Rattle.spl_places.specs.ListedData.{Datum}
 use Rattle.spl_places.specs.Counters.{sizes, total_words}
 

@@ -1,10 +1,10 @@
 -- The items of units and of procedures, and programs in whose lists no item of data stands behind its own name.
 use Rattle.std.specs.Prelude.{List, [], ◌∷◌, if◌then◌else◌}
 use Rattle.spl_tree.specs.DeclarationTrees.{declarations}
-use Rattle.spl_meaning.specs.Names.{find, nothing_declared, parameters, formals_of}
-use Rattle.spl_meaning.specs.Tables.{Source, Routine, outer_names}
-use Rattle.spl_meaning.specs.Limits.{joined}
-use Rattle.spl_meaning.specs.Bodies.{all_routines}
+use Rattle.spl_sorts.specs.spl_meaning.Names.{find, nothing_declared, parameters, formals_of}
+use Rattle.spl_sorts.specs.spl_meaning.Tables.{Source, Routine, outer_names}
+use Rattle.spl_sorts.specs.spl_meaning.Limits.{joined}
+use Rattle.spl_sorts.specs.spl_meaning.Bodies.{all_routines}
 use Rattle.spl_places.specs.ListedData.{Datum, list_data}
 use Rattle.spl_places.specs.Held.{NewNames}
 

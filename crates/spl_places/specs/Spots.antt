@@ -1,10 +1,10 @@
 -- Places as the code has them, and where the items of a list stand.
 use Rattle.std.specs.Prelude.{ℕ, ◌+◌, true, false, nat_lt, if◌then◌else◌, List, [], ◌∷◌, Option}
-use Rattle.spl_meaning.specs.Names as n
-use Rattle.spl_meaning.specs.Names.{Sort, Table, find}
-use Rattle.spl_meaning.specs.Places as p
-use Rattle.spl_meaning.specs.Places.{data_word, above_base, below_base, below_return, is_own, item_words, array_words, where_own, place_of}
-use Rattle.spl_found.specs.OwnNames.{with_name}
+use Rattle.spl_sorts.specs.spl_meaning.Names as n
+use Rattle.spl_sorts.specs.spl_meaning.Names.{Sort, Table, find}
+use Rattle.spl_sorts.specs.spl_meaning.Places as p
+use Rattle.spl_sorts.specs.spl_meaning.Places.{data_word, above_base, below_base, below_return, is_own, item_words, array_words, where_own, place_of}
+use Rattle.spl_depths.specs.spl_found.OwnNames.{with_name}
 use Rattle.spl_places.specs.declared.places.Place as code
 use Rattle.spl_places.specs.declared.places.Place.TheVariants as place
 use Rattle.spl_places.specs.declared.places.Area.{Area}

@@ -1,6 +1,6 @@
 //! Sums of words that may pass a limit.
 ghost use Rattle.std.specs.Prelude.{◌≡◌, OnOk, IfOk, map, false};
-ghost use Rattle.spl_meaning.specs.Places as places;
+ghost use Rattle.spl_sorts.specs.spl_meaning.Places as places;
 ghost use Rattle.spl_sorts.specs.Sorts.{sort_of};
 ghost use Rattle.spl_places.specs.ListedData.{datum_of};
 ghost use Rattle.spl_places.specs.Counters.{part_words, sizes, total_words, behind_words, found_words, behind, found};

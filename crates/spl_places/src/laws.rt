@@ -1,14 +1,14 @@
 //! Laws of lists of declarations, for who lays out a program and who generates code.
 ghost use Rattle.std.specs.Prelude.{◌≡◌, ◌++◌, ◌+◌, ℕ, List, map, option_map, Some, true, false};
 ghost use Rattle.spl_tree.specs.DeclarationTrees.{Declarations};
-ghost use Rattle.spl_meaning.specs.Names.{Names, Sort, Table, find, same_name};
-ghost use Rattle.spl_meaning.specs.Tables.{Source, Routine, with_declarations, routine_table};
+ghost use Rattle.spl_sorts.specs.spl_meaning.Names.{Names, Sort, Table, find, same_name};
+ghost use Rattle.spl_sorts.specs.spl_meaning.Tables.{Source, Routine, with_declarations, routine_table};
 ghost use Rattle.spl_places.specs.declared.places.Starts.{Starts};
 ghost use Rattle.spl_places.specs.Spots.{behind_data};
-ghost use Rattle.spl_meaning.specs.Places.{item_words, array_words, Place, places_from, arrays_from, list_words};
-ghost use Rattle.spl_meaning.specs.Bodies.{own_table};
-ghost use Rattle.spl_meaning.specs.Sound.{IsSound};
-ghost use Rattle.spl_meaning.specs.Limits.{all_data, global_limits, local_limits};
+ghost use Rattle.spl_sorts.specs.spl_meaning.Places.{item_words, array_words, Place, places_from, arrays_from, list_words};
+ghost use Rattle.spl_sorts.specs.spl_meaning.Bodies.{own_table};
+ghost use Rattle.spl_sorts.specs.spl_meaning.Sound.{IsSound};
+ghost use Rattle.spl_sorts.specs.spl_meaning.Limits.{all_data, global_limits, local_limits};
 ghost use Rattle.spl_places.specs.ListedData.{Datum, list_data};
 ghost use Rattle.spl_places.specs.Apart.{Spot, spots_from, place_at, Within, Apart};
 ghost use Rattle.spl_places.specs.Counters.{entry, total_words};

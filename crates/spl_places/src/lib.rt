@@ -18,4 +18,6 @@ pub use laws::{
 pub use limits::{global_limits, local_limits};
 pub use name_maps::NameMap;
 pub use places::{Area, Array, ListPlaces, Place, Starts, frame_starts, list_places};
+pub use spl_depths;
+pub use spl_lists;
 pub use words::{array_words, elements, elements_words, is_own, item_words};

@@ -1,6 +1,6 @@
 //! The limits that items pass: 1 the primary area, 2 the local items of a body, 4 data words.
 ghost use Rattle.std.specs.Prelude.{◌≡◌, OnOk, map};
-ghost use Rattle.spl_meaning.specs.Limits.{first_among};
+ghost use Rattle.spl_sorts.specs.spl_meaning.Limits.{first_among};
 ghost use Rattle.spl_places.specs.ListedData.{datum_of};
 ghost use Rattle.spl_places.specs.Passed.{global_passed, local_passed};
 

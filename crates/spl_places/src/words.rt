@@ -1,7 +1,7 @@
 //! The words of items and of arrays.
 ghost use Rattle.std.specs.Prelude.{◌≡◌, ◌+◌, IfOk};
-ghost use Rattle.spl_meaning.specs.Kinds.{width};
-ghost use Rattle.spl_meaning.specs.Places as places;
+ghost use Rattle.spl_sorts.specs.spl_meaning.Kinds.{width};
+ghost use Rattle.spl_sorts.specs.spl_meaning.Places as places;
 ghost use Rattle.spl_sorts.specs.Sorts.{sort_of};
 
 use spl_depths::plus;

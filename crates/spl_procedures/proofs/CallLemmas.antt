@@ -8,45 +8,45 @@ use Rattle.std.specs.Prelude.{Option, None, replicate, nat_lt, if◌then◌else�
 use Rattle.std.proofs.Math.Logic.{⊎_elim}
 use Rattle.std.proofs.lemmas.Bool.{ltb-true, ltb-false}
 use Rattle.std.proofs.lemmas.List.{append_assoc, length-append}
-use Rattle.hp_word.specs.declared.arithmetic.Code.{Code}
-use Rattle.hp_word.specs.declared.endings.Ending.TheVariants.{Running}
-use Rattle.hp_word.specs.declared.endings.Trap.TheVariants.{StackOverflow, Mode}
-use Rattle.hp_instr.specs.declared.instruction.Instr.{Instr}
-use Rattle.hp_instr.specs.declared.instruction.Instr.TheVariants as i
-use Rattle.hp_session.specs.State.{Machine, Outcome as Row}
-use Rattle.hp_call_rows.specs.CallRows.{marker, entered}
+use Rattle.hp_call_yields.specs.hp_word.declared.arithmetic.Code.{Code}
+use Rattle.hp_call_yields.specs.hp_word.declared.endings.Ending.TheVariants.{Running}
+use Rattle.hp_call_yields.specs.hp_word.declared.endings.Trap.TheVariants.{StackOverflow, Mode}
+use Rattle.hp_call_yields.specs.hp_instr.declared.instruction.Instr.{Instr}
+use Rattle.hp_call_yields.specs.hp_instr.declared.instruction.Instr.TheVariants as i
+use Rattle.hp_call_yields.specs.hp_session.State.{Machine, Outcome as Row}
+use Rattle.hp_call_yields.specs.hp_call_rows.CallRows.{marker, entered}
 use Rattle.hp_call_yields.proofs.CallYields as calls
-use Rattle.hp_flat.specs.Step.{at_left, ended}
-use Rattle.spl_body_code.specs.Frames.{EXIT, granted, zeroed}
-use Rattle.spl_branch.specs.declared.pieces.Piece.{Piece}
-use Rattle.spl_body_code.specs.Bodies.{frame_of, mode_entered, mode_left, procedure_entered, procedure_left}
-use Rattle.spl_body_code.specs.Cells.{cells_set, initials_set}
-use Rattle.spl_meaning.specs.Names.{Profile}
-use Rattle.spl_meaning.specs.Pending.{formals_words, result_words}
-use Rattle.spl_meaning.specs.References.{Setting}
-use Rattle.spl_meaning.specs.Statements.{run_body}
-use Rattle.spl_meaning.specs.Bodies.{Body}
-use Rattle.spl_meaning.specs.Runs as run
-use Rattle.spl_meaning.specs.Runs.{link_of, locals_of, procedure_framed, framed, returned, result_at, left_to, called_back}
-use Rattle.spl_meaning.specs.States.{Data, State, Begun, trapped, Outcome, done, ends, strays, then_go}
-use Rattle.spl_meaning.specs.Values.{Callee}
-use Rattle.spl_frames.specs.Entries.{data_zeroed}
-use Rattle.spl_follow.specs.Spots.{Spot, spot, pos, Point, on, Ground, next_word}
-use Rattle.spl_follow.specs.Leading.{Leads}
-use Rattle.spl_follow.specs.Matching.{Outer, outer, expected, Matches, Matched, Shows, Stand, Coded}
-use Rattle.spl_follow.specs.Following.{Rate, tally, tally_with, Follows, NoExit}
-use Rattle.spl_follow.specs.Doing.{body, calling, doing}
-use Rattle.spl_follow.specs.Standing.{Sites, Stands}
-use Rattle.spl_follow.specs.Parts.{Completes}
-use Rattle.spl_follow.specs.Rooms.{Grants}
-use Rattle.spl_follow.specs.Calling.{Link, Calling, IsResult}
-use Rattle.spl_follow.proofs.FollowLemmas.{then_follows, bind_follows, returned_follows}
-use Rattle.spl_follow.proofs.KeepLemmas.{kept_lower}
-use Rattle.spl_follow.proofs.PartLemmas.{stand_from_place}
-use Rattle.spl_follow.proofs.RowLemmas.{no_print, shown}
-use Rattle.spl_follow.proofs.StandLemmas.{stands_le}
-use Rattle.spl_follow.proofs.WayLemmas.{goes_none, goes_on, goes_wider, lead}
-use Rattle.spl_values.proofs.GiveLemmas.{last_leads}
+use Rattle.hp_call_yields.specs.hp_flat.Step.{at_left, ended}
+use Rattle.spl_grants.specs.spl_body_code.Frames.{EXIT, granted, zeroed}
+use Rattle.spl_grants.specs.spl_branch.declared.pieces.Piece.{Piece}
+use Rattle.spl_grants.specs.spl_body_code.Bodies.{frame_of, mode_entered, mode_left, procedure_entered, procedure_left}
+use Rattle.spl_grants.specs.spl_body_code.Cells.{cells_set, initials_set}
+use Rattle.spl_grants.specs.spl_meaning.Names.{Profile}
+use Rattle.spl_grants.specs.spl_meaning.Pending.{formals_words, result_words}
+use Rattle.spl_grants.specs.spl_meaning.References.{Setting}
+use Rattle.spl_grants.specs.spl_meaning.Statements.{run_body}
+use Rattle.spl_grants.specs.spl_meaning.Bodies.{Body}
+use Rattle.spl_grants.specs.spl_meaning.Runs as run
+use Rattle.spl_grants.specs.spl_meaning.Runs.{link_of, locals_of, procedure_framed, framed, returned, result_at, left_to, called_back}
+use Rattle.spl_grants.specs.spl_meaning.States.{Data, State, Begun, trapped, Outcome, done, ends, strays, then_go}
+use Rattle.spl_grants.specs.spl_meaning.Values.{Callee}
+use Rattle.hp_call_yields.specs.spl_frames.Entries.{data_zeroed}
+use Rattle.hp_call_yields.specs.spl_follow.Spots.{Spot, spot, pos, Point, on, Ground, next_word}
+use Rattle.hp_call_yields.specs.spl_follow.Leading.{Leads}
+use Rattle.hp_call_yields.specs.spl_follow.Matching.{Outer, outer, expected, Matches, Matched, Shows, Stand, Coded}
+use Rattle.hp_call_yields.specs.spl_follow.Following.{Rate, tally, tally_with, Follows, NoExit}
+use Rattle.hp_call_yields.specs.spl_follow.Doing.{body, calling, doing}
+use Rattle.hp_call_yields.specs.spl_follow.Standing.{Sites, Stands}
+use Rattle.hp_call_yields.specs.spl_follow.Parts.{Completes}
+use Rattle.hp_call_yields.specs.spl_follow.Rooms.{Grants}
+use Rattle.hp_call_yields.specs.spl_follow.Calling.{Link, Calling, IsResult}
+use Rattle.hp_call_yields.proofs.spl_follow_proofs.FollowLemmas.{then_follows, bind_follows, returned_follows}
+use Rattle.hp_call_yields.proofs.spl_follow_proofs.KeepLemmas.{kept_lower}
+use Rattle.hp_call_yields.proofs.spl_follow_proofs.PartLemmas.{stand_from_place}
+use Rattle.hp_call_yields.proofs.spl_follow_proofs.RowLemmas.{no_print, shown}
+use Rattle.hp_call_yields.proofs.spl_follow_proofs.StandLemmas.{stands_le}
+use Rattle.hp_call_yields.proofs.spl_follow_proofs.WayLemmas.{goes_none, goes_on, goes_wider, lead}
+use Rattle.spl_grants.proofs.spl_values_proofs.GiveLemmas.{last_leads}
 use Rattle.spl_grants.proofs.GrantLemmas.{pieces_grant}
 use Rattle.spl_procedures.specs.Procedures.{ProcedureFramed, procedure_setting, IsProcedure, HasLocals, AreSet, ProcedureStatementsFollow}
 use Rattle.spl_procedures.specs.Laws.{ProceduresAreCalled}

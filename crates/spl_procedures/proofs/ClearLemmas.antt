@@ -1,21 +1,21 @@
 -- No statement is due within the code around a procedure's statements.
 use Rattle.std.proofs.Common.{◌≡◌, ℕ, zero, suc, ◌-◌, ◌/◌, ◌%◌, Bool, true, false, List, [], ◌∷◌, ◌++◌, refl, ap, ◌∙◌}
 use Rattle.std.specs.Prelude.{ℤ, nat_lt, ◌&&◌, ◌==◌, min, replicate, if◌then◌else◌}
-use Rattle.hp_word.specs.Words.{word_of, double_of}
-use Rattle.hp_word.specs.Bytes.{high_word, low_word}
-use Rattle.spl_tree.specs.declared.expressions.Kind.{Kind}
-use Rattle.spl_tree.specs.declared.expressions.Kind.TheVariants as kind
-use Rattle.spl_meaning.specs.Places as p
-use Rattle.spl_meaning.specs.Places.{Cell, Initial, cell_word}
-use Rattle.spl_branch.specs.declared.pieces.Piece.{Piece}
-use Rattle.spl_code.specs.Constants.{constant}
-use Rattle.spl_code.specs.Instructions.{LDI, LDNI, LSL, ORI, STOR}
-use Rattle.spl_code.specs.Operands.{mode_of}
-use Rattle.spl_code.specs.Stores.{store}
-use Rattle.spl_body_code.specs.Frames.{ROOM, ADDS, granted, last_zeros, zeroed}
-use Rattle.spl_body_code.specs.Bodies.{mode_left}
-use Rattle.spl_body_code.specs.Cells.{LADD, base_pushed, cell_from, viewed, cell_set, cells_set, value_pushed, first_set, initials_set}
-use Rattle.spl_follow.specs.Standing.{due_behind, due_after}
+use Rattle.hp_call_yields.specs.hp_word.Words.{word_of, double_of}
+use Rattle.hp_call_yields.specs.hp_word.Bytes.{high_word, low_word}
+use Rattle.spl_grants.specs.spl_tree.declared.expressions.Kind.{Kind}
+use Rattle.spl_grants.specs.spl_tree.declared.expressions.Kind.TheVariants as kind
+use Rattle.spl_grants.specs.spl_meaning.Places as p
+use Rattle.spl_grants.specs.spl_meaning.Places.{Cell, Initial, cell_word}
+use Rattle.spl_grants.specs.spl_branch.declared.pieces.Piece.{Piece}
+use Rattle.spl_grants.specs.spl_code.Constants.{constant}
+use Rattle.spl_grants.specs.spl_code.Instructions.{LDI, LDNI, LSL, ORI, STOR}
+use Rattle.spl_grants.specs.spl_code.Operands.{mode_of}
+use Rattle.spl_grants.specs.spl_code.Stores.{store}
+use Rattle.spl_grants.specs.spl_body_code.Frames.{ROOM, ADDS, granted, last_zeros, zeroed}
+use Rattle.spl_grants.specs.spl_body_code.Bodies.{mode_left}
+use Rattle.spl_grants.specs.spl_body_code.Cells.{LADD, base_pushed, cell_from, viewed, cell_set, cells_set, value_pushed, first_set, initials_set}
+use Rattle.hp_call_yields.specs.spl_follow.Standing.{due_behind, due_after}
 
 -- nothing is due behind pieces where nothing was before them
 abbrev pub Clear : List Piece → Type 0

@@ -4,33 +4,33 @@ use Rattle.std.proofs.Common.{◌∙◌, arith, inl}
 use Rattle.std.specs.Prelude.{Option, replicate, ◌==◌, if◌then◌else◌, Ok}
 use Rattle.std.proofs.lemmas.Bool.{eqb-true}
 use Rattle.std.proofs.lemmas.List.{append-nil, append_assoc, length-append, length-replicate, replicate-append-replicate}
-use Rattle.hp_word.specs.declared.arithmetic.Code.{Code}
-use Rattle.hp_word.specs.declared.endings.Ending.TheVariants.{Running}
-use Rattle.hp_instr.specs.declared.instruction.Instr.TheVariants as i
-use Rattle.hp_session.specs.State.{Machine, Outcome as Row}
-use Rattle.hp_word_rows.specs.WordRows.{count_row, immediate_row}
-use Rattle.hp_flat.specs.Step.{at_left}
-use Rattle.hp_yields.proofs.WordYields as rows
-use Rattle.spl_body_code.specs.Frames.{ADDS, last_zeros, zeroed}
-use Rattle.spl_body_code.specs.Bodies.{mode_entered, mode_left}
-use Rattle.spl_body_code.specs.Cells.{cells_set, initials_set}
-use Rattle.spl_meaning.specs.Places.{Place, Cell, Initial, put, put_cells, put_initials}
-use Rattle.spl_meaning.specs.References.{address_of}
-use Rattle.spl_meaning.specs.Runs as run
-use Rattle.spl_meaning.specs.States.{Data, State, Exit, Outcome, done}
-use Rattle.spl_frames.specs.Entries.{zeros_put}
-use Rattle.spl_follow.specs.Spots.{Spot, spot, pos, landed, Point, on, Ground}
-use Rattle.spl_follow.specs.Leading.{Leads}
-use Rattle.spl_follow.specs.Matching.{Outer, outer, Shows, Coded}
-use Rattle.spl_follow.specs.Following.{Rate, Tally, tally, Goes, Follows, NoExit}
-use Rattle.spl_follow.specs.Doing.{going, doing}
-use Rattle.spl_follow.specs.Standing.{Sites, Stands}
-use Rattle.spl_follow.specs.Parts.{Completes}
-use Rattle.spl_follow.proofs.FollowLemmas.{spend_follows, widen}
-use Rattle.spl_follow.proofs.KeepLemmas.{kept_same}
-use Rattle.spl_follow.proofs.RowLemmas.{no_print}
-use Rattle.spl_follow.proofs.StandLemmas.{stands_le}
-use Rattle.spl_follow.proofs.WayLemmas.{goes_none, goes_on, goes_wider, lead}
+use Rattle.hp_call_yields.specs.hp_word.declared.arithmetic.Code.{Code}
+use Rattle.hp_call_yields.specs.hp_word.declared.endings.Ending.TheVariants.{Running}
+use Rattle.hp_call_yields.specs.hp_instr.declared.instruction.Instr.TheVariants as i
+use Rattle.hp_call_yields.specs.hp_session.State.{Machine, Outcome as Row}
+use Rattle.hp_call_yields.specs.hp_word_rows.WordRows.{count_row, immediate_row}
+use Rattle.hp_call_yields.specs.hp_flat.Step.{at_left}
+use Rattle.hp_call_yields.proofs.hp_yields_proofs.WordYields as rows
+use Rattle.spl_grants.specs.spl_body_code.Frames.{ADDS, last_zeros, zeroed}
+use Rattle.spl_grants.specs.spl_body_code.Bodies.{mode_entered, mode_left}
+use Rattle.spl_grants.specs.spl_body_code.Cells.{cells_set, initials_set}
+use Rattle.spl_grants.specs.spl_meaning.Places.{Place, Cell, Initial, put, put_cells, put_initials}
+use Rattle.spl_grants.specs.spl_meaning.References.{address_of}
+use Rattle.spl_grants.specs.spl_meaning.Runs as run
+use Rattle.spl_grants.specs.spl_meaning.States.{Data, State, Exit, Outcome, done}
+use Rattle.hp_call_yields.specs.spl_frames.Entries.{zeros_put}
+use Rattle.hp_call_yields.specs.spl_follow.Spots.{Spot, spot, pos, landed, Point, on, Ground}
+use Rattle.hp_call_yields.specs.spl_follow.Leading.{Leads}
+use Rattle.hp_call_yields.specs.spl_follow.Matching.{Outer, outer, Shows, Coded}
+use Rattle.hp_call_yields.specs.spl_follow.Following.{Rate, Tally, tally, Goes, Follows, NoExit}
+use Rattle.hp_call_yields.specs.spl_follow.Doing.{going, doing}
+use Rattle.hp_call_yields.specs.spl_follow.Standing.{Sites, Stands}
+use Rattle.hp_call_yields.specs.spl_follow.Parts.{Completes}
+use Rattle.hp_call_yields.proofs.spl_follow_proofs.FollowLemmas.{spend_follows, widen}
+use Rattle.hp_call_yields.proofs.spl_follow_proofs.KeepLemmas.{kept_same}
+use Rattle.hp_call_yields.proofs.spl_follow_proofs.RowLemmas.{no_print}
+use Rattle.hp_call_yields.proofs.spl_follow_proofs.StandLemmas.{stands_le}
+use Rattle.hp_call_yields.proofs.spl_follow_proofs.WayLemmas.{goes_none, goes_on, goes_wider, lead}
 use Rattle.spl_grants.proofs.StepLemmas.{all, step_goes}
 use Rattle.spl_procedures.specs.Procedures.{procedure_setting}
 use Rattle.spl_procedures.specs.Laws.{NoneAreSet}

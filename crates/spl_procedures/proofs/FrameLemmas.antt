@@ -8,17 +8,17 @@ use Rattle.std.specs.Prelude.{Some, None, is_some, replicate, slice_index}
 use Rattle.std.proofs.Math.Logic.{⊎_elim}
 use Rattle.std.proofs.lemmas.Bool.{false≢true}
 use Rattle.std.proofs.lemmas.List.{length-append, length-replicate, get_or-replicate}
-use Rattle.hp_session.specs.State.{Machine}
-use Rattle.spl_meaning.specs.Pending.{formals_words, result_words}
-use Rattle.spl_meaning.specs.References.{Setting}
-use Rattle.spl_meaning.specs.Bodies.{Body}
-use Rattle.spl_meaning.specs.Runs.{put_words, link_of, locals_of}
-use Rattle.spl_meaning.specs.States.{Data}
-use Rattle.spl_frames.specs.Words.{AreWords}
-use Rattle.spl_frames.specs.Entries.{data_zeroed}
-use Rattle.spl_follow.specs.Matching.{Outer, expected, Matches, Matched, Kept, Stand}
-use Rattle.spl_follow.proofs.StackLemmas.{stand_at}
-use Rattle.spl_follow.proofs.KeepLemmas.{above_none, small_join}
+use Rattle.hp_call_yields.specs.hp_session.State.{Machine}
+use Rattle.spl_grants.specs.spl_meaning.Pending.{formals_words, result_words}
+use Rattle.spl_grants.specs.spl_meaning.References.{Setting}
+use Rattle.spl_grants.specs.spl_meaning.Bodies.{Body}
+use Rattle.spl_grants.specs.spl_meaning.Runs.{put_words, link_of, locals_of}
+use Rattle.spl_grants.specs.spl_meaning.States.{Data}
+use Rattle.hp_call_yields.specs.spl_frames.Words.{AreWords}
+use Rattle.hp_call_yields.specs.spl_frames.Entries.{data_zeroed}
+use Rattle.hp_call_yields.specs.spl_follow.Matching.{Outer, expected, Matches, Matched, Kept, Stand}
+use Rattle.hp_call_yields.proofs.spl_follow_proofs.StackLemmas.{stand_at}
+use Rattle.hp_call_yields.proofs.spl_follow_proofs.KeepLemmas.{above_none, small_join}
 use Rattle.spl_procedures.specs.Procedures.{procedure_setting, HasLocals}
 use Rattle.spl_procedures.proofs.PutLemmas.{IsPut, words_cases, words_there, words_none, word_of_words, zeros_are_words, zeros_small}
 use Rattle.spl_procedures.proofs.PutLemmas.{behind, before}

@@ -8,32 +8,32 @@ use Rattle.std.proofs.Math.Logic.{⊎_elim}
 use Rattle.std.proofs.lemmas.Bool.{lt-ltb, ltb-true}
 use Rattle.std.proofs.lemmas.List.{length-take-le, get_or-take}
 use Rattle.std.proofs.lemmas.Option.{none-some}
-use Rattle.hp_word.specs.declared.endings.Ending.TheVariants.{Running}
-use Rattle.hp_word.specs.declared.endings.Trap.TheVariants.{Bounds}
-use Rattle.hp_instr.specs.declared.instruction.Instr.TheVariants as i
-use Rattle.hp_session.specs.State.{Machine, Outcome as Row, wrapped}
-use Rattle.hp_call_rows.specs.CallRows.{status, marker}
+use Rattle.hp_call_yields.specs.hp_word.declared.endings.Ending.TheVariants.{Running}
+use Rattle.hp_call_yields.specs.hp_word.declared.endings.Trap.TheVariants.{Bounds}
+use Rattle.hp_call_yields.specs.hp_instr.declared.instruction.Instr.TheVariants as i
+use Rattle.hp_call_yields.specs.hp_session.State.{Machine, Outcome as Row, wrapped}
+use Rattle.hp_call_yields.specs.hp_call_rows.CallRows.{status, marker}
 use Rattle.hp_call_yields.specs.Steps.{with_status_of}
 use Rattle.hp_call_yields.proofs.CallYields as calls
-use Rattle.hp_flat.specs.Step.{at_left, ended}
-use Rattle.spl_tree.specs.declared.expressions.Kind.{Kind}
-use Rattle.spl_meaning.specs.Names.{Profile}
-use Rattle.spl_meaning.specs.Kinds.{width, result_width}
-use Rattle.spl_meaning.specs.Operations.{result_value}
-use Rattle.spl_meaning.specs.Pending.{result_words}
-use Rattle.spl_meaning.specs.References.{Setting, data_word_read}
-use Rattle.spl_meaning.specs.Runs.{words_at, result_at, left_to}
-use Rattle.spl_meaning.specs.States.{Data, State, trapped, Outcome, done, ends, strays, then_go}
-use Rattle.spl_frames.specs.Words.{AreWords}
-use Rattle.spl_follow.specs.Spots.{Spot, spot, pos, on, Ground, next_word, Real}
-use Rattle.spl_follow.specs.Leading.{Leads}
-use Rattle.spl_follow.specs.Matching.{Outer, outer, expected, Matches, Matched, Kept, Stand, IsValue, Footing, footing, Lies}
-use Rattle.spl_follow.specs.Following.{Rate, tally, Goes}
-use Rattle.spl_follow.specs.Calling.{result_of}
-use Rattle.spl_follow.specs.Doing.{doing}
-use Rattle.spl_follow.proofs.StackLemmas.{stand_kept}
-use Rattle.spl_follow.proofs.WayLemmas.{lead}
-use Rattle.spl_follow.proofs.RowLemmas.{no_print, shown}
+use Rattle.hp_call_yields.specs.hp_flat.Step.{at_left, ended}
+use Rattle.spl_grants.specs.spl_tree.declared.expressions.Kind.{Kind}
+use Rattle.spl_grants.specs.spl_meaning.Names.{Profile}
+use Rattle.spl_grants.specs.spl_meaning.Kinds.{width, result_width}
+use Rattle.spl_grants.specs.spl_meaning.Operations.{result_value}
+use Rattle.spl_grants.specs.spl_meaning.Pending.{result_words}
+use Rattle.spl_grants.specs.spl_meaning.References.{Setting, data_word_read}
+use Rattle.spl_grants.specs.spl_meaning.Runs.{words_at, result_at, left_to}
+use Rattle.spl_grants.specs.spl_meaning.States.{Data, State, trapped, Outcome, done, ends, strays, then_go}
+use Rattle.hp_call_yields.specs.spl_frames.Words.{AreWords}
+use Rattle.hp_call_yields.specs.spl_follow.Spots.{Spot, spot, pos, on, Ground, next_word, Real}
+use Rattle.hp_call_yields.specs.spl_follow.Leading.{Leads}
+use Rattle.hp_call_yields.specs.spl_follow.Matching.{Outer, outer, expected, Matches, Matched, Kept, Stand, IsValue, Footing, footing, Lies}
+use Rattle.hp_call_yields.specs.spl_follow.Following.{Rate, tally, Goes}
+use Rattle.hp_call_yields.specs.spl_follow.Calling.{result_of}
+use Rattle.hp_call_yields.specs.spl_follow.Doing.{doing}
+use Rattle.hp_call_yields.proofs.spl_follow_proofs.StackLemmas.{stand_kept}
+use Rattle.hp_call_yields.proofs.spl_follow_proofs.WayLemmas.{lead}
+use Rattle.hp_call_yields.proofs.spl_follow_proofs.RowLemmas.{no_print, shown}
 use Rattle.spl_procedures.specs.Procedures.{procedure_setting}
 use Rattle.spl_procedures.proofs.FrameLemmas.{Over}
 

@@ -5,12 +5,12 @@ use Rattle.std.proofs.Math.Logic.{⊎_elim}
 use Rattle.std.proofs.lemmas.Bool.{false≢true, eq-eqb}
 use Rattle.std.proofs.lemmas.List.{get_or_append_left, get_or-append-add}
 use Rattle.std.proofs.lemmas.Option.{none-some}
-use Rattle.spl_meaning.specs.Places.{put}
-use Rattle.spl_meaning.specs.Runs.{put_words}
-use Rattle.spl_frames.specs.Words.{AreWords}
-use Rattle.spl_frames.specs.Entries.{zeros_put}
-use Rattle.spl_follow.specs.Matching.{Stand}
-use Rattle.spl_follow.proofs.RowLemmas.{put_cases}
+use Rattle.spl_grants.specs.spl_meaning.Places.{put}
+use Rattle.spl_grants.specs.spl_meaning.Runs.{put_words}
+use Rattle.hp_call_yields.specs.spl_frames.Words.{AreWords}
+use Rattle.hp_call_yields.specs.spl_frames.Entries.{zeros_put}
+use Rattle.hp_call_yields.specs.spl_follow.Matching.{Stand}
+use Rattle.hp_call_yields.proofs.spl_follow_proofs.RowLemmas.{put_cases}
 
 -- ---- words that are put
 

@@ -1,22 +1,22 @@
 -- The laws of this crate.
 use Rattle.std.specs.Prelude.{◌≡◌, ℕ, ◌+◌, ◌-◌, ◌≤◌, ◌<◌, false, List, []}
-use Rattle.hp_instr.specs.declared.instruction.Instr.TheVariants as i
-use Rattle.hp_session.specs.State.{Machine}
-use Rattle.spl_meaning.specs.References.{Setting}
-use Rattle.spl_meaning.specs.Names.{Table, profile_of}
-use Rattle.spl_meaning.specs.Tables.{Routine}
-use Rattle.spl_meaning.specs.Places.{Place}
-use Rattle.spl_meaning.specs.Pending.{formals_words}
-use Rattle.spl_meaning.specs.Bodies.{Body, procedure_body}
-use Rattle.spl_meaning.specs.Runs.{enter_procedure}
-use Rattle.spl_meaning.specs.States.{State, Begun}
-use Rattle.spl_meaning.specs.Values.{Callee}
-use Rattle.spl_follow.specs.Spots.{Spot, next_word, pos, Point, Ground}
-use Rattle.spl_follow.specs.Leading.{Leads}
-use Rattle.spl_follow.specs.Doing.{body, calling}
-use Rattle.spl_follow.specs.Following.{Rate, tally_with, Follows, NoExit}
-use Rattle.spl_follow.specs.Standing.{Sites}
-use Rattle.spl_follow.specs.Calling.{Link, Calling, IsResult}
+use Rattle.hp_call_yields.specs.hp_instr.declared.instruction.Instr.TheVariants as i
+use Rattle.hp_call_yields.specs.hp_session.State.{Machine}
+use Rattle.spl_grants.specs.spl_meaning.References.{Setting}
+use Rattle.spl_grants.specs.spl_meaning.Names.{Table, profile_of}
+use Rattle.spl_grants.specs.spl_meaning.Tables.{Routine}
+use Rattle.spl_grants.specs.spl_meaning.Places.{Place}
+use Rattle.spl_grants.specs.spl_meaning.Pending.{formals_words}
+use Rattle.spl_grants.specs.spl_meaning.Bodies.{Body, procedure_body}
+use Rattle.spl_grants.specs.spl_meaning.Runs.{enter_procedure}
+use Rattle.spl_grants.specs.spl_meaning.States.{State, Begun}
+use Rattle.spl_grants.specs.spl_meaning.Values.{Callee}
+use Rattle.hp_call_yields.specs.spl_follow.Spots.{Spot, next_word, pos, Point, Ground}
+use Rattle.hp_call_yields.specs.spl_follow.Leading.{Leads}
+use Rattle.hp_call_yields.specs.spl_follow.Doing.{body, calling}
+use Rattle.hp_call_yields.specs.spl_follow.Following.{Rate, tally_with, Follows, NoExit}
+use Rattle.hp_call_yields.specs.spl_follow.Standing.{Sites}
+use Rattle.hp_call_yields.specs.spl_follow.Calling.{Link, Calling, IsResult}
 use Rattle.spl_procedures.specs.Procedures.{ProcedureFramed, IsProcedure, AreSet, ProcedureStatementsFollow}
 
 -- A call of a procedure, from PCAL through the code at its entry and its statements to EXIT, is followed to the word behind it: its result

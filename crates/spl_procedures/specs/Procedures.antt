@@ -1,21 +1,21 @@
 -- What the code of a procedure does around its statements, and what is asked of the procedure and of its caller.
 use Rattle.std.specs.Prelude.{◌≡◌, ℕ, ◌+◌, ◌-◌, ◌≤◌, ◌<◌, Bool, true, false, is_some, ◌++◌, None}
-use Rattle.hp_session.specs.State.{Machine}
-use Rattle.spl_meaning.specs.Names.{Profile}
-use Rattle.spl_meaning.specs.Pending.{formals_words}
-use Rattle.spl_meaning.specs.References.{Setting}
-use Rattle.spl_meaning.specs.Statements.{run_body}
-use Rattle.spl_meaning.specs.Bodies.{Body, words_below}
-use Rattle.spl_meaning.specs.Runs as run
-use Rattle.spl_meaning.specs.States.{Data, State, done}
-use Rattle.spl_meaning.specs.Values.{Callee}
-use Rattle.spl_body_code.specs.Bodies.{frame_of, procedure_entered, procedure_left}
-use Rattle.spl_body_code.specs.Cells.{cells_set, initials_set}
-use Rattle.spl_follow.specs.Spots.{Spot, spot, pos, on, Ground}
-use Rattle.spl_follow.specs.Matching.{Matched}
-use Rattle.spl_follow.specs.Following.{Rate, tally, Follows, NoExit}
-use Rattle.spl_follow.specs.Standing.{Sites, Stands}
-use Rattle.spl_follow.specs.Parts.{Begins, Completes, Returning}
+use Rattle.hp_call_yields.specs.hp_session.State.{Machine}
+use Rattle.spl_grants.specs.spl_meaning.Names.{Profile}
+use Rattle.spl_grants.specs.spl_meaning.Pending.{formals_words}
+use Rattle.spl_grants.specs.spl_meaning.References.{Setting}
+use Rattle.spl_grants.specs.spl_meaning.Statements.{run_body}
+use Rattle.spl_grants.specs.spl_meaning.Bodies.{Body, words_below}
+use Rattle.spl_grants.specs.spl_meaning.Runs as run
+use Rattle.spl_grants.specs.spl_meaning.States.{Data, State, done}
+use Rattle.spl_grants.specs.spl_meaning.Values.{Callee}
+use Rattle.spl_grants.specs.spl_body_code.Bodies.{frame_of, procedure_entered, procedure_left}
+use Rattle.spl_grants.specs.spl_body_code.Cells.{cells_set, initials_set}
+use Rattle.hp_call_yields.specs.spl_follow.Spots.{Spot, spot, pos, on, Ground}
+use Rattle.hp_call_yields.specs.spl_follow.Matching.{Matched}
+use Rattle.hp_call_yields.specs.spl_follow.Following.{Rate, tally, Follows, NoExit}
+use Rattle.hp_call_yields.specs.spl_follow.Standing.{Sites, Stands}
+use Rattle.hp_call_yields.specs.spl_follow.Parts.{Begins, Completes, Returning}
 
 -- ---- the code around the statements
 

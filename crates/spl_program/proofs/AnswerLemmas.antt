@@ -6,14 +6,14 @@ use Rattle.spl_tree.specs.declared.names_and_places.Chars.{Chars}
 use Rattle.spl_tree.specs.declared.units.SplUnit.{SplUnit}
 use Rattle.spl_tree.specs.declared.names_and_places.At.{At}
 use Rattle.spl_cuts.specs.Signs.{Listed}
-use Rattle.spl_meaning.specs.Tables.{Source}
-use Rattle.spl_meaning.specs.Sound.{IsSound}
+use Rattle.spl_sound.specs.spl_meaning.Tables.{Source}
+use Rattle.spl_sound.specs.spl_meaning.Sound.{IsSound}
 use Rattle.spl_sound.specs.declared.units.Sound.{Sound}
 use Rattle.spl_sound.specs.Spelled.{source_of}
 use Rattle.spl_limits.specs.declared.faults.LimitFault.{LimitFault}
 use Rattle.spl_limits.specs.declared.faults.LimitFault.TheVariants as full
 use Rattle.spl_limits.specs.Answers.{IsFull}
-use Rattle.spl_meaning.specs.Limits.{first_full}
+use Rattle.spl_sound.specs.spl_meaning.Limits.{first_full}
 use Rattle.spl_program.specs.declared.faults.ProgramFault.{ProgramFault}
 use Rattle.spl_program.specs.declared.faults.ProgramFault.TheVariants as why
 use Rattle.spl_program.specs.Texts.{AreCut, AreUnits}

@@ -7,7 +7,7 @@ use Rattle.spl_cuts.specs.Signs.{Listed}
 use Rattle.spl_cuts.specs.Cutting.{CutsWithin}
 use Rattle.spl_cuts.specs.Whole.{IsWhole}
 use Rattle.spl_cuts.proofs.WholeLemmas.{cut_whole}
-use Rattle.spl_meaning.specs.Tables.{Source}
+use Rattle.spl_sound.specs.spl_meaning.Tables.{Source}
 use Rattle.spl_sound.specs.Spelled.{AreSpelled, Spelled}
 use Rattle.spl_program.specs.Texts.{AreCut, IsUncut, FirstUncut, IsSpelled, AreUnits, IsUnspelled, FirstUnspelled}
 use Rattle.spl_program.specs.Texts as t

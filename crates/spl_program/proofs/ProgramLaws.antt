@@ -12,15 +12,15 @@ use Rattle.spl_cuts.specs.Cutting.{CutsWithin, FirstFault}
 use Rattle.spl_cuts.specs.Reading.{read_text}
 use Rattle.spl_cuts.proofs.TextReads.{cuts_read, fault_is_read}
 use Rattle.spl_cuts.proofs.TextCuts.{faults_unique}
-use Rattle.spl_reading.specs.Readers.{Outcome, Got, Bad, Deep}
-use Rattle.spl_grammar.specs.Answers.{end_of}
-use Rattle.spl_grammar.proofs.VerdictLaws.{one_verdict}
+use Rattle.spl_sound.specs.spl_reading.Readers.{Outcome, Got, Bad, Deep}
+use Rattle.spl_sound.specs.spl_grammar.Answers.{end_of}
+use Rattle.spl_sound.proofs.spl_grammar_proofs.VerdictLaws.{one_verdict}
 use Rattle.spl_tree.specs.Expressions.{place}
-use Rattle.spl_meaning.specs.Tables.{Source}
-use Rattle.spl_meaning.specs.Faults.{Fault, fault}
-use Rattle.spl_meaning.specs.Limits.{Full, first_full}
-use Rattle.spl_meaning.specs.Sound.{IsSound, first_broken}
-use Rattle.spl_meaning.proofs.FirstFaults.{sound_is}
+use Rattle.spl_sound.specs.spl_meaning.Tables.{Source}
+use Rattle.spl_sound.specs.spl_meaning.Faults.{Fault, fault}
+use Rattle.spl_sound.specs.spl_meaning.Limits.{Full, first_full}
+use Rattle.spl_sound.specs.spl_meaning.Sound.{IsSound, first_broken}
+use Rattle.spl_sound.proofs.spl_meaning_proofs.FirstFaults.{sound_is}
 use Rattle.spl_program.specs.Kinds.{kind_of}
 use Rattle.spl_program.specs.declared.faults.ProgramFault.{ProgramFault}
 use Rattle.spl_program.specs.declared.faults.ProgramFault.TheVariants as why

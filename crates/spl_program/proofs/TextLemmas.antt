@@ -12,9 +12,9 @@ use Rattle.spl_tree.specs.Expressions.{place}
 use Rattle.spl_cuts.specs.Signs.{Listed}
 use Rattle.spl_cuts.specs.Whole.{IsWhole}
 use Rattle.spl_cuts.specs.Lexemes.{lexemes}
-use Rattle.spl_reading.specs.Readers.{Bad, Deep}
-use Rattle.spl_grammar.specs.Verdicts.{Verdict, spelled, refused, too_deep}
-use Rattle.spl_tokens.specs.declared.faults.ParseFault.TheVariants as parse
+use Rattle.spl_sound.specs.spl_reading.Readers.{Bad, Deep}
+use Rattle.spl_sound.specs.spl_grammar.Verdicts.{Verdict, spelled, refused, too_deep}
+use Rattle.spl_parser.specs.spl_tokens.declared.faults.ParseFault.TheVariants as parse
 use Rattle.spl_lexer.specs.TokenViews.{placed_of, listed_of}
 use Rattle.spl_parser.specs.Answers as pa
 use Rattle.spl_parser.specs.Answers.{tokens_of}

@@ -5,10 +5,10 @@ use Rattle.spl_tree.specs.declared.names_and_places.At.{At}
 use Rattle.spl_tree.specs.declared.fault_kinds.FaultKind.{FaultKind}
 use Rattle.spl_tree.specs.declared.names_and_places.Chars.{Chars}
 use Rattle.spl_cuts.specs.Signs.{Listed}
-use Rattle.spl_meaning.specs.Faults.{fault}
-use Rattle.spl_meaning.specs.Limits.{Full, first_full}
-use Rattle.spl_meaning.specs.Sound.{IsSound, first_broken}
-use Rattle.spl_meaning.specs.Tables.{Source}
+use Rattle.spl_sound.specs.spl_meaning.Faults.{fault}
+use Rattle.spl_sound.specs.spl_meaning.Limits.{Full, first_full}
+use Rattle.spl_sound.specs.spl_meaning.Sound.{IsSound, first_broken}
+use Rattle.spl_sound.specs.spl_meaning.Tables.{Source}
 use Rattle.spl_sound.specs.declared.units.Sound.{Sound}
 use Rattle.spl_sound.specs.Spelled.{source_of}
 use Rattle.spl_program.specs.declared.faults.ProgramFault.{ProgramFault}

@@ -3,11 +3,11 @@ use Rattle.std.specs.Prelude.{ℕ, ◌≡◌, ◌≤◌, ◌+◌, List, length, 
 use Rattle.std.specs.Vec.{vec_len}
 use Rattle.spl_tree.specs.declared.tokens.Lexed.{Lexed}
 use Rattle.spl_cuts.specs.Signs.{Listed}
-use Rattle.spl_grammar.specs.Ends.{Ended}
+use Rattle.spl_sound.specs.spl_grammar.Ends.{Ended}
 use Rattle.spl_parser.specs.Answers.{tokens_of}
-use Rattle.spl_meaning.specs.Faults.{fault}
-use Rattle.spl_meaning.specs.Sound.{first_broken}
-use Rattle.spl_meaning.specs.Tables.{Source}
+use Rattle.spl_sound.specs.spl_meaning.Faults.{fault}
+use Rattle.spl_sound.specs.spl_meaning.Sound.{first_broken}
+use Rattle.spl_sound.specs.spl_meaning.Tables.{Source}
 use Rattle.spl_program.specs.declared.faults.ProgramFault.{ProgramFault}
 use Rattle.spl_program.specs.declared.faults.ProgramFault.TheVariants as why
 use Rattle.spl_program.specs.Texts.{IsUncut, FirstUncut, IsUnspelled, FirstUnspelled}

@@ -9,9 +9,9 @@ use Rattle.spl_cuts.specs.declared.faults.LexKind.{LexKind}
 use Rattle.spl_cuts.specs.Signs.{Listed}
 use Rattle.spl_cuts.specs.Cutting.{CutsWithin, FirstFault}
 use Rattle.spl_cuts.specs.Lexemes.{lexemes}
-use Rattle.spl_reading.specs.Readers.{Got, Bad, Deep}
-use Rattle.spl_grammar.specs.Verdicts.{Verdict}
-use Rattle.spl_meaning.specs.Tables.{Source}
+use Rattle.spl_sound.specs.spl_reading.Readers.{Got, Bad, Deep}
+use Rattle.spl_sound.specs.spl_grammar.Verdicts.{Verdict}
+use Rattle.spl_sound.specs.spl_meaning.Tables.{Source}
 use Rattle.spl_program.specs.Kinds.{kind_of}
 
 -- the most tokens that may arise in a text

@@ -8,3 +8,4 @@ mod tests;
 
 pub use faults::ProgramFault;
 pub use reading::read_program;
+pub use spl_sound;

@@ -2,7 +2,7 @@
 ghost use Rattle.std.specs.Prelude.{◌≡◌, ◌≤◌, length, map, IfOk, IfErr, List};
 ghost use Rattle.spl_cuts.specs.Cutting.{CutsWithin};
 ghost use Rattle.spl_lexer.specs.TokenViews.{listed_of};
-ghost use Rattle.spl_meaning.specs.Tables.{Source};
+ghost use Rattle.spl_sound.specs.spl_meaning.Tables.{Source};
 ghost use Rattle.spl_sound.specs.Spelled.{AreSpelled, most_units, source_of};
 ghost use Rattle.spl_program.specs.declared.faults.ProgramFault as faults;
 ghost use Rattle.spl_program.specs.Texts.{most_tokens, AreCut, IsSpelled, AreUnits};

@@ -2,26 +2,26 @@
 use Rattle.std.proofs.Common.{◌≡◌, ℕ, zero, suc, ◌+◌, Bool, true, false, List, Option, Some, None, refl, ap, ◌∙◌}
 use Rattle.std.specs.Prelude.{◌&&◌}
 use Rattle.std.proofs.lemmas.Bool.{and_parts, not-true}
-use Rattle.spl_tree.specs.declared.expressions.Kind.{Kind}
-use Rattle.spl_tree.specs.declared.names_and_places.At.{At}
-use Rattle.spl_tree.specs.Trees as tree
-use Rattle.spl_tree.specs.Trees.{Tree, Trees}
-use Rattle.spl_tree.specs.StatementTrees as stat
-use Rattle.spl_tree.specs.StatementTrees.{Statement, Statements, Target, Effect, Test}
-use Rattle.spl_meaning.specs.Elements.{with_one, moved_by, moved_while, moved_text, scanned}
-use Rattle.spl_meaning.specs.Names as n
-use Rattle.spl_meaning.specs.Names.{Names, Sort, same_name, intrinsic_profile}
-use Rattle.spl_meaning.specs.Operations.{is_odd, kept}
-use Rattle.spl_meaning.specs.Pending.{behind_index, behind_first, behind_second, result_words}
-use Rattle.spl_meaning.specs.Places.{Place}
-use Rattle.spl_meaning.specs.References.{Here, Setting, Located, target_access, locate, locate_by, locate_target, store, store_field}
-use Rattle.spl_meaning.specs.Serving.{served}
-use Rattle.spl_meaning.specs.States.{State, Outcome, done, then_go, beginning, stopping, code_dropped}
-use Rattle.spl_meaning.specs.Statements.{target_index, reference_name, cell_stored, assigned, is_intrinsic, is_intrinsic_alone, target_keeps_code, intrinsic_value, alone_value, assign, value_dropped, call_statement, moved_far, effect_done, looping, repeating, condition, counting, loop_step, for_loop, bears, bears_among, landing, deciding, run, run_all, run_from, run_at, run_bearer, run_arm}
-use Rattle.spl_meaning.specs.Stops.{stops}
-use Rattle.spl_meaning.specs.Values.{Callee, Sense, a_constant, an_intrinsic, a_call, a_variable, sense_of, small_constant, value, located}
+use Rattle.spl_module_code.specs.spl_tree.declared.expressions.Kind.{Kind}
+use Rattle.spl_module_code.specs.spl_tree.declared.names_and_places.At.{At}
+use Rattle.spl_module_code.specs.spl_tree.Trees as tree
+use Rattle.spl_module_code.specs.spl_tree.Trees.{Tree, Trees}
+use Rattle.spl_module_code.specs.spl_tree.StatementTrees as stat
+use Rattle.spl_module_code.specs.spl_tree.StatementTrees.{Statement, Statements, Target, Effect, Test}
+use Rattle.spl_module_code.specs.spl_meaning.Elements.{with_one, moved_by, moved_while, moved_text, scanned}
+use Rattle.spl_module_code.specs.spl_meaning.Names as n
+use Rattle.spl_module_code.specs.spl_meaning.Names.{Names, Sort, same_name, intrinsic_profile}
+use Rattle.spl_module_code.specs.spl_meaning.Operations.{is_odd, kept}
+use Rattle.spl_module_code.specs.spl_meaning.Pending.{behind_index, behind_first, behind_second, result_words}
+use Rattle.spl_module_code.specs.spl_meaning.Places.{Place}
+use Rattle.spl_module_code.specs.spl_meaning.References.{Here, Setting, Located, target_access, locate, locate_by, locate_target, store, store_field}
+use Rattle.spl_module_code.specs.spl_meaning.Serving.{served}
+use Rattle.spl_module_code.specs.spl_meaning.States.{State, Outcome, done, then_go, beginning, stopping, code_dropped}
+use Rattle.spl_module_code.specs.spl_meaning.Statements.{target_index, reference_name, cell_stored, assigned, is_intrinsic, is_intrinsic_alone, target_keeps_code, intrinsic_value, alone_value, assign, value_dropped, call_statement, moved_far, effect_done, looping, repeating, condition, counting, loop_step, for_loop, bears, bears_among, landing, deciding, run, run_all, run_from, run_at, run_bearer, run_arm}
+use Rattle.spl_module_code.specs.spl_meaning.Stops.{stops}
+use Rattle.spl_module_code.specs.spl_meaning.Values.{Callee, Sense, a_constant, an_intrinsic, a_call, a_variable, sense_of, small_constant, value, located}
 use Rattle.spl_module_code.specs.Bodies.{is_called}
-use Rattle.spl_readings.specs.Readings.{here_with, PlaceAlike, is_plain_target, is_plain_statement, are_plain, BodiesReadAlike}
+use Rattle.spl_readings.specs.Readings.{here_with, PlaceAlike, is_plain_target, is_plain_statement, are_plain, BodiesReadAlike, StatementsReadAlike}
 use Rattle.spl_readings.proofs.ValueLemmas.{then_alike, each_alike, if_alike, one_alike, access_alike, locate_alike, value_alike, located_alike, index_alike, arguments_alike}
 
 -- ---- what begins
@@ -279,3 +279,7 @@ pub bodies_alike : BodiesReadAlike
 bodies_alike names results st one other call d number ss s alike plain =
     landing_alike d (bears_among ss) _ _ _ _ (λ x t. from_alike names results st one other call alike ss d number x 0 t plain)
     (all_alike names results st one other call alike ss d number 0 s plain)
+
+-- so are statements in order
+pub statements_alike : StatementsReadAlike
+statements_alike names results st one other call d number ss k s alike plain = all_alike names results st one other call alike ss d number k s plain

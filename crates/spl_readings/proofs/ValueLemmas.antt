@@ -1,20 +1,20 @@
 -- Expressions mean the same with either table of places.
 use Rattle.std.proofs.Common.{◌≡◌, ℕ, ◌+◌, Bool, true, false, List, [], ◌∷◌, ◌++◌, Option, Some, None, refl, ap, ◌∙◌}
 use Rattle.std.specs.Prelude.{◌&&◌, if◌then◌else◌}
-use Rattle.spl_tree.specs.declared.expressions.Kind.{Kind}
-use Rattle.spl_tree.specs.Trees as tree
-use Rattle.spl_tree.specs.Trees.{Tree, Trees}
-use Rattle.spl_meaning.specs.Elements.{with_one, compared_by, compared_text, relation_told}
-use Rattle.spl_meaning.specs.Kinds.{kind_of, operand_width, is_connective, compares_text, relation_number}
-use Rattle.spl_meaning.specs.Names as n
-use Rattle.spl_meaning.specs.Names.{Names, Sort, Formal, Profile}
-use Rattle.spl_meaning.specs.Operations.{joined, signed_done, shift_done, field_done, transferred}
-use Rattle.spl_meaning.specs.Pending.{result_words, formal_words}
-use Rattle.spl_meaning.specs.Places.{Place}
-use Rattle.spl_meaning.specs.References.{Here, Setting, Access, its_own, by_address, by_cell, its_result, nowhere, access_of, Located, own_located, passed_located, led_located, index_or_zero, locate_by, locate, read}
-use Rattle.spl_meaning.specs.States.{State, Outcome, done, then_go}
+use Rattle.spl_module_code.specs.spl_tree.declared.expressions.Kind.{Kind}
+use Rattle.spl_module_code.specs.spl_tree.Trees as tree
+use Rattle.spl_module_code.specs.spl_tree.Trees.{Tree, Trees}
+use Rattle.spl_module_code.specs.spl_meaning.Elements.{with_one, compared_by, compared_text, relation_told}
+use Rattle.spl_module_code.specs.spl_meaning.Kinds.{kind_of, operand_width, is_connective, compares_text, relation_number}
+use Rattle.spl_module_code.specs.spl_meaning.Names as n
+use Rattle.spl_module_code.specs.spl_meaning.Names.{Names, Sort, Formal, Profile}
+use Rattle.spl_module_code.specs.spl_meaning.Operations.{joined, signed_done, shift_done, field_done, transferred}
+use Rattle.spl_module_code.specs.spl_meaning.Pending.{result_words, formal_words}
+use Rattle.spl_module_code.specs.spl_meaning.Places.{Place}
+use Rattle.spl_module_code.specs.spl_meaning.References.{Here, Setting, Access, its_own, by_address, by_cell, its_result, nowhere, access_of, Located, own_located, passed_located, led_located, index_or_zero, locate_by, locate, read}
+use Rattle.spl_module_code.specs.spl_meaning.States.{State, Outcome, done, then_go}
 use Rattle.spl_values.proofs.WholeLemmas.{then_same}
-use Rattle.spl_meaning.specs.Values.{Callee, Sense, a_constant, an_intrinsic, a_call, a_variable, sense_of, as_index, named_value, address_done, connected, text_bytes, argument, value, located, index, arguments, small_constant}
+use Rattle.spl_module_code.specs.spl_meaning.Values.{Callee, Sense, a_constant, an_intrinsic, a_call, a_variable, sense_of, as_index, named_value, address_done, connected, text_bytes, argument, value, located, index, arguments, small_constant}
 use Rattle.spl_module_code.specs.Bodies.{is_called}
 use Rattle.spl_readings.specs.Readings.{here_with, PlaceAlike}
 

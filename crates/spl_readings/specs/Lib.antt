@@ -1,2 +1,11 @@
 -- In reading order.
 pub mod Readings
+-- Passed on from the crates below.
+pub use Rattle.spl_module_code.specs.spl_body_code
+pub use Rattle.spl_module_code.specs.spl_branch
+pub use Rattle.spl_module_code.specs as spl_module_code
+pub use Rattle.spl_module_code.specs.spl_modules
+pub use Rattle.spl_module_code.specs.spl_places
+pub use Rattle.spl_module_code.specs.spl_scopes
+pub use Rattle.spl_module_code.specs.spl_statement_code
+pub use Rattle.spl_module_code.specs.spl_tree

@@ -1,14 +1,14 @@
 -- What a body's parts read: names with words stand somewhere, and the place that a procedure's or a subroutine's name is given does not matter.
 use Rattle.std.specs.Prelude.{◌≡◌, ℕ, ◌&&◌, not, Bool, true, false, List, Option}
-use Rattle.spl_tree.specs.declared.expressions.Kind.{Kind}
-use Rattle.spl_tree.specs.StatementTrees as stat
-use Rattle.spl_tree.specs.StatementTrees.{Statement, Statements, Target}
-use Rattle.spl_meaning.specs.Names.{Names}
-use Rattle.spl_meaning.specs.Places.{Place}
-use Rattle.spl_meaning.specs.References.{Here, Setting}
-use Rattle.spl_meaning.specs.States.{State}
-use Rattle.spl_meaning.specs.Statements.{run_body}
-use Rattle.spl_meaning.specs.Values.{Callee}
+use Rattle.spl_module_code.specs.spl_tree.declared.expressions.Kind.{Kind}
+use Rattle.spl_module_code.specs.spl_tree.StatementTrees as stat
+use Rattle.spl_module_code.specs.spl_tree.StatementTrees.{Statement, Statements, Target}
+use Rattle.spl_module_code.specs.spl_meaning.Names.{Names}
+use Rattle.spl_module_code.specs.spl_meaning.Places.{Place}
+use Rattle.spl_module_code.specs.spl_meaning.References.{Here, Setting}
+use Rattle.spl_module_code.specs.spl_meaning.States.{State}
+use Rattle.spl_module_code.specs.spl_meaning.Statements.{run_all, run_body}
+use Rattle.spl_module_code.specs.spl_meaning.Values.{Callee}
 use Rattle.spl_module_code.specs.Bodies.{is_called}
 
 -- what a body's parts are read with, by its places
@@ -48,3 +48,9 @@ abbrev pub BodiesReadAlike : Type 0
 BodiesReadAlike = (names : Names) (results : List ℕ → Option (Kind × Place)) (st : Setting) (one other : List ℕ → Option Place) (call : Callee)
     (d number : ℕ) (ss : Statements) (s : State) → PlaceAlike names one other → are_plain names ss ≡ true
     → run_body (here_with names results st one) call d number ss s ≡ run_body (here_with names results st other) call d number ss s
+
+-- And so do statements in order that take no jump, as that of a subroutine, while so many words wait.
+abbrev pub StatementsReadAlike : Type 0
+StatementsReadAlike = (names : Names) (results : List ℕ → Option (Kind × Place)) (st : Setting) (one other : List ℕ → Option Place) (call : Callee)
+    (d number : ℕ) (ss : Statements) (k : ℕ) (s : State) → PlaceAlike names one other → are_plain names ss ≡ true
+    → run_all (here_with names results st one) call d number ss k s ≡ run_all (here_with names results st other) call d number ss k s

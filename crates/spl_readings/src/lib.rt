@@ -3,4 +3,4 @@
 
 mod laws;
 
-pub use laws::bodies_read_alike;
+pub use laws::{bodies_read_alike, statements_read_alike};

@@ -3,15 +3,15 @@ use Rattle.std.proofs.Common.{ℕ, ◌≡◌, ◌+◌, false, List, [], ◌∷�
 use Rattle.spl_tree.specs.StatementTrees.{statements}
 use Rattle.spl_tree.specs.DeclarationTrees as decl
 use Rattle.spl_tree.specs.DeclarationTrees.{Declaration, Declarations, declarations}
-use Rattle.spl_meaning.specs.Names.{Names, Sort, Table, find, nothing_declared, parameters, formals_of, profile_of}
-use Rattle.spl_meaning.specs.Tables.{Source, Routine, with_declaration, routine_in, routines_among, routines_of, routine_table, subroutine_in, subroutines_among, unit_table}
-use Rattle.spl_meaning.specs.Places.{array_words, list_words, list_array_words}
-use Rattle.spl_meaning.specs.Pending.{depth}
-use Rattle.spl_meaning.specs.Bodies.{all_routines, marker_gap}
-use Rattle.spl_meaning.specs.Stops.{declaration_stops}
-use Rattle.spl_meaning.specs.Limits.{joined}
-use Rattle.spl_found.specs.OwnNames.{over, behind_declarations}
-use Rattle.spl_found.proofs.OwnNames.{find_declaration, find_declarations}
+use Rattle.spl_sound.specs.spl_meaning.Names.{Names, Sort, Table, find, nothing_declared, parameters, formals_of, profile_of}
+use Rattle.spl_sound.specs.spl_meaning.Tables.{Source, Routine, with_declaration, routine_in, routines_among, routines_of, routine_table, subroutine_in, subroutines_among, unit_table}
+use Rattle.spl_sound.specs.spl_meaning.Places.{array_words, list_words, list_array_words}
+use Rattle.spl_sound.specs.spl_meaning.Pending.{depth}
+use Rattle.spl_sound.specs.spl_meaning.Bodies.{all_routines, marker_gap}
+use Rattle.spl_sound.specs.spl_meaning.Stops.{declaration_stops}
+use Rattle.spl_sound.specs.spl_meaning.Limits.{joined}
+use Rattle.spl_places.specs.spl_found.OwnNames.{over, behind_declarations}
+use Rattle.spl_places.proofs.spl_found_proofs.OwnNames.{find_declaration, find_declarations}
 use Rattle.spl_places.specs.Counters.{total_words}
 use Rattle.spl_places.specs.Programs.{routine_items, Each, NewInRoutine}
 use Rattle.spl_places.proofs.ProgramLaws.{routine_held, item_words_held, array_words_held}

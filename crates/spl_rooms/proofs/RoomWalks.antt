@@ -6,10 +6,10 @@ use Rattle.spl_tree.specs.declared.units.SplUnit.{SplUnit}
 use Rattle.spl_tree.specs.DeclarationTrees.{declarations}
 use Rattle.spl_tree.specs.Spells.{declaration}
 use Rattle.spl_tree.specs.Views.{statement}
-use Rattle.spl_meaning.specs.Names.{Names, Sort, or_else, nothing_declared}
-use Rattle.spl_found.specs.OwnNames.{over, behind_declaration, behind_declarations}
-use Rattle.spl_lists.proofs.NameWalks.{onward, onward_end}
-use Rattle.spl_meaning.specs.Limits.{joined}
+use Rattle.spl_sound.specs.spl_meaning.Names.{Names, Sort, or_else, nothing_declared}
+use Rattle.spl_places.specs.spl_found.OwnNames.{over, behind_declaration, behind_declarations}
+use Rattle.spl_places.proofs.spl_lists_proofs.NameWalks.{onward, onward_end}
+use Rattle.spl_sound.specs.spl_meaning.Limits.{joined}
 use Rattle.spl_sound.specs.Spelled.{source_of}
 use Rattle.spl_rooms.specs.declared.room_type.Room.{Room}
 use Rattle.spl_rooms.specs.Walked.{inner_rooms, subroutines_rooms, body_depth, main_rooms, global_rooms, globals_rooms, unit_rooms}

@@ -2,12 +2,12 @@
 use Rattle.std.specs.Prelude.{◌+◌, false, if◌then◌else◌, List, [], ◌∷◌, ◌++◌, map, None}
 use Rattle.spl_tree.specs.StatementTrees as stat
 use Rattle.spl_tree.specs.StatementTrees.{statements}
-use Rattle.spl_meaning.specs.Names.{Names, find, profile_of}
-use Rattle.spl_meaning.specs.Tables.{Source, Routine, Subroutine, unit_table, routines_of, routine_table, routine_names, routine_subroutines, unit_subroutines, subroutine_names}
-use Rattle.spl_meaning.specs.Places.{list_words, list_array_words}
-use Rattle.spl_meaning.specs.Pending.{depth}
-use Rattle.spl_meaning.specs.Bodies.{marker_gap}
-use Rattle.spl_meaning.specs.Limits.{joined}
+use Rattle.spl_sound.specs.spl_meaning.Names.{Names, find, profile_of}
+use Rattle.spl_sound.specs.spl_meaning.Tables.{Source, Routine, Subroutine, unit_table, routines_of, routine_table, routine_names, routine_subroutines, unit_subroutines, subroutine_names}
+use Rattle.spl_sound.specs.spl_meaning.Places.{list_words, list_array_words}
+use Rattle.spl_sound.specs.spl_meaning.Pending.{depth}
+use Rattle.spl_sound.specs.spl_meaning.Bodies.{marker_gap}
+use Rattle.spl_sound.specs.spl_meaning.Limits.{joined}
 use Rattle.spl_formals.specs.ResultWords.{result_at}
 use Rattle.spl_rooms.specs.declared.room_type.Room.{Room}
 

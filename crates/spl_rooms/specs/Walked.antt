@@ -4,12 +4,12 @@ use Rattle.spl_tree.specs.StatementTrees as stat
 use Rattle.spl_tree.specs.StatementTrees.{Statement, statements}
 use Rattle.spl_tree.specs.DeclarationTrees as decl
 use Rattle.spl_tree.specs.DeclarationTrees.{Heading, Declaration, Declarations, declarations}
-use Rattle.spl_meaning.specs.Names.{Names, find, nothing_declared, parameters, formals_of, profile_of}
-use Rattle.spl_meaning.specs.Tables.{Source}
-use Rattle.spl_meaning.specs.Places.{item_words, array_words}
-use Rattle.spl_meaning.specs.Pending.{depth}
-use Rattle.spl_meaning.specs.Bodies.{marker_gap}
-use Rattle.spl_found.specs.OwnNames.{over, behind_declaration, behind_declarations}
+use Rattle.spl_sound.specs.spl_meaning.Names.{Names, find, nothing_declared, parameters, formals_of, profile_of}
+use Rattle.spl_sound.specs.spl_meaning.Tables.{Source}
+use Rattle.spl_sound.specs.spl_meaning.Places.{item_words, array_words}
+use Rattle.spl_sound.specs.spl_meaning.Pending.{depth}
+use Rattle.spl_sound.specs.spl_meaning.Bodies.{marker_gap}
+use Rattle.spl_places.specs.spl_found.OwnNames.{over, behind_declaration, behind_declarations}
 use Rattle.spl_places.specs.ListedData.{Datum, list_data}
 use Rattle.spl_places.specs.Counters.{total_words}
 use Rattle.spl_formals.specs.ResultWords.{result_at}

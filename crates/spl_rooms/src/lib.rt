@@ -6,4 +6,5 @@ mod room_type;
 mod units;
 
 pub use room_type::Room;
+pub use spl_formals;
 pub use units::rooms;

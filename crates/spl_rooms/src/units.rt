@@ -2,11 +2,11 @@
 ghost use Rattle.std.specs.Prelude.{◌≡◌, ◌++◌, OnOk, IfOk, map};
 ghost use Rattle.spl_tree.specs.DeclarationTrees as decl;
 ghost use Rattle.spl_tree.specs.Spells as view;
-ghost use Rattle.spl_meaning.specs.Names.{find, nothing_declared};
+ghost use Rattle.spl_sound.specs.spl_meaning.Names.{find, nothing_declared};
 ghost use Rattle.spl_sorts.specs.Tables.{table_of};
-ghost use Rattle.spl_meaning.specs.Limits.{joined};
+ghost use Rattle.spl_sound.specs.spl_meaning.Limits.{joined};
 ghost use Rattle.spl_sound.specs.Spelled.{source_of};
-ghost use Rattle.spl_found.specs.OwnNames.{behind_declarations};
+ghost use Rattle.spl_places.specs.spl_found.OwnNames.{behind_declarations};
 ghost use Rattle.spl_places.specs.Programs.{NewInAll};
 ghost use Rattle.spl_rooms.specs.Walked as walked;
 ghost use Rattle.spl_rooms.specs.Rooms as defined;

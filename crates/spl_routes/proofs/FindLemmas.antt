@@ -4,25 +4,25 @@
 -- 3. so a define that is called by name starts its procedure   (define_finds), and an entry of the module leads there (own_finds)
 use Rattle.std.proofs.Common.{◌≡◌, ℕ, zero, suc, ◌+◌, Bool, true, false, List, [], ◌∷◌, ◌++◌, Option, Some, refl, sym, ap, subst, ◌∙◌, arith}
 use Rattle.std.specs.Prelude.{slice_get, unwrap_or, if◌then◌else◌}
-use Rattle.hp_program.specs.declared.program.Program.{Program}
-use Rattle.hp_steady.specs.Laws.{WordsAreNear}
-use Rattle.spl_tree.specs.DeclarationTrees.{declarations}
-use Rattle.spl_meaning.specs.Names.{find, same_name}
-use Rattle.spl_meaning.specs.Places.{only}
-use Rattle.spl_meaning.specs.Tables.{Source, routines_of}
-use Rattle.spl_branch.specs.declared.modules.Define.{Define}
-use Rattle.spl_branch.specs.declared.modules.Module.{Module}
-use Rattle.spl_branch.specs.Modules.{define_of}
-use Rattle.spl_scopes.specs.Entries.{routine, Entry, is_callable, indexes, procedure_index, module_entries}
-use Rattle.spl_scopes.specs.Scopes.{Placed, first_reached, placed_units, global_places, routine_bodies, segment_of, body_segment}
-use Rattle.spl_modules.specs.Made.{Made, made_of, made_from}
-use Rattle.mpe_segmenter.specs.Names.{parts}
-use Rattle.mpe_segmenter.specs.Counts.{sizes}
-use Rattle.mpe_segmenter.proofs.PartLemmas.{equal_is}
-use Rattle.mpe_segmenter.proofs.ValidLemmas.{got_map}
-use Rattle.spl_follow.specs.Doing.{Way, gate, body}
-use Rattle.spl_ways.specs.Ways.{word_of}
-use Rattle.spl_ways.proofs.WayLemmas.{define_leads}
+use Rattle.spl_routines.specs.hp_program.declared.program.Program.{Program}
+use Rattle.spl_routines.specs.hp_steady.Laws.{WordsAreNear}
+use Rattle.spl_routines.specs.spl_tree.DeclarationTrees.{declarations}
+use Rattle.spl_routines.specs.spl_meaning.Names.{find, same_name}
+use Rattle.spl_routines.specs.spl_meaning.Places.{only}
+use Rattle.spl_routines.specs.spl_meaning.Tables.{Source, routines_of}
+use Rattle.spl_routines.specs.spl_branch.declared.modules.Define.{Define}
+use Rattle.spl_routines.specs.spl_branch.declared.modules.Module.{Module}
+use Rattle.spl_routines.specs.spl_branch.Modules.{define_of}
+use Rattle.spl_routines.specs.spl_scopes.Entries.{routine, Entry, is_callable, indexes, procedure_index, module_entries}
+use Rattle.spl_routines.specs.spl_scopes.Scopes.{Placed, first_reached, placed_units, global_places, routine_bodies, segment_of, body_segment}
+use Rattle.spl_routines.specs.spl_modules.Made.{Made, made_of, made_from}
+use Rattle.spl_routines.specs.mpe_segmenter.Names.{parts}
+use Rattle.spl_routines.specs.mpe_segmenter.Counts.{sizes}
+use Rattle.spl_routines.proofs.mpe_segmenter_proofs.PartLemmas.{equal_is}
+use Rattle.spl_routines.proofs.mpe_segmenter_proofs.ValidLemmas.{got_map}
+use Rattle.spl_routines.specs.spl_follow.Doing.{Way, gate, body}
+use Rattle.spl_routines.specs.spl_ways.Ways.{word_of}
+use Rattle.spl_routines.proofs.spl_ways_proofs.WayLemmas.{define_leads}
 use Rattle.spl_routines.specs.Among.{IsIn}
 use Rattle.spl_routines.specs.Located.{MadeOf, Located, sites_at}
 use Rattle.spl_routines.specs.Routines.{RoutineStands}
@@ -96,7 +96,7 @@ pub record DefineIs {ms : List Module} {q : Placed} {g : ℕ} (at : Located ms q
   pub offset : d.offset ≡ at.finished.marks index
 
 module _ {ms : List Module} {q : Placed} {g : ℕ} (at : Located ms q g) where
-  define_is : (index : ℕ) (d : Define) → slice_get at.here.defines.items index ≡ Some d → DefineIs at index d
+  pub define_is : (index : ℕ) (d : Define) → slice_get at.here.defines.items index ≡ Some d → DefineIs at index d
   define_is index d there =
       let c = of_map (define_of at.finished.marks) at.of.code.entries.items index d
       (ap (λ (ds : List Define). slice_get ds index) (sym at.finished.defines) ∙ there) in
@@ -111,7 +111,7 @@ module _ {ms : List Module} {q : Placed} {g : ℕ} (at : Located ms q g) where
         offset = ap (λ (x : Define). x.offset) (sym c.2) ∙ ap (λ (m : Made). at.finished.marks m.mark) made.2 ∙ ap at.finished.marks place;
       }
 
-  define_there : (index : ℕ) (e : Entry) → slice_get (module_entries q.unit g) index ≡ Some e → (d : Define) × (slice_get at.here.defines.items index ≡ Some d)
+  pub define_there : (index : ℕ) (e : Entry) → slice_get (module_entries q.unit g) index ≡ Some e → (d : Define) × (slice_get at.here.defines.items index ≡ Some d)
   define_there index e there =
       let made = made_there 0 (module_entries q.unit g) index e there in
       let c = of_map made_of at.of.code.entries.items index made.0 (ap (λ (es : List Made). slice_get es index) at.of.is.entries ∙ made.1) in (

@@ -1,13 +1,13 @@
 -- The procedures of units that break no rule, as bodies.
 use Rattle.std.proofs.Common.{◌≡◌, ℕ, zero, suc, ◌+◌, true, List, [], ◌∷◌, Option, Some, None, refl, ap, subst}
 use Rattle.std.specs.Prelude.{slice_get}
-use Rattle.spl_tree.specs.StatementTrees.{Statements, statements}
-use Rattle.spl_meaning.specs.Names.{Table}
-use Rattle.spl_meaning.specs.Tables.{Routine, routines_of, routine_table}
-use Rattle.spl_meaning.specs.Places.{Place, list_words, list_array_words}
-use Rattle.spl_meaning.specs.Bodies.{Named, named_bodies}
-use Rattle.spl_places.specs.Programs.{Each}
-use Rattle.spl_scopes.specs.Scopes.{first_reached, global_places}
+use Rattle.spl_routines.specs.spl_tree.StatementTrees.{Statements, statements}
+use Rattle.spl_routines.specs.spl_meaning.Names.{Table}
+use Rattle.spl_routines.specs.spl_meaning.Tables.{Routine, routines_of, routine_table}
+use Rattle.spl_routines.specs.spl_meaning.Places.{Place, list_words, list_array_words}
+use Rattle.spl_routines.specs.spl_meaning.Bodies.{Named, named_bodies}
+use Rattle.spl_sound_jumps.specs.spl_places.Programs.{Each}
+use Rattle.spl_routines.specs.spl_scopes.Scopes.{first_reached, global_places}
 use Rattle.spl_sound_jumps.specs.Laws.{Lands, LandsInRoutine, LandsInRoutines, SoundRoutinesLand}
 use Rattle.spl_routines.proofs.ListLemmas.{one_there}
 use Rattle.spl_routines.proofs.BodyLemmas.{each_placed}

@@ -2,14 +2,14 @@
 use Rattle.std.proofs.Common.{◌≡◌, ℕ, Bool, true, false, List, [], ◌∷◌, Some, refl, sym, ap, subst, ◌∙◌}
 use Rattle.std.specs.Prelude.{◌||◌, not, slice_get, if◌then◌else◌}
 use Rattle.std.proofs.lemmas.Bool.{and_parts, false≢true, not-true}
-use Rattle.spl_meaning.specs.Names.{same_name}
-use Rattle.spl_meaning.specs.Tables.{Source}
-use Rattle.spl_meaning.specs.Limits.{joined}
-use Rattle.spl_meaning.specs.Bodies.{Named, body_named, program_of}
-use Rattle.spl_scopes.specs.Scopes.{Placed, first_reached, placed_units, routine_bodies}
-use Rattle.spl_scopes.proofs.ProgramLaws.{procedures_of_units}
-use Rattle.mpe_segmenter.proofs.PartLemmas.{equal_is}
-use Rattle.mpe_segmenter.proofs.NameLemmas.{same_self}
+use Rattle.spl_routines.specs.spl_meaning.Names.{same_name}
+use Rattle.spl_routines.specs.spl_meaning.Tables.{Source}
+use Rattle.spl_routines.specs.spl_meaning.Limits.{joined}
+use Rattle.spl_routines.specs.spl_meaning.Bodies.{Named, body_named, program_of}
+use Rattle.spl_routines.specs.spl_scopes.Scopes.{Placed, first_reached, placed_units, routine_bodies}
+use Rattle.spl_routines.proofs.spl_scopes_proofs.ProgramLaws.{procedures_of_units}
+use Rattle.spl_routines.proofs.mpe_segmenter_proofs.PartLemmas.{equal_is}
+use Rattle.spl_routines.proofs.mpe_segmenter_proofs.NameLemmas.{same_self}
 use Rattle.spl_routines.specs.Among.{IsIn, at_front, behind}
 use Rattle.spl_routes.specs.Unique.{has_named, are_apart, are_unique}
 use Rattle.spl_routines.proofs.ListLemmas.{in_left, in_right, in_place}

@@ -6,40 +6,40 @@ use Rattle.std.proofs.Common.{◌≡◌, ℕ, zero, suc, ◌+◌, Bool, true, fa
 use Rattle.std.specs.Prelude.{◌&&◌, not, slice_get, option_map, unwrap_or, if◌then◌else◌}
 use Rattle.std.proofs.lemmas.Bool.{and_parts, false≢true, ne_eqb}
 use Rattle.std.proofs.lemmas.Option.{get_or_from_slice_get}
-use Rattle.hp_instr.specs.declared.labels.Label.{Label}
-use Rattle.hp_instr.specs.declared.labels.Label.TheVariants.{Local, External}
-use Rattle.hp_instr.specs.Labels.{label}
-use Rattle.hp_program.specs.declared.program.Program.{Program}
-use Rattle.hp_program.specs.Programs.{words_of}
-use Rattle.hp_program.specs.Valid.{label_of}
-use Rattle.hp_leads.specs.Words.{way_of, entry_way}
-use Rattle.hp_steady.specs.Laws.{WordsAreNear}
-use Rattle.spl_meaning.specs.Tables.{Source}
-use Rattle.spl_branch.specs.declared.modules.Define.{Define}
-use Rattle.spl_branch.specs.declared.modules.Want.{Want}
-use Rattle.spl_branch.specs.declared.modules.Module.{Module}
-use Rattle.spl_code.specs.Parts.{wanted_of as written_of}
-use Rattle.spl_code.specs.Parts.{Wanted as Written}
-use Rattle.spl_scopes.specs.Scopes.{Placed, first_reached, placed_units}
-use Rattle.spl_module_code.specs.Modules.{program_uses}
-use Rattle.mpe_segmenter.specs.Names.{Part, parts}
-use Rattle.mpe_segmenter.specs.Entries.{Own, own_of, main_of, owns, is_called, called_at, Wanted, wanted_of, is_wanted, is_met, all_wants, want_at, table_of, entry_of, home_from, gate_of}
-use Rattle.mpe_segmenter.specs.Segments.{home_label}
-use Rattle.mpe_segmenter.specs.Counts.{sizes}
-use Rattle.mpe_segmenter.specs.Programs.{tables_of, part_words, program_words}
-use Rattle.mpe_segmenter.specs.Homes.{home_at}
-use Rattle.mpe_segmenter.specs.Sites.{label_at, no_entry, IsModule, module_entries}
-use Rattle.mpe_segmenter.specs.Whole.{is_resolved, IsWhole}
-use Rattle.mpe_segmenter.proofs.FitLemmas.{fits_at}
-use Rattle.mpe_segmenter.proofs.HomeLemmas.{called_within}
-use Rattle.mpe_segmenter.proofs.PartLemmas.{equal_is}
-use Rattle.mpe_segmenter.proofs.SiteLaws.{found_wanted, at_place, index_map, want_in, wanted_at}
-use Rattle.mpe_segmenter.proofs.ValidLemmas.{got_map, linked_at, reached}
-use Rattle.mpe_segmenter.proofs.WholeLemmas.{all_at, own_local}
-use Rattle.spl_follow.specs.Doing.{Way, gate, body}
-use Rattle.spl_ways.specs.Ways.{word_of}
-use Rattle.spl_ways.proofs.MainLemmas.{own_word}
-use Rattle.spl_ways.proofs.WayLemmas.{want_way}
+use Rattle.spl_routines.specs.hp_instr.declared.labels.Label.{Label}
+use Rattle.spl_routines.specs.hp_instr.declared.labels.Label.TheVariants.{Local, External}
+use Rattle.spl_routines.specs.hp_instr.Labels.{label}
+use Rattle.spl_routines.specs.hp_program.declared.program.Program.{Program}
+use Rattle.spl_routines.specs.hp_program.Programs.{words_of}
+use Rattle.spl_routines.specs.hp_program.Valid.{label_of}
+use Rattle.spl_routines.specs.hp_leads.Words.{way_of, entry_way}
+use Rattle.spl_routines.specs.hp_steady.Laws.{WordsAreNear}
+use Rattle.spl_routines.specs.spl_meaning.Tables.{Source}
+use Rattle.spl_routines.specs.spl_branch.declared.modules.Define.{Define}
+use Rattle.spl_routines.specs.spl_branch.declared.modules.Want.{Want}
+use Rattle.spl_routines.specs.spl_branch.declared.modules.Module.{Module}
+use Rattle.spl_routines.specs.spl_code.Parts.{wanted_of as written_of}
+use Rattle.spl_routines.specs.spl_code.Parts.{Wanted as Written}
+use Rattle.spl_routines.specs.spl_scopes.Scopes.{Placed, first_reached, placed_units}
+use Rattle.spl_routines.specs.spl_module_code.Modules.{program_uses}
+use Rattle.spl_routines.specs.mpe_segmenter.Names.{Part, parts}
+use Rattle.spl_routines.specs.mpe_segmenter.Entries.{Own, own_of, main_of, owns, is_called, called_at, Wanted, wanted_of, is_wanted, is_met, all_wants, want_at, table_of, entry_of, home_from, gate_of}
+use Rattle.spl_routines.specs.mpe_segmenter.Segments.{home_label}
+use Rattle.spl_routines.specs.mpe_segmenter.Counts.{sizes}
+use Rattle.spl_routines.specs.mpe_segmenter.Programs.{tables_of, part_words, program_words}
+use Rattle.spl_routines.specs.mpe_segmenter.Homes.{home_at}
+use Rattle.spl_routines.specs.mpe_segmenter.Sites.{label_at, no_entry, IsModule, module_entries}
+use Rattle.spl_routines.specs.mpe_segmenter.Whole.{is_resolved, IsWhole}
+use Rattle.spl_routines.proofs.mpe_segmenter_proofs.FitLemmas.{fits_at}
+use Rattle.spl_routines.proofs.mpe_segmenter_proofs.HomeLemmas.{called_within}
+use Rattle.spl_routines.proofs.mpe_segmenter_proofs.PartLemmas.{equal_is}
+use Rattle.spl_routines.proofs.mpe_segmenter_proofs.SiteLaws.{found_wanted, at_place, index_map, want_in, wanted_at}
+use Rattle.spl_routines.proofs.mpe_segmenter_proofs.ValidLemmas.{got_map, linked_at, reached}
+use Rattle.spl_routines.proofs.mpe_segmenter_proofs.WholeLemmas.{all_at, own_local}
+use Rattle.spl_routines.specs.spl_follow.Doing.{Way, gate, body}
+use Rattle.spl_routines.specs.spl_ways.Ways.{word_of}
+use Rattle.spl_routines.proofs.spl_ways_proofs.MainLemmas.{own_word}
+use Rattle.spl_routines.proofs.spl_ways_proofs.WayLemmas.{want_way}
 use Rattle.spl_routines.specs.Among.{IsIn}
 use Rattle.spl_routines.specs.Located.{MadeOf, Located, sites_at, wants_at}
 use Rattle.spl_routes.specs.Found.{Finds}

@@ -1,14 +1,14 @@
 -- To which procedure a way leads.
 use Rattle.std.specs.Prelude.{◌≡◌, ℕ, List, Some}
 use Rattle.std.specs.List.{slice_get}
-use Rattle.hp_program.specs.declared.program.Program.{Program}
-use Rattle.hp_steady.specs.Laws.{WordsAreNear}
-use Rattle.spl_meaning.specs.Tables.{Source}
-use Rattle.spl_meaning.specs.Bodies.{Named}
-use Rattle.spl_branch.specs.declared.modules.Module.{Module}
-use Rattle.spl_scopes.specs.Entries.{routine}
-use Rattle.spl_scopes.specs.Scopes.{Placed, first_reached, placed_units, routine_bodies, body_segment}
-use Rattle.spl_follow.specs.Doing.{Way, body}
+use Rattle.spl_routines.specs.hp_program.declared.program.Program.{Program}
+use Rattle.spl_routines.specs.hp_steady.Laws.{WordsAreNear}
+use Rattle.spl_routines.specs.spl_meaning.Tables.{Source}
+use Rattle.spl_routines.specs.spl_meaning.Bodies.{Named}
+use Rattle.spl_routines.specs.spl_branch.declared.modules.Module.{Module}
+use Rattle.spl_routines.specs.spl_scopes.Entries.{routine}
+use Rattle.spl_routines.specs.spl_scopes.Scopes.{Placed, first_reached, placed_units, routine_bodies, body_segment}
+use Rattle.spl_routines.specs.spl_follow.Doing.{Way, body}
 use Rattle.spl_routines.specs.Among.{IsIn}
 use Rattle.spl_routines.specs.Located.{Located, sites_at}
 use Rattle.spl_routines.specs.Routines.{RoutineStands}

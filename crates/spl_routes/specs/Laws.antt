@@ -1,14 +1,14 @@
 -- The laws of this crate.
 use Rattle.std.specs.Prelude.{◌≡◌, ℕ, true, false, List, Some}
 use Rattle.std.specs.List.{slice_get}
-use Rattle.hp_program.specs.declared.program.Program.{Program}
-use Rattle.hp_steady.specs.Laws.{WordsAreNear}
-use Rattle.spl_meaning.specs.Tables.{Source}
-use Rattle.spl_meaning.specs.Bodies.{Named, program_of, body_named}
-use Rattle.spl_meaning.specs.Sound.{IsSound}
-use Rattle.spl_branch.specs.declared.modules.Module.{Module}
-use Rattle.spl_scopes.specs.Entries.{module_entries, procedure_index}
-use Rattle.spl_scopes.specs.Scopes.{Placed, first_reached, placed_units, routine_bodies}
+use Rattle.spl_routines.specs.hp_program.declared.program.Program.{Program}
+use Rattle.spl_routines.specs.hp_steady.Laws.{WordsAreNear}
+use Rattle.spl_routines.specs.spl_meaning.Tables.{Source}
+use Rattle.spl_routines.specs.spl_meaning.Bodies.{Named, program_of, body_named}
+use Rattle.spl_routines.specs.spl_meaning.Sound.{IsSound}
+use Rattle.spl_routines.specs.spl_branch.declared.modules.Module.{Module}
+use Rattle.spl_routines.specs.spl_scopes.Entries.{module_entries, procedure_index}
+use Rattle.spl_routines.specs.spl_scopes.Scopes.{Placed, first_reached, placed_units, routine_bodies}
 use Rattle.spl_sound_jumps.specs.Laws.{Lands}
 use Rattle.spl_routines.specs.Among.{IsIn}
 use Rattle.spl_routines.specs.Located.{MadeOf, Located, sites_at, wants_at}

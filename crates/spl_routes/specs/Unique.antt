@@ -1,8 +1,8 @@
 -- Programs in which no two procedures have the same name.
 use Rattle.std.specs.Prelude.{◌&&◌, ◌||◌, not, Bool, true, false, ℕ, List, [], ◌∷◌}
-use Rattle.spl_meaning.specs.Names.{same_name}
-use Rattle.spl_meaning.specs.Tables.{Source}
-use Rattle.spl_meaning.specs.Bodies.{Named, program_of}
+use Rattle.spl_routines.specs.spl_meaning.Names.{same_name}
+use Rattle.spl_routines.specs.spl_meaning.Tables.{Source}
+use Rattle.spl_routines.specs.spl_meaning.Bodies.{Named, program_of}
 
 -- one of these procedures has this name
 abbrev pub has_named : List ℕ → List Named → Bool

@@ -4,3 +4,5 @@
 mod laws;
 
 pub use laws::{calls_find, names_mean, routines_land};
+pub use spl_routines;
+pub use spl_sound_jumps;

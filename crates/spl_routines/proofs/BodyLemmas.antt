@@ -1,12 +1,12 @@
 -- Units of a program, and the bodies of their procedures by their numbers.
 use Rattle.std.proofs.Common.{◌≡◌, ℕ, zero, suc, ◌+◌, true, List, [], ◌∷◌, Option, Some, None, refl, sym, ap, subst}
 use Rattle.std.specs.Prelude.{slice_get}
-use Rattle.spl_meaning.specs.Names.{Table}
-use Rattle.spl_meaning.specs.Tables.{Source, Routine, routine_table}
-use Rattle.spl_meaning.specs.Places.{Place, list_words, list_array_words}
-use Rattle.spl_meaning.specs.Bodies.{Named, Reached, reached_behind, named_bodies}
-use Rattle.spl_places.specs.Programs.{Each}
-use Rattle.spl_scopes.specs.Scopes.{Placed, placed_units}
+use Rattle.spl_carries.specs.spl_meaning.Names.{Table}
+use Rattle.spl_carries.specs.spl_meaning.Tables.{Source, Routine, routine_table}
+use Rattle.spl_carries.specs.spl_meaning.Places.{Place, list_words, list_array_words}
+use Rattle.spl_carries.specs.spl_meaning.Bodies.{Named, Reached, reached_behind, named_bodies}
+use Rattle.spl_label_marks.specs.spl_places.Programs.{Each}
+use Rattle.spl_label_marks.specs.spl_scopes.Scopes.{Placed, placed_units}
 use Rattle.spl_routines.specs.Among.{IsIn, at_front, behind}
 use Rattle.spl_routines.proofs.ListLemmas.{one_there}
 

@@ -5,14 +5,14 @@
 use Rattle.std.proofs.Common.{◌≡◌, ℕ, zero, suc, ◌+◌, Bool, true, false, nat_eq, List, [], ◌∷◌, ◌++◌, length, Some, ◌⊎◌, inl, inr, refl, sym, ap, subst, ◌∙◌, arith}
 use Rattle.std.specs.Prelude.{slice_get, if◌then◌else◌}
 use Rattle.std.proofs.lemmas.Bool.{eqb-true, eq-eqb, false≢true}
-use Rattle.spl_tree.specs.DeclarationTrees as decl
-use Rattle.spl_tree.specs.DeclarationTrees.{Declaration, Declarations, Heading}
-use Rattle.spl_meaning.specs.Names.{Sort, Table, nothing_declared}
-use Rattle.spl_meaning.specs.Stops.{declaration_stops}
-use Rattle.spl_meaning.specs.Tables.{Routine, routine_in, routines_among, with_declaration}
-use Rattle.spl_scopes.specs.Entries.{main, routine, Owner, Entry, procedure, is_callable, inner_entry, inner_entries, declared_entries, routines_behind, entries_among, in_segment}
-use Rattle.spl_scopes.specs.Scopes.{Placed}
-use Rattle.spl_module_code.specs.Modules.{entries_behind}
+use Rattle.spl_carries.specs.spl_tree.DeclarationTrees as decl
+use Rattle.spl_carries.specs.spl_tree.DeclarationTrees.{Declaration, Declarations, Heading}
+use Rattle.spl_carries.specs.spl_meaning.Names.{Sort, Table, nothing_declared}
+use Rattle.spl_carries.specs.spl_meaning.Stops.{declaration_stops}
+use Rattle.spl_carries.specs.spl_meaning.Tables.{Routine, routine_in, routines_among, with_declaration}
+use Rattle.spl_label_marks.specs.spl_scopes.Entries.{main, routine, Owner, Entry, procedure, is_callable, inner_entry, inner_entries, declared_entries, routines_behind, entries_among, in_segment}
+use Rattle.spl_label_marks.specs.spl_scopes.Scopes.{Placed}
+use Rattle.spl_label_marks.specs.spl_module_code.Modules.{entries_behind}
 use Rattle.spl_routines.specs.Among.{IsIn, at_front, behind}
 use Rattle.spl_routines.proofs.ListLemmas.{in_parts, InEither, left, right, in_place, at_parts, AtEither, before, beyond, at_beyond, one_there}
 
@@ -31,7 +31,7 @@ ProcedureIn q g i k name n entry (decl.and d ds) =
 
 -- ---- 2. entries
 
-segment_append : (g : ℕ) (es fs : List Entry) → in_segment g (es ++ fs) ≡ in_segment g es ++ in_segment g fs
+pub segment_append : (g : ℕ) (es fs : List Entry) → in_segment g (es ++ fs) ≡ in_segment g es ++ in_segment g fs
 segment_append g [] fs = refl
 segment_append g (e ∷ es) fs = by (nat_eq e.segment g) (segment_append g es fs) where
   by : (b : Bool) → in_segment g (es ++ fs) ≡ in_segment g es ++ in_segment g fs

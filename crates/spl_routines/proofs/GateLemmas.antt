@@ -3,19 +3,19 @@ use Prim.Native.String.{String}
 use Rattle.std.proofs.Common.{◌≡◌, ℕ, zero, suc, ◌+◌, Bool, true, false, List, [], ◌∷◌, map, codes, Option, Some, refl, ap, subst, ◌∙◌}
 use Rattle.std.specs.Global.{Vec}
 use Rattle.std.specs.Prelude.{slice_get, unwrap_or, if◌then◌else◌}
-use Rattle.hp_word.specs.declared.intrinsics.Intrinsic.{Intrinsic}
-use Rattle.hp_call_rows.specs.GateRows.{intrinsic}
-use Rattle.spl_branch.specs.declared.modules.Want.{Want}
-use Rattle.spl_branch.specs.declared.modules.Module.{Module}
-use Rattle.spl_meaning.specs.Names.{same_name, intrinsics, intrinsic_among, intrinsic_named}
-use Rattle.spl_code.specs.Parts.{Wanted, wanted_of, wants_of}
-use Rattle.mpe_segmenter.specs.Names.{Part, parts}
-use Rattle.mpe_segmenter.specs.Entries.{gate_from, gate_of}
-use Rattle.mpe_segmenter.specs.Counts.{sizes}
-use Rattle.mpe_segmenter.specs.Programs.{program_words}
-use Rattle.mpe_segmenter.specs.Sites.{IsModule, module_entries}
-use Rattle.mpe_segmenter.specs.Whole.{IsWhole}
-use Rattle.spl_follow.specs.Doing.{Way, gate}
+use Rattle.spl_carries.specs.hp_word.declared.intrinsics.Intrinsic.{Intrinsic}
+use Rattle.spl_carries.specs.hp_call_rows.GateRows.{intrinsic}
+use Rattle.spl_ways.specs.spl_branch.declared.modules.Want.{Want}
+use Rattle.spl_ways.specs.spl_branch.declared.modules.Module.{Module}
+use Rattle.spl_carries.specs.spl_meaning.Names.{same_name, intrinsics, intrinsic_among, intrinsic_named}
+use Rattle.spl_label_marks.specs.spl_code.Parts.{Wanted, wanted_of, wants_of}
+use Rattle.spl_ways.specs.mpe_segmenter.Names.{Part, parts}
+use Rattle.spl_ways.specs.mpe_segmenter.Entries.{gate_from, gate_of}
+use Rattle.spl_ways.specs.mpe_segmenter.Counts.{sizes}
+use Rattle.spl_ways.specs.mpe_segmenter.Programs.{program_words}
+use Rattle.spl_ways.specs.mpe_segmenter.Sites.{IsModule, module_entries}
+use Rattle.spl_ways.specs.mpe_segmenter.Whole.{IsWhole}
+use Rattle.spl_endings.specs.spl_follow.Doing.{Way, gate}
 use Rattle.spl_endings.specs.Gates.{GatesLead}
 use Rattle.spl_ways.specs.Ways.{module_sites}
 use Rattle.spl_ways.proofs.WayLemmas.{gate_leads}

@@ -2,12 +2,12 @@
 use Rattle.std.proofs.Common.{◌≡◌, ℕ, zero, suc, Bool, true, false, List, [], ◌∷◌, map, Some, refl, sym, subst}
 use Rattle.std.specs.Prelude.{nat_eq, slice_get, if◌then◌else◌}
 use Rattle.std.specs.Cmp.Lexicographic.{pointwise}
-use Rattle.spl_branch.specs.declared.modules.Module.{Module}
-use Rattle.mpe_segmenter.specs.Names.{segment_of, segment_names, modules_of, Part, part_from, parts}
-use Rattle.spl_scopes.specs.Scopes.{Placed}
-use Rattle.spl_module_code.specs.Modules.{IsModuleOf, AreOfUnit, AreOf}
-use Rattle.spl_module_code.specs.Modules.{AreOfUnit as u}
-use Rattle.spl_module_code.specs.Modules.{AreOf as a}
+use Rattle.spl_ways.specs.spl_branch.declared.modules.Module.{Module}
+use Rattle.spl_ways.specs.mpe_segmenter.Names.{segment_of, segment_names, modules_of, Part, part_from, parts}
+use Rattle.spl_label_marks.specs.spl_scopes.Scopes.{Placed}
+use Rattle.spl_label_marks.specs.spl_module_code.Modules.{IsModuleOf, AreOfUnit, AreOf}
+use Rattle.spl_label_marks.specs.spl_module_code.Modules.{AreOfUnit as u}
+use Rattle.spl_label_marks.specs.spl_module_code.Modules.{AreOf as a}
 use Rattle.spl_routines.specs.Among.{IsIn, at_front, behind}
 use Rattle.spl_routines.proofs.ListLemmas.{InEither, left, right, in_parts}
 

@@ -1,31 +1,30 @@
 -- The code of a procedure among that of its module.
--- 1. a part of code within others                                  (PartIn, in_first, in_second)
+-- 1. a part of code within others                                  (PartIn, in_first, in_second, in_part)
 -- 2. that of a procedure within its module's                       (part_in, module_in)
 -- 3. and its pieces there                                          (RoutinePieces, routine_pieces)
 use Rattle.std.proofs.Common.{◌≡◌, ℕ, suc, ◌+◌, Bool, List, [], ◌∷◌, ◌++◌, length, Option, Some, inl, inr, refl, sym, ap, subst, ◌∙◌, append_assoc}
 use Rattle.std.specs.Prelude.{slice_get, if◌then◌else◌}
 use Rattle.std.proofs.lemmas.Bool.{eq-eqb}
-use Rattle.spl_tree.specs.DeclarationTrees as decl
-use Rattle.spl_tree.specs.DeclarationTrees.{Declaration, Declarations, declarations}
-use Rattle.spl_meaning.specs.Names.{Table}
-use Rattle.spl_meaning.specs.Pending.{formals_words}
-use Rattle.spl_meaning.specs.Bodies.{Body, Named}
-use Rattle.spl_meaning.specs.Laws.{IsFront}
-use Rattle.spl_branch.specs.declared.pieces.Piece.{Piece}
-use Rattle.spl_branch.specs.declared.pieces.Piece.TheVariants.{Mark}
-use Rattle.spl_code.specs.Parts.{Part, Wanted, Written, nothing, ◌⨟◌}
-use Rattle.spl_statement_code.specs.Landings.{Landing}
-use Rattle.spl_statement_code.specs.Statements.{listed}
-use Rattle.spl_body_code.specs.Bodies.{frame_of, procedure_entered, procedure_left}
-use Rattle.spl_scopes.specs.Entries.{main, routine, Entry, module_entries, routines_behind}
-use Rattle.spl_scopes.specs.Scopes.{Placed, routine_bodies, outer_body}
-use Rattle.spl_module_code.specs.LabelsOfBodies.{labels_among}
-use Rattle.spl_module_code.specs.Bodies.{context_of, subroutine_parts, routine_part}
-use Rattle.spl_module_code.specs.Modules.{inner_behind, entries_behind, routine_at, declared_part, declared_parts, holds_main, main_at, marks_before, module_written}
+use Rattle.spl_carries.specs.spl_tree.DeclarationTrees as decl
+use Rattle.spl_carries.specs.spl_tree.DeclarationTrees.{Declaration, Declarations, declarations}
+use Rattle.spl_carries.specs.spl_meaning.Names.{Table}
+use Rattle.spl_carries.specs.spl_meaning.Pending.{formals_words}
+use Rattle.spl_carries.specs.spl_meaning.Bodies.{Body, Named}
+use Rattle.spl_carries.specs.spl_meaning.Laws.{IsFront}
+use Rattle.spl_ways.specs.spl_branch.declared.pieces.Piece.{Piece}
+use Rattle.spl_ways.specs.spl_branch.declared.pieces.Piece.TheVariants.{Mark}
+use Rattle.spl_label_marks.specs.spl_code.Parts.{Part, Wanted, Written, nothing, ◌⨟◌}
+use Rattle.spl_label_marks.specs.spl_statement_code.Landings.{Landing}
+use Rattle.spl_label_marks.specs.spl_statement_code.Statements.{listed}
+use Rattle.spl_label_marks.specs.spl_body_code.Bodies.{frame_of, procedure_entered, procedure_left}
+use Rattle.spl_label_marks.specs.spl_scopes.Entries.{main, routine, Entry, module_entries, routines_behind}
+use Rattle.spl_label_marks.specs.spl_scopes.Scopes.{Placed, routine_bodies, outer_body}
+use Rattle.spl_label_marks.specs.spl_module_code.LabelsOfBodies.{labels_among}
+use Rattle.spl_label_marks.specs.spl_module_code.Bodies.{context_of, subroutine_parts, routine_part}
+use Rattle.spl_label_marks.specs.spl_module_code.Modules.{inner_behind, entries_behind, routine_at, declared_part, declared_parts, holds_main, main_at, marks_before, module_written}
 use Rattle.spl_label_marks.proofs.LabelParts.{landed_part}
-use Rattle.spl_call_indexes.specs.Indexes.{IsIndexedPart}
-use Rattle.spl_call_indexes.proofs.PartLaws.{indexed_pieces, indexed_if}
-use Rattle.spl_call_indexes.proofs.ModuleLaws.{indexed_declarations, indexed_main_at}
+use Rattle.spl_complete_codes.proofs.spl_call_indexes_proofs.PartLaws.{indexed_pieces, indexed_if}
+use Rattle.spl_complete_codes.proofs.spl_call_indexes_proofs.ModuleLaws.{indexed_declarations, indexed_main_at}
 use Rattle.spl_routines.specs.Routines.{routine_context}
 use Rattle.spl_routines.proofs.EntryLemmas.{IsProcedure, ProcedureIn}
 
@@ -40,26 +39,30 @@ pub record PartIn (whole : Written) (part : Part) : Type 0 where
   pub is : whole.pieces ≡ before ++ ((part marks wants).pieces ++ behind)
   pub front : IsFront (part marks wants).wants whole.wants
 
-front_on : (xs ys zs : List Wanted) → IsFront xs ys → IsFront ys zs → IsFront xs zs
+-- what a part wants is behind what was wanted before it
+abbrev pub KeepsWants : Part → Type 0
+KeepsWants part = (l : ℕ) (ws : List Wanted) → IsFront ws (part l ws).wants
+
+pub front_on : (xs ys zs : List Wanted) → IsFront xs ys → IsFront ys zs → IsFront xs zs
 front_on xs ys zs a b = record {
   rest = a.rest ++ b.rest;
   is = b.is ∙ ap (λ (ws : List Wanted). ws ++ b.rest) a.is ∙ append_assoc xs a.rest b.rest;
 }
 
 -- it is the first of two
-in_first : (n : ℕ) (part p r : Part) → p ≡ part → IsIndexedPart n r → (l : ℕ) (ws : List Wanted) → PartIn ((p ⨟ r) l ws) part
-in_first n part p r same keeps l ws = record {
+pub in_first : (part p r : Part) → p ≡ part → KeepsWants r → (l : ℕ) (ws : List Wanted) → PartIn ((p ⨟ r) l ws) part
+in_first part p r same keeps l ws = record {
   before = [];
   behind = (r (l + (p l ws).marks) (p l ws).wants).pieces;
   marks = l;
   wants = ws;
   is = ap (λ (x : Part). (x l ws).pieces ++ (r (l + (p l ws).marks) (p l ws).wants).pieces) same;
-  front = subst (λ (x : Part). IsFront (x l ws).wants ((p ⨟ r) l ws).wants) same (keeps.keeps (l + (p l ws).marks) (p l ws).wants);
+  front = subst (λ (x : Part). IsFront (x l ws).wants ((p ⨟ r) l ws).wants) same (keeps (l + (p l ws).marks) (p l ws).wants);
 }
 
 -- or it is in the first
-in_front : (n : ℕ) (part p r : Part) → IsIndexedPart n r → (l : ℕ) (ws : List Wanted) → PartIn (p l ws) part → PartIn ((p ⨟ r) l ws) part
-in_front n part p r keeps l ws x =
+pub in_front : (part p r : Part) → KeepsWants r → (l : ℕ) (ws : List Wanted) → PartIn (p l ws) part → PartIn ((p ⨟ r) l ws) part
+in_front part p r keeps l ws x =
     let others : List Piece = (r (l + (p l ws).marks) (p l ws).wants).pieces in
     let own : List Piece = (part x.marks x.wants).pieces in
     record {
@@ -69,11 +72,11 @@ in_front n part p r keeps l ws x =
       wants = x.wants;
       is = ap (λ (ps : List Piece). ps ++ others) x.is ∙ append_assoc x.before (own ++ x.behind) others
           ∙ ap (λ (ps : List Piece). x.before ++ ps) (append_assoc own x.behind others);
-      front = front_on (part x.marks x.wants).wants (p l ws).wants ((p ⨟ r) l ws).wants x.front (keeps.keeps (l + (p l ws).marks) (p l ws).wants);
+      front = front_on (part x.marks x.wants).wants (p l ws).wants ((p ⨟ r) l ws).wants x.front (keeps (l + (p l ws).marks) (p l ws).wants);
     }
 
 -- or in the second
-in_second : (part p r : Part) (l : ℕ) (ws : List Wanted) → PartIn (r (l + (p l ws).marks) (p l ws).wants) part → PartIn ((p ⨟ r) l ws) part
+pub in_second : (part p r : Part) (l : ℕ) (ws : List Wanted) → PartIn (r (l + (p l ws).marks) (p l ws).wants) part → PartIn ((p ⨟ r) l ws) part
 in_second part p r l ws x = record {
   before = (p l ws).pieces ++ x.before;
   behind = x.behind;
@@ -83,7 +86,31 @@ in_second part p r l ws x = record {
   front = x.front;
 }
 
+-- and what is in a part is in what has that
+pub in_part : (whole : Written) (part inner : Part) (x : PartIn whole part) → PartIn (part x.marks x.wants) inner → PartIn whole inner
+in_part whole part inner x y =
+    let own : List Piece = (inner y.marks y.wants).pieces in
+    record {
+      before = x.before ++ y.before;
+      behind = y.behind ++ x.behind;
+      marks = y.marks;
+      wants = y.wants;
+      is = x.is ∙ ap (λ (ps : List Piece). x.before ++ (ps ++ x.behind)) y.is
+          ∙ ap (λ (ps : List Piece). x.before ++ ps) (append_assoc y.before (own ++ y.behind) x.behind ∙ ap (λ (ps : List Piece). y.before ++ ps) (append_assoc own y.behind x.behind))
+          ∙ sym (append_assoc x.before y.before (own ++ (y.behind ++ x.behind)));
+      front = front_on (inner y.marks y.wants).wants (part x.marks x.wants).wants whole.wants y.front x.front;
+    }
+
 -- ---- 2. procedures
+
+-- the declarations of a unit, and its main body
+pub declarations_keep : (q : Placed) (g n j entry : ℕ) (ds : Declarations) → KeepsWants (declared_parts q g n j entry ds)
+declarations_keep q g n j entry ds l ws = (indexed_declarations q g n j entry ds).keeps l ws
+
+pub main_keeps : (q : Placed) (g : ℕ) → KeepsWants (if holds_main q g then main_at (module_entries q.unit g) (outer_body q main) else nothing)
+main_keeps q g l ws =
+    let es : List Entry = module_entries q.unit g in
+    (indexed_if (holds_main q g) (main_at es (outer_body q main)) nothing (indexed_main_at es (outer_body q main)) (indexed_pieces [] (λ m n. refl))).keeps l ws
 
 own_part : (q : Placed) (g i k : ℕ) (b : Named) → slice_get (routine_bodies q) i ≡ Some b → (name : List ℕ) (n j entry : ℕ) (d : Declaration)
     → IsProcedure g i k name n entry d → declared_part q g n j entry d ≡ routine_part (module_entries q.unit g) i k b
@@ -106,9 +133,9 @@ part_in : (q : Placed) (g i k : ℕ) (b : Named) → slice_get (routine_bodies q
     → PartIn (declared_parts q g n j entry ds l ws) (routine_part (module_entries q.unit g) i k b)
 part_in q g i k b there name n j entry decl.none is l ws = absurd is
 part_in q g i k b there name n j entry (decl.and d ds) (inl own) l ws =
-    in_first (length (module_entries q.unit g)) (routine_part (module_entries q.unit g) i k b) (declared_part q g n j entry d)
+    in_first (routine_part (module_entries q.unit g) i k b) (declared_part q g n j entry d)
     (declared_parts q g (routines_behind n d) (inner_behind j d) (entries_behind q g n entry d) ds) (own_part q g i k b there name n j entry d own)
-    (indexed_declarations q g (routines_behind n d) (inner_behind j d) (entries_behind q g n entry d) ds) l ws
+    (declarations_keep q g (routines_behind n d) (inner_behind j d) (entries_behind q g n entry d) ds) l ws
 part_in q g i k b there name n j entry (decl.and d ds) (inr later) l ws =
     let own : Written = declared_part q g n j entry d l ws in
     in_second (routine_part (module_entries q.unit g) i k b) (declared_part q g n j entry d)
@@ -116,13 +143,12 @@ part_in q g i k b there name n j entry (decl.and d ds) (inr later) l ws =
     (part_in q g i k b there name (routines_behind n d) (inner_behind j d) (entries_behind q g n entry d) ds later (l + own.marks) own.wants)
 
 -- in the code of a unit in a segment
-module_in : (q : Placed) (g i k : ℕ) (b : Named) → slice_get (routine_bodies q) i ≡ Some b → (name : List ℕ)
+pub module_in : (q : Placed) (g i k : ℕ) (b : Named) → slice_get (routine_bodies q) i ≡ Some b → (name : List ℕ)
     → ProcedureIn q g i k name 0 0 (declarations q.unit.tree.items) → PartIn (module_written q g) (routine_part (module_entries q.unit g) i k b)
 module_in q g i k b there name is =
     let es : List Entry = module_entries q.unit g in
-    in_front (length es) (routine_part es i k b) (declared_parts q g 0 0 0 (declarations q.unit.tree.items))
-    (if holds_main q g then main_at es (outer_body q main) else nothing)
-    (indexed_if (holds_main q g) (main_at es (outer_body q main)) nothing (indexed_main_at es (outer_body q main)) (indexed_pieces [] (λ m n. refl)))
+    in_front (routine_part es i k b) (declared_parts q g 0 0 0 (declarations q.unit.tree.items))
+    (if holds_main q g then main_at es (outer_body q main) else nothing) (main_keeps q g)
     (marks_before q g) [] (part_in q g i k b there name 0 0 0 (declarations q.unit.tree.items) is (marks_before q g) [])
 
 -- ---- 3. pieces

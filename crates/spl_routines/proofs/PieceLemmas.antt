@@ -2,21 +2,21 @@
 use Rattle.std.proofs.Common.{◌≡◌, ℕ, zero, suc, Bool, true, false, List, [], ◌∷◌, ◌++◌, replicate, refl, ap, ◌∙◌, ℤ}
 use Rattle.std.specs.Prelude.{◌+◌, ◌/◌, ◌%◌, ◌==◌, ◌&&◌, not, nat_lt, min, if◌then◌else◌}
 use Rattle.std.proofs.lemmas.Bool.{and_parts, false≢true}
-use Rattle.spl_tree.specs.declared.expressions.Kind.{Kind}
-use Rattle.spl_tree.specs.declared.expressions.Kind.TheVariants as kind
-use Rattle.spl_meaning.specs.Places.{Place as Spot, Cell, Initial}
-use Rattle.spl_branch.specs.declared.pieces.Piece.{Piece}
-use Rattle.spl_branch.specs.declared.pieces.Piece.TheVariants.{Do, Literal, Place, Branch, Mark, Call, Begin}
-use Rattle.spl_code.specs.Constants.{constant}
-use Rattle.spl_code.specs.Operands.{mode_of}
-use Rattle.spl_code.specs.Instructions.{STOR}
-use Rattle.spl_code.specs.Stores.{store}
-use Rattle.spl_body_code.specs.Frames.{ROOM, ADDS, granted, last_zeros, zeroed}
-use Rattle.spl_body_code.specs.Cells.{cell_from, viewed, cell_set, cells_set, value_pushed, first_set, initial_set, initials_set}
-use Rattle.spl_body_code.specs.Bodies.{Frame, mode_entered, procedure_entered, procedure_left}
-use Rattle.spl_follow.specs.Standing.{due_after, due_behind}
-use Rattle.spl_follow.proofs.StandLemmas.{due_add}
-use Rattle.spl_sites.specs.Beginnings.{is_beginning, begins_well}
+use Rattle.spl_carries.specs.spl_tree.declared.expressions.Kind.{Kind}
+use Rattle.spl_carries.specs.spl_tree.declared.expressions.Kind.TheVariants as kind
+use Rattle.spl_carries.specs.spl_meaning.Places.{Place as Spot, Cell, Initial}
+use Rattle.spl_ways.specs.spl_branch.declared.pieces.Piece.{Piece}
+use Rattle.spl_ways.specs.spl_branch.declared.pieces.Piece.TheVariants.{Do, Literal, Place, Branch, Mark, Call, Begin}
+use Rattle.spl_label_marks.specs.spl_code.Constants.{constant}
+use Rattle.spl_label_marks.specs.spl_code.Operands.{mode_of}
+use Rattle.spl_label_marks.specs.spl_code.Instructions.{STOR}
+use Rattle.spl_label_marks.specs.spl_code.Stores.{store}
+use Rattle.spl_label_marks.specs.spl_body_code.Frames.{ROOM, ADDS, granted, last_zeros, zeroed}
+use Rattle.spl_label_marks.specs.spl_body_code.Cells.{cell_from, viewed, cell_set, cells_set, value_pushed, first_set, initial_set, initials_set}
+use Rattle.spl_label_marks.specs.spl_body_code.Bodies.{Frame, mode_entered, procedure_entered, procedure_left}
+use Rattle.spl_endings.specs.spl_follow.Standing.{due_after, due_behind}
+use Rattle.spl_endings.proofs.spl_follow_proofs.StandLemmas.{due_add}
+use Rattle.spl_ways.specs.spl_sites.Beginnings.{is_beginning, begins_well}
 
 -- ---- pieces that begin well
 

@@ -1,9 +1,9 @@
 -- Each procedure of a unit stands in the modules of its segment, and there is one.
 use Rattle.std.proofs.Common.{◌≡◌, ℕ, ◌+◌, List, [], sym, ap, subst, arith}
-use Rattle.spl_tree.specs.DeclarationTrees.{declarations}
-use Rattle.spl_meaning.specs.Tables.{routines_of}
-use Rattle.spl_scopes.specs.Entries.{routine, procedure}
-use Rattle.spl_scopes.specs.Scopes.{global_places, segment_of, body_segment}
+use Rattle.spl_carries.specs.spl_tree.DeclarationTrees.{declarations}
+use Rattle.spl_carries.specs.spl_meaning.Tables.{routines_of}
+use Rattle.spl_label_marks.specs.spl_scopes.Entries.{routine, procedure}
+use Rattle.spl_label_marks.specs.spl_scopes.Scopes.{global_places, segment_of, body_segment}
 use Rattle.spl_routines.specs.Laws.{RoutinesStand, RoutinesAreThere}
 use Rattle.spl_routines.proofs.EntryLemmas.{ProcedureIn, of_routine, entry_there}
 use Rattle.spl_routines.proofs.StandLemmas.{routine_stands}

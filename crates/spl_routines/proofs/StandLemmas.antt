@@ -7,42 +7,42 @@ use Rattle.std.specs.Global.{Vec}
 use Rattle.std.specs.Prelude.{slice_get}
 use Rattle.std.specs.List.{list_all}
 use Rattle.std.proofs.lemmas.List.{length-map}
-use Rattle.hp_program.specs.declared.program.Program.{Program}
-use Rattle.hp_program.specs.Programs.{segments_of, words_of}
-use Rattle.hp_steady.specs.Laws.{WordsAreNear}
-use Rattle.spl_tree.specs.DeclarationTrees.{declarations}
-use Rattle.spl_meaning.specs.Tables.{Source}
-use Rattle.spl_meaning.specs.Pending.{formals_words}
-use Rattle.spl_meaning.specs.Bodies.{Named}
-use Rattle.spl_meaning.specs.Laws.{IsFront}
-use Rattle.spl_branch.specs.declared.pieces.Piece.{Piece}
-use Rattle.spl_branch.specs.declared.pieces.Piece.TheVariants.{Mark}
-use Rattle.spl_branch.specs.declared.modules.Define.{Define}
-use Rattle.spl_branch.specs.declared.modules.Want.{Want}
-use Rattle.spl_branch.specs.declared.modules.Module.{Module}
-use Rattle.spl_branch.specs.Pieces.{is_indexed}
-use Rattle.spl_branch.specs.Modules.{define_of, sites as decoded}
-use Rattle.spl_branch.specs.Stands.{at_left}
-use Rattle.spl_code.specs.Parts.{Wanted}
-use Rattle.spl_statement_code.specs.Statements.{listed}
-use Rattle.spl_body_code.specs.Bodies.{frame_of, procedure_entered, procedure_left}
-use Rattle.spl_scopes.specs.Entries.{procedure, module_entries}
-use Rattle.spl_scopes.specs.Scopes.{Placed, first_reached, placed_units, routine_bodies}
-use Rattle.spl_module_code.specs.Modules.{module_written}
+use Rattle.spl_carries.specs.hp_program.declared.program.Program.{Program}
+use Rattle.spl_carries.specs.hp_program.Programs.{segments_of, words_of}
+use Rattle.spl_ways.specs.hp_steady.Laws.{WordsAreNear}
+use Rattle.spl_carries.specs.spl_tree.DeclarationTrees.{declarations}
+use Rattle.spl_carries.specs.spl_meaning.Tables.{Source}
+use Rattle.spl_carries.specs.spl_meaning.Pending.{formals_words}
+use Rattle.spl_carries.specs.spl_meaning.Bodies.{Named}
+use Rattle.spl_carries.specs.spl_meaning.Laws.{IsFront}
+use Rattle.spl_ways.specs.spl_branch.declared.pieces.Piece.{Piece}
+use Rattle.spl_ways.specs.spl_branch.declared.pieces.Piece.TheVariants.{Mark}
+use Rattle.spl_ways.specs.spl_branch.declared.modules.Define.{Define}
+use Rattle.spl_ways.specs.spl_branch.declared.modules.Want.{Want}
+use Rattle.spl_ways.specs.spl_branch.declared.modules.Module.{Module}
+use Rattle.spl_ways.specs.spl_branch.Pieces.{is_indexed}
+use Rattle.spl_ways.specs.spl_branch.Modules.{define_of, sites as decoded}
+use Rattle.spl_ways.specs.spl_branch.Stands.{at_left}
+use Rattle.spl_label_marks.specs.spl_code.Parts.{Wanted}
+use Rattle.spl_label_marks.specs.spl_statement_code.Statements.{listed}
+use Rattle.spl_label_marks.specs.spl_body_code.Bodies.{frame_of, procedure_entered, procedure_left}
+use Rattle.spl_label_marks.specs.spl_scopes.Entries.{procedure, module_entries}
+use Rattle.spl_label_marks.specs.spl_scopes.Scopes.{Placed, first_reached, placed_units, routine_bodies}
+use Rattle.spl_label_marks.specs.spl_module_code.Modules.{module_written}
 use Rattle.spl_complete_codes.proofs.Complete.{complete}
 use Rattle.spl_carries.specs.Carries.{words_in, weight}
-use Rattle.mpe_segmenter.specs.Names.{Part, parts}
-use Rattle.mpe_segmenter.specs.Counts.{sizes}
-use Rattle.mpe_segmenter.specs.Sites.{IsModule, module_entries as entries_of}
-use Rattle.mpe_segmenter.specs.Whole.{IsWhole}
-use Rattle.mpe_segmenter.proofs.FitLemmas.{fits_at}
-use Rattle.spl_follow.specs.Spots.{Spot, pos, on, Ground}
-use Rattle.spl_follow.specs.Standing.{Sites, Stands}
-use Rattle.spl_follow.proofs.PartLemmas.{stand_from_place}
-use Rattle.spl_stands.specs.Fitting.{placed}
-use Rattle.spl_sites.specs.Beginnings.{begins_well, is_of_kind}
-use Rattle.spl_sites.specs.Grounds.{ground_of, AllCallsLead}
-use Rattle.spl_sites.proofs.ProgramLemmas.{programs_stand}
+use Rattle.spl_ways.specs.mpe_segmenter.Names.{Part, parts}
+use Rattle.spl_ways.specs.mpe_segmenter.Counts.{sizes}
+use Rattle.spl_ways.specs.mpe_segmenter.Sites.{IsModule, module_entries as entries_of}
+use Rattle.spl_ways.specs.mpe_segmenter.Whole.{IsWhole}
+use Rattle.spl_ways.proofs.mpe_segmenter_proofs.FitLemmas.{fits_at}
+use Rattle.spl_endings.specs.spl_follow.Spots.{Spot, pos, on, Ground}
+use Rattle.spl_endings.specs.spl_follow.Standing.{Sites, Stands}
+use Rattle.spl_endings.proofs.spl_follow_proofs.PartLemmas.{stand_from_place}
+use Rattle.spl_ways.specs.spl_stands.Fitting.{placed}
+use Rattle.spl_ways.specs.spl_sites.Beginnings.{begins_well, is_of_kind}
+use Rattle.spl_ways.specs.spl_sites.Grounds.{ground_of, AllCallsLead}
+use Rattle.spl_ways.proofs.spl_sites_proofs.ProgramLemmas.{programs_stand}
 use Rattle.spl_ways.proofs.WayLemmas.{calls_lead}
 use Rattle.spl_routines.specs.Among.{IsIn}
 use Rattle.spl_routines.specs.Located.{MadeOf, Located, sites_at}

@@ -7,25 +7,25 @@ use Rattle.std.specs.Prelude.{◌||◌, not, slice_get, if◌then◌else◌}
 use Rattle.std.specs.Cmp.Lexicographic.{pointwise}
 use Rattle.std.proofs.lemmas.Bool.{eqb-true, eq-eqb, lt-ltb, false≢true, and_from}
 use Rattle.std.proofs.lemmas.Option.{slice_get_within}
-use Rattle.spl_tree.specs.DeclarationTrees as decl
-use Rattle.spl_tree.specs.DeclarationTrees.{Declaration, Declarations, declarations}
-use Rattle.spl_meaning.specs.Names.{Sort, Table, find, same_name, nothing_declared}
-use Rattle.spl_meaning.specs.Limits.{joined}
-use Rattle.spl_meaning.specs.Stops.{declaration_stops}
-use Rattle.spl_meaning.specs.Tables.{Source, Routine, routine_in, routines_among, routines_of, with_declaration}
-use Rattle.spl_meaning.specs.Bodies.{Reached, reached_behind}
-use Rattle.spl_branch.specs.declared.modules.Module.{Module}
-use Rattle.spl_scopes.specs.Entries.{Entry, module_entries}
-use Rattle.spl_scopes.specs.Scopes.{Placed, first_reached, placed_units}
-use Rattle.spl_module_code.specs.Modules.{IsModuleOf, AreOfUnit, AreOf, marks_before, named_segment, uses_in, uses_among, uses_of, program_uses, numbered, is_taken, uses, next_number}
-use Rattle.spl_module_code.specs.Modules.{AreOfUnit as u}
-use Rattle.spl_module_code.specs.Modules.{AreOf as a}
-use Rattle.mpe_segmenter.specs.Names.{segment_of, is_among, with_name, names_from, segment_names, modules_of, part_from, parts}
-use Rattle.mpe_segmenter.specs.Sites.{IsModule}
-use Rattle.mpe_segmenter.specs.Whole.{IsWhole}
-use Rattle.mpe_segmenter.proofs.NameLemmas.{same_self}
-use Rattle.mpe_segmenter.proofs.PartLemmas.{equal_is}
-use Rattle.mpe_segmenter.proofs.ValidLemmas.{got_map}
+use Rattle.spl_carries.specs.spl_tree.DeclarationTrees as decl
+use Rattle.spl_carries.specs.spl_tree.DeclarationTrees.{Declaration, Declarations, declarations}
+use Rattle.spl_carries.specs.spl_meaning.Names.{Sort, Table, find, same_name, nothing_declared}
+use Rattle.spl_carries.specs.spl_meaning.Limits.{joined}
+use Rattle.spl_carries.specs.spl_meaning.Stops.{declaration_stops}
+use Rattle.spl_carries.specs.spl_meaning.Tables.{Source, Routine, routine_in, routines_among, routines_of, with_declaration}
+use Rattle.spl_carries.specs.spl_meaning.Bodies.{Reached, reached_behind}
+use Rattle.spl_ways.specs.spl_branch.declared.modules.Module.{Module}
+use Rattle.spl_label_marks.specs.spl_scopes.Entries.{Entry, module_entries}
+use Rattle.spl_label_marks.specs.spl_scopes.Scopes.{Placed, first_reached, placed_units}
+use Rattle.spl_label_marks.specs.spl_module_code.Modules.{IsModuleOf, AreOfUnit, AreOf, marks_before, named_segment, uses_in, uses_among, uses_of, program_uses, numbered, is_taken, uses, next_number}
+use Rattle.spl_label_marks.specs.spl_module_code.Modules.{AreOfUnit as u}
+use Rattle.spl_label_marks.specs.spl_module_code.Modules.{AreOf as a}
+use Rattle.spl_ways.specs.mpe_segmenter.Names.{segment_of, is_among, with_name, names_from, segment_names, modules_of, part_from, parts}
+use Rattle.spl_ways.specs.mpe_segmenter.Sites.{IsModule}
+use Rattle.spl_ways.specs.mpe_segmenter.Whole.{IsWhole}
+use Rattle.spl_ways.proofs.mpe_segmenter_proofs.NameLemmas.{same_self}
+use Rattle.spl_ways.proofs.mpe_segmenter_proofs.PartLemmas.{equal_is}
+use Rattle.spl_ways.proofs.mpe_segmenter_proofs.ValidLemmas.{got_map}
 use Rattle.spl_routines.specs.Among.{IsIn, at_front, behind}
 use Rattle.spl_routines.specs.Located.{Located}
 use Rattle.spl_routines.proofs.ListLemmas.{in_left, in_right, one_there, at_parts, AtEither, before, beyond}
@@ -136,7 +136,7 @@ next_is q taken g o is used free =
     ap (λ (x : Option ℕ). next_number q taken x) is
     ∙ ap (λ (b : Bool). if b then Some g else None) (and_from (uses q g) (not (is_taken g taken)) used (ap (λ (b : Bool). not b) free))
 
-unit_has : (q : Placed) (g : ℕ) (x : List ℕ) → find (numbered 0 q.unit.segments) x ≡ Some g → uses q g ≡ true → (taken : List ℕ) (names : List (List ℕ))
+pub unit_has : (q : Placed) (g : ℕ) (x : List ℕ) → find (numbered 0 q.unit.segments) x ≡ Some g → uses q g ≡ true → (taken : List ℕ) (names : List (List ℕ))
     (ms : List Module) → AreOfUnit q taken names ms → is_taken g taken ≡ false → IsIn x names → HasModule q g ms
 unit_has q g x is used taken [] ms are free k = elim k [ ]
 unit_has q g x is used taken (name ∷ names) (m ∷ ms) (u.more {g = h} e own rest) free k =
@@ -199,7 +199,7 @@ own_use s table m (decl.Declaration.label xs) j r x is segment = cc
 own_use s table m (decl.Declaration.forward h) j r x is segment = cc
 own_use s table m (decl.Declaration.external h) j r x is segment = cc
 
-among_use : (s : Source) (table : Table Sort) (m : ℕ) (ds : Declarations) (j : ℕ) (r : Routine) (x : List ℕ) → slice_get (routines_among table m ds) j ≡ Some r
+pub among_use : (s : Source) (table : Table Sort) (m : ℕ) (ds : Declarations) (j : ℕ) (r : Routine) (x : List ℕ) → slice_get (routines_among table m ds) j ≡ Some r
     → slice_get s.segments r.heading.segment ≡ Some x → IsIn x (uses_among s ds)
 among_use s table m decl.none j r x is segment = cc
 among_use s table m (decl.and d ds) j r x is segment =

@@ -1,15 +1,15 @@
 -- The laws of this crate.
 use Rattle.std.specs.Prelude.{◌≡◌, ℕ, List, Some}
 use Rattle.std.specs.List.{slice_get}
-use Rattle.hp_program.specs.declared.program.Program.{Program}
-use Rattle.hp_steady.specs.Laws.{WordsAreNear}
-use Rattle.spl_meaning.specs.Names.{find}
-use Rattle.spl_meaning.specs.Tables.{Source}
-use Rattle.spl_meaning.specs.Bodies.{Named}
-use Rattle.spl_branch.specs.declared.modules.Module.{Module}
-use Rattle.spl_scopes.specs.Entries.{routine}
-use Rattle.spl_scopes.specs.Scopes.{Placed, first_reached, placed_units, routine_bodies, body_segment}
-use Rattle.spl_module_code.specs.Modules.{numbered}
+use Rattle.spl_carries.specs.hp_program.declared.program.Program.{Program}
+use Rattle.spl_ways.specs.hp_steady.Laws.{WordsAreNear}
+use Rattle.spl_carries.specs.spl_meaning.Names.{find}
+use Rattle.spl_carries.specs.spl_meaning.Tables.{Source}
+use Rattle.spl_carries.specs.spl_meaning.Bodies.{Named}
+use Rattle.spl_ways.specs.spl_branch.declared.modules.Module.{Module}
+use Rattle.spl_label_marks.specs.spl_scopes.Entries.{routine}
+use Rattle.spl_label_marks.specs.spl_scopes.Scopes.{Placed, first_reached, placed_units, routine_bodies, body_segment}
+use Rattle.spl_label_marks.specs.spl_module_code.Modules.{numbered}
 use Rattle.spl_endings.specs.Gates.{GatesLead}
 use Rattle.spl_routines.specs.Among.{IsIn}
 use Rattle.spl_routines.specs.Located.{MadeOf, Located, sites_at, wants_at}

@@ -1,21 +1,21 @@
 -- A program that is made of modules of units, and where a module of it stands.
 use Rattle.std.specs.Prelude.{◌≡◌, ℕ, true, false, List, Some}
 use Rattle.std.specs.List.{list_all}
-use Rattle.hp_program.specs.declared.program.Program.{Program}
-use Rattle.hp_program.specs.Programs.{segments_of}
-use Rattle.spl_meaning.specs.Tables.{Source}
-use Rattle.spl_branch.specs.declared.modules.Module.{Module}
-use Rattle.spl_branch.specs.Modules.{Finished}
-use Rattle.spl_code.specs.Parts.{Wanted, wants_of}
-use Rattle.spl_scopes.specs.Scopes.{Placed, first_reached, placed_units}
-use Rattle.spl_module_code.specs.Modules.{module_written, IsModuleOf, AreModules}
-use Rattle.mpe_segmenter.specs.Names.{parts}
-use Rattle.mpe_segmenter.specs.Counts.{sizes}
-use Rattle.mpe_segmenter.specs.Programs.{program_words, main_from}
-use Rattle.mpe_segmenter.specs.Sites.{IsModule, module_entries, Links}
-use Rattle.mpe_segmenter.specs.Whole.{IsWhole}
-use Rattle.spl_follow.specs.Standing.{Sites}
-use Rattle.spl_sites.specs.Beginnings.{begins_well, is_of_kind}
+use Rattle.spl_carries.specs.hp_program.declared.program.Program.{Program}
+use Rattle.spl_carries.specs.hp_program.Programs.{segments_of}
+use Rattle.spl_carries.specs.spl_meaning.Tables.{Source}
+use Rattle.spl_ways.specs.spl_branch.declared.modules.Module.{Module}
+use Rattle.spl_ways.specs.spl_branch.Modules.{Finished}
+use Rattle.spl_label_marks.specs.spl_code.Parts.{Wanted, wants_of}
+use Rattle.spl_label_marks.specs.spl_scopes.Scopes.{Placed, first_reached, placed_units}
+use Rattle.spl_label_marks.specs.spl_module_code.Modules.{module_written, IsModuleOf, AreModules}
+use Rattle.spl_ways.specs.mpe_segmenter.Names.{parts}
+use Rattle.spl_ways.specs.mpe_segmenter.Counts.{sizes}
+use Rattle.spl_ways.specs.mpe_segmenter.Programs.{program_words, main_from}
+use Rattle.spl_ways.specs.mpe_segmenter.Sites.{IsModule, module_entries, Links}
+use Rattle.spl_ways.specs.mpe_segmenter.Whole.{IsWhole}
+use Rattle.spl_endings.specs.spl_follow.Standing.{Sites}
+use Rattle.spl_ways.specs.spl_sites.Beginnings.{begins_well, is_of_kind}
 use Rattle.spl_ways.specs.Ways.{module_sites}
 use Rattle.spl_routines.specs.Among.{IsIn}
 

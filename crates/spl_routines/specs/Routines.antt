@@ -1,25 +1,25 @@
 -- Where the code of a procedure stands, and to which procedure the way of a call leads.
 use Rattle.std.specs.Prelude.{◌≡◌, ◌≤◌, ℕ, List, Some}
 use Rattle.std.specs.List.{slice_get}
-use Rattle.hp_program.specs.declared.program.Program.{Program}
-use Rattle.hp_steady.specs.Laws.{WordsAreNear}
-use Rattle.spl_meaning.specs.Names.{Table}
-use Rattle.spl_meaning.specs.Bodies.{Body, Named}
-use Rattle.spl_meaning.specs.Laws.{IsFront}
-use Rattle.spl_meaning.specs.Pending.{formals_words}
-use Rattle.spl_branch.specs.declared.modules.Module.{Module}
-use Rattle.spl_code.specs.Parts.{Wanted}
-use Rattle.spl_statement_code.specs.Landings.{Landing, Context}
-use Rattle.spl_statement_code.specs.Statements.{listed}
-use Rattle.spl_body_code.specs.Bodies.{frame_of, procedure_entered, procedure_left}
-use Rattle.spl_scopes.specs.Entries.{routine, procedure, Entry, module_entries}
-use Rattle.spl_scopes.specs.Scopes.{Placed}
-use Rattle.spl_module_code.specs.LabelsOfBodies.{labels_among, landed_from}
-use Rattle.spl_module_code.specs.Bodies.{context_of}
+use Rattle.spl_carries.specs.hp_program.declared.program.Program.{Program}
+use Rattle.spl_ways.specs.hp_steady.Laws.{WordsAreNear}
+use Rattle.spl_carries.specs.spl_meaning.Names.{Table}
+use Rattle.spl_carries.specs.spl_meaning.Bodies.{Body, Named}
+use Rattle.spl_carries.specs.spl_meaning.Laws.{IsFront}
+use Rattle.spl_carries.specs.spl_meaning.Pending.{formals_words}
+use Rattle.spl_ways.specs.spl_branch.declared.modules.Module.{Module}
+use Rattle.spl_label_marks.specs.spl_code.Parts.{Wanted}
+use Rattle.spl_label_marks.specs.spl_statement_code.Landings.{Landing, Context}
+use Rattle.spl_label_marks.specs.spl_statement_code.Statements.{listed}
+use Rattle.spl_label_marks.specs.spl_body_code.Bodies.{frame_of, procedure_entered, procedure_left}
+use Rattle.spl_label_marks.specs.spl_scopes.Entries.{routine, procedure, Entry, module_entries}
+use Rattle.spl_label_marks.specs.spl_scopes.Scopes.{Placed}
+use Rattle.spl_label_marks.specs.spl_module_code.LabelsOfBodies.{labels_among, landed_from}
+use Rattle.spl_label_marks.specs.spl_module_code.Bodies.{context_of}
 use Rattle.spl_carries.specs.Carries.{weight}
-use Rattle.spl_follow.specs.Spots.{Spot, pos, on}
-use Rattle.spl_follow.specs.Standing.{Stands}
-use Rattle.spl_sites.specs.Grounds.{ground_of}
+use Rattle.spl_endings.specs.spl_follow.Spots.{Spot, pos, on}
+use Rattle.spl_endings.specs.spl_follow.Standing.{Stands}
+use Rattle.spl_ways.specs.spl_sites.Grounds.{ground_of}
 use Rattle.spl_routines.specs.Located.{Located, sites_at, wants_at}
 
 -- where the labels of a body lead that have the marks from one on

@@ -2,9 +2,9 @@
 use Rattle.std.proofs.Common.{ℕ, ◌≡◌, ◌+◌, zero, suc, List, [], ◌∷◌, map, Option, Some, None, Result, Ok, Err, refl, sym, ap, subst}
 use Rattle.std.specs.Prelude.{slice_get, IfOk}
 use Rattle.spl_tree.specs.declared.units.SplUnit.{SplUnit}
-use Rattle.spl_cuts.proofs.WholeLemmas.{cut_whole}
-use Rattle.spl_meaning.specs.Tables.{Source}
-use Rattle.spl_sound.specs.Spelled.{Spelled, AreSpelled, source_of}
+use Rattle.spl_front.proofs.spl_cuts_proofs.WholeLemmas.{cut_whole}
+use Rattle.spl_types.specs.spl_meaning.Tables.{Source}
+use Rattle.spl_types.specs.spl_sound.Spelled.{Spelled, AreSpelled, source_of}
 use Rattle.spl_front.specs.declared.faults.UnitFault.{UnitFault}
 use Rattle.spl_front.specs.Fronts as front
 

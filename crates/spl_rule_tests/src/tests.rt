@@ -292,6 +292,67 @@ static OF_SEVERAL: [(&str, u8, u32, u32); 11] = [
     ),
 ];
 
+/// The part of which each rule speaks begins at line 3, column 2, and ends on a later line where it can: one for each
+/// kind of part that has a place.
+static AT_LINE_THREE: [(&str, u8); 32] = [
+    ("BEGIN INTEGER I;\nI:=\n J END.", 1),
+    (
+        "BEGIN PROCEDURE P; OPTION SPLIT; BEGIN INTEGER I;\nI:=\n @I; END; P END.",
+        27,
+    ),
+    ("BEGIN LOGICAL L;\nL:=\n NOT 5D END.", 7),
+    ("BEGIN INTEGER I; LOGICAL L;\nI:=\n I+\nL END.", 4),
+    ("BEGIN LOGICAL L;\nL:=\n L&\nLSL(16) END.", 13),
+    ("BEGIN LOGICAL L;\nL:=\n L.\n(10:7) END.", 13),
+    ("BEGIN LOGICAL L;\nIF\n INTEGER(L) THEN L:=1 END.", 7),
+    (
+        "BEGIN LOGICAL ARRAY W(0:3); BYTE ARRAY B(0:3);\nIF\n W=B,(2) THEN W(0):=1 END.",
+        24,
+    ),
+    ("BEGIN INTEGER I; L: I:=1;\n\n L: I:=2; GO L END.", 20),
+    ("BEGIN INTEGER I; I:=1;\n\n IF > THEN I:=2 END.", 22),
+    ("BEGIN INTEGER I;\n\n WHILE\n5D DO I:=0 END.", 7),
+    ("BEGIN INTEGER I;\n\n DO I:=0\nUNTIL 5D END.", 7),
+    ("BEGIN LOGICAL L;\n\n FOR\nL:=1 UNTIL 2 DO ; END.", 23),
+    ("BEGIN INTEGER I;\n\n CASE\n5D OF BEGIN I:=1 END END.", 14),
+    ("BEGIN\n\n GO\nTO L; BEGIN L: END END.", 21),
+    ("BEGIN ;\n\n RETURN END.", 25),
+    ("BEGIN DOUBLE D;\n\n D\n:=1 END.", 6),
+    (
+        "BEGIN DOUBLE D; BYTE ARRAY B(0:3);\n\n D\n:=MOVE B:=\"A\" END.",
+        6,
+    ),
+    (
+        "BEGIN LOGICAL ARRAY W(0:3); BYTE ARRAY B(0:3);\n\n MOVE\nB:=W,(1) END.",
+        24,
+    ),
+    ("BEGIN INTRINSIC QUIT;\n\n QUIT\n(1,2) END.", 8),
+    ("BEGIN INTEGER ARRAY A(0:1);\n\n @\nA:=5 END.", 3),
+    ("BEGIN INTEGER\nI,\n I; I:=1 END.", 2),
+    ("BEGIN EQUATE\nA=40000,\n B=A+A; END.", 14),
+    ("BEGIN INTRINSIC\nPRINT,\n PUNCH; END.", 26),
+    ("BEGIN LABEL\nL,\n L; L: END.", 2),
+    ("BEGIN PROCEDURE\n\n P; OPTION FORWARD; P END.", 19),
+    (
+        "BEGIN PROCEDURE P(A,\n\n A); VALUE A; INTEGER A; RETURN; END.",
+        2,
+    ),
+    (
+        "BEGIN PROCEDURE P(A); VALUE A,\n\n B; INTEGER A; RETURN; END.",
+        18,
+    ),
+    (
+        "BEGIN PROCEDURE P(A); VALUE A; INTEGER A; LOGICAL\n\n A; RETURN; END.",
+        18,
+    ),
+    ("BEGIN INTEGER ARRAY A(0:\n\n N); END.", 1),
+    (
+        "$CONTROL SUBPROGRAM\nBEGIN SUBROUTINE\n S; RETURN; END.",
+        28,
+    ),
+    ("$CONTROL SUBPROGRAM\n\n BEGIN BEGIN END END.", 28),
+];
+
 static SOUND: [&str; 8] = [
     "BEGIN END.",
     "BEGIN INTRINSIC QUIT; PROCEDURE P; BEGIN INTEGER I:=1; QUIT(I) END; P END.",
@@ -321,6 +382,15 @@ fn each_rule_once_more(rt: HostRuntime) -> Result<(), Fail> {
 #[test]
 fn the_first_of_several(rt: HostRuntime) -> Result<(), Fail> {
     compare(&rt, rt.alloc(), &OF_SEVERAL)
+}
+
+#[test]
+fn parts_at_a_later_line(rt: HostRuntime) -> Result<(), Fail> {
+    for (text, rule) in &AT_LINE_THREE {
+        let told = one(rt.alloc(), text.as_bytes());
+        assert!(rt; told == Told::Rule(*rule, 1, 3, 2), "{text}");
+    }
+    Ok(())
 }
 
 #[test]

@@ -1,6 +1,6 @@
 //! What the checker tells of texts.
 ghost use Rattle.std.specs.Prelude.{◌≡◌, ◌≤◌, length, map, IfOk};
-ghost use Rattle.spl_sound.specs.Spelled.{AreSpelled, Spelled, most_units, source_of};
+ghost use Rattle.spl_types.specs.spl_sound.Spelled.{AreSpelled, Spelled, most_units, source_of};
 
 use spl_front::{UnitFault, read_unit};
 use spl_tree::SplUnit;

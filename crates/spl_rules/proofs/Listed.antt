@@ -1,7 +1,7 @@
 -- Rules that parts break are those of the list of all faults.
 use Rattle.std.proofs.Common.{ℕ, ◌≡◌, false, List, [], ◌∷◌, Some, inl, inr, refl, sym, subst}
 use Rattle.std.specs.Prelude.{◌↔◌}
-use Rattle.spl_tree.specs.declared.names_and_places.At.{At}
+use Rattle.spl_meaning.specs.spl_tree.declared.names_and_places.At.{At}
 use Rattle.spl_meaning.specs.Tables.{Source}
 use Rattle.spl_meaning.specs.Faults.{Fault, fault, is_before, IsAmong}
 use Rattle.spl_meaning.specs.Sound as list

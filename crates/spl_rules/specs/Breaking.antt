@@ -1,12 +1,12 @@
 -- The 28 rules: which part breaks which rule, and at which place.
 use Rattle.std.specs.Prelude.{ℕ, ◌≡◌, ◌==◌, ◌&&◌, ◌||◌, Bool, true, false, pos, neg_ℤ, List, Option, Some, None, is_some, length}
-use Rattle.spl_tree.specs.declared.names_and_places.At.{At}
-use Rattle.spl_tree.specs.declared.expressions.Kind.{Kind}
-use Rattle.spl_tree.specs.Trees as tree
-use Rattle.spl_tree.specs.Trees.{Tree, Trees, Constant}
-use Rattle.spl_tree.specs.StatementTrees as stat
-use Rattle.spl_tree.specs.StatementTrees.{Statement, Target, Source, Effect}
-use Rattle.spl_tree.specs.DeclarationTrees.{Placed, Spec, Heading, Item, Term, Declarations}
+use Rattle.spl_meaning.specs.spl_tree.declared.names_and_places.At.{At}
+use Rattle.spl_meaning.specs.spl_tree.declared.expressions.Kind.{Kind}
+use Rattle.spl_meaning.specs.spl_tree.Trees as tree
+use Rattle.spl_meaning.specs.spl_tree.Trees.{Tree, Trees, Constant}
+use Rattle.spl_meaning.specs.spl_tree.StatementTrees as stat
+use Rattle.spl_meaning.specs.spl_tree.StatementTrees.{Statement, Target, Source, Effect}
+use Rattle.spl_meaning.specs.spl_tree.DeclarationTrees.{Placed, Spec, Heading, Item, Term, Declarations}
 use Rattle.spl_meaning.specs.Names.{Names, Sort, Formal, Profile, Table, find, within, same_name, profile_of, lists, spec_of, is_array_in, intrinsic_named, text_value, constant_value, sum_value}
 use Rattle.spl_meaning.specs.Kinds.{Operand, kind_of, is_double, reference_kind}
 use Rattle.spl_meaning.specs.Pending.{by_value}

@@ -1,11 +1,11 @@
 -- The parts of headings, declarations and units, in order of text.
 use Rattle.std.specs.Prelude.{Bool, true, false, if◌then◌else◌, List, [], ◌∷◌, ◌++◌}
-use Rattle.spl_tree.specs.declared.names_and_places.At.{At}
-use Rattle.spl_tree.specs.declared.expressions.Kind.{Kind}
-use Rattle.spl_tree.specs.Trees.{Constant}
-use Rattle.spl_tree.specs.StatementTrees.{Statement, statements}
-use Rattle.spl_tree.specs.DeclarationTrees as decl
-use Rattle.spl_tree.specs.DeclarationTrees.{Placed, Spec, Heading, Item, Equal, Term, Declaration, Declarations, declarations}
+use Rattle.spl_meaning.specs.spl_tree.declared.names_and_places.At.{At}
+use Rattle.spl_meaning.specs.spl_tree.declared.expressions.Kind.{Kind}
+use Rattle.spl_meaning.specs.spl_tree.Trees.{Constant}
+use Rattle.spl_meaning.specs.spl_tree.StatementTrees.{Statement, statements}
+use Rattle.spl_meaning.specs.spl_tree.DeclarationTrees as decl
+use Rattle.spl_meaning.specs.spl_tree.DeclarationTrees.{Placed, Spec, Heading, Item, Equal, Term, Declaration, Declarations, declarations}
 use Rattle.spl_meaning.specs.Names.{Names, Sort, Formal, Table, find, within, nothing_declared, parameters, formals_of}
 use Rattle.spl_meaning.specs.Tables.{Source, Routine, declared, shaped, with_equates, with_intrinsics, with_labels, with_declaration}
 use Rattle.spl_meaning.specs.Bodies.{all_routines}

@@ -1,8 +1,8 @@
 -- The parts of expressions and references, in order of text.
 use Rattle.std.specs.Prelude.{ℕ, ◌==◌, ◌&&◌, Bool, true, if◌then◌else◌, List, [], ◌∷◌, ◌++◌, Option, Some, None}
-use Rattle.spl_tree.specs.declared.names_and_places.At.{At}
-use Rattle.spl_tree.specs.Trees as tree
-use Rattle.spl_tree.specs.Trees.{Tree, Trees, Constant}
+use Rattle.spl_meaning.specs.spl_tree.declared.names_and_places.At.{At}
+use Rattle.spl_meaning.specs.spl_tree.Trees as tree
+use Rattle.spl_meaning.specs.spl_tree.Trees.{Tree, Trees, Constant}
 use Rattle.spl_meaning.specs.Names.{Names, Formal, Profile}
 use Rattle.spl_meaning.specs.Kinds.{compares_text, callable, works_on_bits, complement}
 use Rattle.spl_meaning.specs.Pending.{profile_formals, first_formal, other_formals}

@@ -1,6 +1,6 @@
 -- Rules as cases, held against the list of all faults.
 use Rattle.std.specs.Prelude.{ℕ, ◌≡◌, ◌⊎◌, ◌↔◌, List, [], ◌∷◌, Some, false}
-use Rattle.spl_tree.specs.declared.names_and_places.At.{At}
+use Rattle.spl_meaning.specs.spl_tree.declared.names_and_places.At.{At}
 use Rattle.spl_meaning.specs.Tables.{Source}
 use Rattle.spl_meaning.specs.Faults.{Fault, fault, is_before}
 use Rattle.spl_meaning.specs.Sound as list

@@ -1,10 +1,10 @@
 -- Parts: what a rule speaks of, with all that the rule has to know of the place where it stands.
 use Rattle.std.specs.Prelude.{ℕ, Bool, List, Option}
-use Rattle.spl_tree.specs.declared.names_and_places.At.{At}
-use Rattle.spl_tree.specs.declared.expressions.Kind.{Kind}
-use Rattle.spl_tree.specs.Trees.{Tree, Constant}
-use Rattle.spl_tree.specs.StatementTrees.{Statement, Target, Effect}
-use Rattle.spl_tree.specs.DeclarationTrees.{Placed, Spec, Heading, Item, Term, Declarations}
+use Rattle.spl_meaning.specs.spl_tree.declared.names_and_places.At.{At}
+use Rattle.spl_meaning.specs.spl_tree.declared.expressions.Kind.{Kind}
+use Rattle.spl_meaning.specs.spl_tree.Trees.{Tree, Constant}
+use Rattle.spl_meaning.specs.spl_tree.StatementTrees.{Statement, Target, Effect}
+use Rattle.spl_meaning.specs.spl_tree.DeclarationTrees.{Placed, Spec, Heading, Item, Term, Declarations}
 use Rattle.spl_meaning.specs.Names.{Names, Sort, Formal, Profile, Table}
 use Rattle.spl_meaning.specs.Kinds.{Operand}
 use Rattle.spl_meaning.specs.Tables.{Routine}

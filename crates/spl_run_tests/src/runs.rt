@@ -1,14 +1,14 @@
 //! The sessions of a job, each run alone by its program.
-ghost use Rattle.job_text.specs.Fits.{ProgramFits};
-ghost use Rattle.job_text.specs.Views.{text_value};
+ghost use Rattle.hp3000_top.specs.job_text.Fits.{ProgramFits};
+ghost use Rattle.hp3000_top.specs.job_text.Views.{text_value};
 
-use hp_flat::Flat;
 use hp_program::Program;
 use hp_word::Ending;
-use job_text::{Text, read_job};
+use hp3000_top::hp_flat::Flat;
+use hp3000_top::job_text::{Text, read_job};
+use hp3000_top::spl_build::build;
+use hp3000_top::spl_program::read_program;
 use mpe_progfile::{read, write};
-use spl_build::build;
-use spl_program::read_program;
 use std::alloc::Global;
 use std::process::Abort;
 use std::test::Fail;

@@ -1,15 +1,15 @@
 -- The answers of MOVE and SCAN, each by what is moved or scanned behind the first address and its copy.
 use Rattle.std.proofs.Common.{◌≡◌, ℕ, suc, ◌+◌, ◌-◌, true, List, [], ◌∷◌, ◌++◌, refl, sym, subst, arith}
 use Rattle.std.proofs.lemmas.List.{append_assoc}
-use Rattle.spl_branch.specs.declared.pieces.Piece.{Piece}
-use Rattle.spl_meaning.specs.Elements.{with_one, moved_text, moved_while, scanned}
-use Rattle.spl_meaning.specs.States.{State, Outcome, then_go}
-use Rattle.spl_meaning.specs.Statements.{moved_far}
-use Rattle.spl_code.specs.Code.{as_value}
-use Rattle.spl_code.specs.Parts.{Part, pieces, piece, ◌⨟◌}
-use Rattle.spl_statement_code.specs.Effects.{kept_first, told, class_letters, scan_of}
-use Rattle.spl_statement_code.specs.Instructions.{MVBW}
-use Rattle.spl_follow.specs.Simulating.{Surroundings, Simulates}
+use Rattle.spl_moves.specs.spl_branch.declared.pieces.Piece.{Piece}
+use Rattle.spl_moves.specs.spl_meaning.Elements.{with_one, moved_text, moved_while, scanned}
+use Rattle.spl_moves.specs.spl_meaning.States.{State, Outcome, then_go}
+use Rattle.spl_moves.specs.spl_meaning.Statements.{moved_far}
+use Rattle.spl_moves.specs.spl_code.Code.{as_value}
+use Rattle.spl_moves.specs.spl_code.Parts.{Part, pieces, piece, ◌⨟◌}
+use Rattle.spl_moves.specs.spl_statement_code.Effects.{kept_first, told, class_letters, scan_of}
+use Rattle.spl_moves.specs.spl_statement_code.Instructions.{MVBW}
+use Rattle.spl_moves.specs.spl_follow.Simulating.{Surroundings, Simulates}
 use Rattle.spl_moves.specs.Moving.{IsReference, Answers}
 use Rattle.spl_scans.specs.Laws.{text_moved, TextMovesAnswer, ClassMovesAnswer, ScansAnswer}
 use Rattle.spl_moves.proofs.AnswerLemmas.{move_answers, two_more}

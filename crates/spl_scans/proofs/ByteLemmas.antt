@@ -1,33 +1,33 @@
 -- MOVE WHILE and SCAN as statements: what is moved, or scanned, behind the first address.
 use Rattle.std.proofs.Common.{◌≡◌, ℕ, suc, ◌+◌, ◌-◌, ◌<◌, ◌≤◌, Bool, true, false, List, [], ◌∷◌, ◌++◌, length, refl, sym, ap, subst, ◌∙◌, arith}
 use Rattle.std.proofs.lemmas.List.{append_assoc}
-use Rattle.hp_instr.specs.declared.instruction.Instr.TheVariants as i
-use Rattle.hp_session.specs.State.{Machine}
-use Rattle.spl_tree.specs.declared.expressions.Kind.{Kind}
-use Rattle.spl_branch.specs.declared.pieces.Piece.{Piece}
-use Rattle.spl_branch.specs.declared.pieces.Piece.TheVariants.{Begin}
-use Rattle.spl_meaning.specs.Elements.{with_one, moved_while, scanned}
-use Rattle.spl_meaning.specs.Laws.{IsFront}
-use Rattle.spl_meaning.specs.References.{Located}
-use Rattle.spl_meaning.specs.States.{Data, State, Outcome, then_go, stopping}
-use Rattle.spl_meaning.specs.Statements.{value_dropped, moved_far}
-use Rattle.spl_code.specs.Code.{as_value}
-use Rattle.spl_code.specs.Parts.{Part, Wanted, pieces, piece, ◌⨟◌}
-use Rattle.spl_statement_code.specs.Effects.{kept_first, told, class_letters, scan_of}
-use Rattle.spl_statement_code.specs.Instructions.{MVBW}
-use Rattle.spl_follow.specs.Spots.{Spot, pos, Point, on, Ground}
-use Rattle.spl_follow.specs.Leading.{Leads}
-use Rattle.spl_follow.specs.Matching.{IsValue}
-use Rattle.spl_follow.specs.Following.{tally, Follows, NoExit}
-use Rattle.spl_follow.specs.Doing.{doing}
-use Rattle.spl_follow.specs.Standing.{Sites, Stands}
-use Rattle.spl_follow.specs.Simulating.{Surroundings, Simulates, Performs}
-use Rattle.spl_follow.proofs.FollowLemmas.{bind_follows}
-use Rattle.spl_follow.proofs.KeepLemmas.{values_join}
-use Rattle.spl_follow.proofs.PartLemmas.{stand_in_order}
-use Rattle.spl_values.specs.Reached.{IsWhole}
-use Rattle.spl_values.proofs.GiveLemmas.{last_leads}
-use Rattle.spl_values.proofs.WholeLemmas.{whole_behind, whole_pieces, whole_then, then_same}
+use Rattle.spl_moves.specs.hp_instr.declared.instruction.Instr.TheVariants as i
+use Rattle.spl_moves.specs.hp_session.State.{Machine}
+use Rattle.spl_moves.specs.spl_tree.declared.expressions.Kind.{Kind}
+use Rattle.spl_moves.specs.spl_branch.declared.pieces.Piece.{Piece}
+use Rattle.spl_moves.specs.spl_branch.declared.pieces.Piece.TheVariants.{Begin}
+use Rattle.spl_moves.specs.spl_meaning.Elements.{with_one, moved_while, scanned}
+use Rattle.spl_moves.specs.spl_meaning.Laws.{IsFront}
+use Rattle.spl_moves.specs.spl_meaning.References.{Located}
+use Rattle.spl_moves.specs.spl_meaning.States.{Data, State, Outcome, then_go, stopping}
+use Rattle.spl_moves.specs.spl_meaning.Statements.{value_dropped, moved_far}
+use Rattle.spl_moves.specs.spl_code.Code.{as_value}
+use Rattle.spl_moves.specs.spl_code.Parts.{Part, Wanted, pieces, piece, ◌⨟◌}
+use Rattle.spl_moves.specs.spl_statement_code.Effects.{kept_first, told, class_letters, scan_of}
+use Rattle.spl_moves.specs.spl_statement_code.Instructions.{MVBW}
+use Rattle.spl_moves.specs.spl_follow.Spots.{Spot, pos, Point, on, Ground}
+use Rattle.spl_moves.specs.spl_follow.Leading.{Leads}
+use Rattle.spl_moves.specs.spl_follow.Matching.{IsValue}
+use Rattle.spl_moves.specs.spl_follow.Following.{tally, Follows, NoExit}
+use Rattle.spl_moves.specs.spl_follow.Doing.{doing}
+use Rattle.spl_moves.specs.spl_follow.Standing.{Sites, Stands}
+use Rattle.spl_moves.specs.spl_follow.Simulating.{Surroundings, Simulates, Performs}
+use Rattle.spl_moves.proofs.spl_follow_proofs.FollowLemmas.{bind_follows}
+use Rattle.spl_moves.proofs.spl_follow_proofs.KeepLemmas.{values_join}
+use Rattle.spl_moves.proofs.spl_follow_proofs.PartLemmas.{stand_in_order}
+use Rattle.spl_moves.specs.spl_values.Reached.{IsWhole}
+use Rattle.spl_moves.proofs.spl_values_proofs.GiveLemmas.{last_leads}
+use Rattle.spl_moves.proofs.spl_values_proofs.WholeLemmas.{whole_behind, whole_pieces, whole_then, then_same}
 use Rattle.spl_moves.specs.Moving.{IsReference}
 use Rattle.spl_moves.specs.Laws.{AreUnits}
 use Rattle.spl_scans.specs.Laws.{ClassMovesPerform, ScansPerform}

@@ -2,9 +2,9 @@
 use Rattle.std.proofs.Common.{◌≡◌, ℕ, zero, suc, ◌-◌, ◌<◌, Bool, true, false, refl, arith}
 use Rattle.std.specs.Prelude.{◌==◌, ◌&&◌, ◌||◌, nat_le, if◌then◌else◌}
 use Rattle.std.proofs.lemmas.Bool.Decides.{nat_tests}
-use Rattle.hp_memory_rows.specs.MoveRows as row
-use Rattle.spl_meaning.specs.Elements as run
-use Rattle.spl_statement_code.specs.Effects.{class_letters}
+use Rattle.spl_moves.specs.hp_memory_rows.MoveRows as row
+use Rattle.spl_moves.specs.spl_meaning.Elements as run
+use Rattle.spl_moves.specs.spl_statement_code.Effects.{class_letters}
 
 -- either of two, in either order
 either_order : (a b : Bool) → (a || b) ≡ (b || a)

@@ -1,22 +1,22 @@
 -- A move or a scan with two words on top: a step that stays, one that is the last, and one that traps.
 use Rattle.std.proofs.Common.{◌≡◌, ℕ, ◌+◌, ◌-◌, ◌<◌, ◌≤◌, [], ◌∷◌, ◌++◌, length, take, Ok, Err, refl, sym, ap, subst, ◌∙◌, arith}
 use Rattle.std.specs.Prelude.{None}
-use Rattle.hp_word.specs.declared.endings.Ending.TheVariants.{Running}
-use Rattle.hp_word.specs.declared.endings.Trap.TheVariants.{Bounds}
-use Rattle.hp_instr.specs.declared.instruction.Instr.TheVariants as i
-use Rattle.hp_session.specs.State.{Machine, Outcome as Row, word, replaced, wrapped}
-use Rattle.hp_memory_rows.specs.MoveRows.{move_row}
-use Rattle.hp_flat.specs.Step.{at_left}
-use Rattle.spl_meaning.specs.References.{Setting}
-use Rattle.spl_meaning.specs.States.{Data, State, ends, trapped}
-use Rattle.spl_follow.specs.Spots.{Spot, spot, pos, landed, on, Ground}
-use Rattle.spl_follow.specs.Leading.{Leads}
-use Rattle.spl_follow.specs.Matching.{outer, Matched, Kept, Shows, IsValue}
-use Rattle.spl_follow.specs.Following.{Rate, Tally, tally, Goes, Follows, NoExit}
-use Rattle.spl_follow.specs.Doing.{moving, doing}
-use Rattle.spl_follow.proofs.KeepLemmas.{kept_top, kept_stack, value_word}
-use Rattle.spl_follow.proofs.RowLemmas.{no_print, shown, row_trap}
-use Rattle.spl_follow.proofs.WayLemmas.{lead, lead_briefly}
+use Rattle.spl_moves.specs.hp_word.declared.endings.Ending.TheVariants.{Running}
+use Rattle.spl_moves.specs.hp_word.declared.endings.Trap.TheVariants.{Bounds}
+use Rattle.spl_moves.specs.hp_instr.declared.instruction.Instr.TheVariants as i
+use Rattle.spl_moves.specs.hp_session.State.{Machine, Outcome as Row, word, replaced, wrapped}
+use Rattle.spl_moves.specs.hp_memory_rows.MoveRows.{move_row}
+use Rattle.spl_moves.specs.hp_flat.Step.{at_left}
+use Rattle.spl_moves.specs.spl_meaning.References.{Setting}
+use Rattle.spl_moves.specs.spl_meaning.States.{Data, State, ends, trapped}
+use Rattle.spl_moves.specs.spl_follow.Spots.{Spot, spot, pos, landed, on, Ground}
+use Rattle.spl_moves.specs.spl_follow.Leading.{Leads}
+use Rattle.spl_moves.specs.spl_follow.Matching.{outer, Matched, Kept, Shows, IsValue}
+use Rattle.spl_moves.specs.spl_follow.Following.{Rate, Tally, tally, Goes, Follows, NoExit}
+use Rattle.spl_moves.specs.spl_follow.Doing.{moving, doing}
+use Rattle.spl_moves.proofs.spl_follow_proofs.KeepLemmas.{kept_top, kept_stack, value_word}
+use Rattle.spl_moves.proofs.spl_follow_proofs.RowLemmas.{no_print, shown, row_trap}
+use Rattle.spl_moves.proofs.spl_follow_proofs.WayLemmas.{lead, lead_briefly}
 use Rattle.spl_moves.proofs.StepLemmas.{stays, passes, value_left, first_left}
 
 module _ (g : Ground) (w : Rate) (st : Setting) (p r : Spot) (k : ℕ) (d0 : Data) (m0 : Machine) (which number : ℕ)

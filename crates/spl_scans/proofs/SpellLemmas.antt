@@ -2,22 +2,22 @@
 use Rattle.std.proofs.Common.{◌≡◌, ℕ, suc, ◌+◌, ◌*◌, ◌/◌, ◌%◌, ◌≤◌, Bool, true, false, List, [], ◌∷◌, map, length, refl, sym, ap, subst, ◌∙◌, arith}
 use Rattle.std.specs.Prelude.{Some, Ok, Result}
 use Rattle.std.proofs.lemmas.Bool.{false≢true}
-use Rattle.hp_word.specs.Bytes.{byte_at}
-use Rattle.hp_word.specs.declared.endings.Trap.{Trap}
-use Rattle.hp_program.specs.Programs.{code_word}
-use Rattle.hp_session.specs.State.{Machine, then_with}
-use Rattle.hp_memory_rows.specs.MemoryRows.{present, code_read}
-use Rattle.hp_memory_rows.specs.MoveRows.{source_word, source_byte}
-use Rattle.spl_tree.specs.declared.expressions.Kind.{Kind}
-use Rattle.spl_tree.specs.declared.expressions.Kind.TheVariants as kind
-use Rattle.spl_branch.specs.declared.pieces.Piece.{Piece}
-use Rattle.spl_branch.specs.declared.pieces.Piece.TheVariants.{Do, Literal, Place, Branch, Mark, Call, Begin}
-use Rattle.spl_meaning.specs.Elements.{as_words, text_elements}
-use Rattle.spl_meaning.specs.Kinds.{is_byte}
-use Rattle.spl_statement_code.specs.Effects.{text_count}
-use Rattle.spl_frames.specs.Words.{AreWords}
-use Rattle.spl_follow.specs.Spots.{Spot, Point, on, Ground}
-use Rattle.spl_follow.specs.Standing.{Sites, Stands, due_after}
+use Rattle.spl_moves.specs.hp_word.Bytes.{byte_at}
+use Rattle.spl_moves.specs.hp_word.declared.endings.Trap.{Trap}
+use Rattle.spl_moves.specs.hp_program.Programs.{code_word}
+use Rattle.spl_moves.specs.hp_session.State.{Machine, then_with}
+use Rattle.spl_moves.specs.hp_memory_rows.MemoryRows.{present, code_read}
+use Rattle.spl_moves.specs.hp_memory_rows.MoveRows.{source_word, source_byte}
+use Rattle.spl_moves.specs.spl_tree.declared.expressions.Kind.{Kind}
+use Rattle.spl_moves.specs.spl_tree.declared.expressions.Kind.TheVariants as kind
+use Rattle.spl_moves.specs.spl_branch.declared.pieces.Piece.{Piece}
+use Rattle.spl_moves.specs.spl_branch.declared.pieces.Piece.TheVariants.{Do, Literal, Place, Branch, Mark, Call, Begin}
+use Rattle.spl_moves.specs.spl_meaning.Elements.{as_words, text_elements}
+use Rattle.spl_moves.specs.spl_meaning.Kinds.{is_byte}
+use Rattle.spl_moves.specs.spl_statement_code.Effects.{text_count}
+use Rattle.spl_moves.specs.spl_frames.Words.{AreWords}
+use Rattle.spl_moves.specs.spl_follow.Spots.{Spot, Point, on, Ground}
+use Rattle.spl_moves.specs.spl_follow.Standing.{Sites, Stands, due_after}
 use Rattle.spl_scans.specs.Laws.{AreBytes}
 use Rattle.spl_moves.proofs.UnitLemmas.{source}
 use Rattle.spl_moves.proofs.MoveLemmas.{Spelled}

@@ -3,46 +3,46 @@ use Rattle.std.proofs.Common.{◌≡◌, ℕ, suc, ◌+◌, ◌-◌, ◌*◌, �
 use Rattle.std.proofs.Common.{List, [], ◌∷◌, ◌++◌, map, length, Some, refl, sym, ap, subst, ◌∙◌, arith}
 use Rattle.std.specs.Prelude.{◌^◌, nat_lt, if◌then◌else◌}
 use Rattle.std.proofs.lemmas.List.{append-nil, append_assoc}
-use Rattle.hp_word.specs.Bits.{shifted}
-use Rattle.hp_word.proofs.ShiftLemmas.{shifted-Lsl}
-use Rattle.hp_instr.specs.declared.instruction.Instr.TheVariants as i
-use Rattle.hp_program.specs.Programs.{code_word}
-use Rattle.hp_session.specs.State.{Machine}
-use Rattle.hp_word_rows.specs.WordRows.{shift_of, shifting}
-use Rattle.hp_memory_rows.specs.MemoryRows.{code_loaded}
-use Rattle.hp_flat.specs.Step.{at_left}
-use Rattle.hp_yields.proofs.MemoryYields as memory
-use Rattle.hp_yields.proofs.WordYields as words
-use Rattle.spl_tree.specs.declared.expressions.Kind.{Kind}
-use Rattle.spl_branch.specs.declared.pieces.Piece.{Piece}
-use Rattle.spl_branch.specs.declared.pieces.Piece.TheVariants.{Literal, Place, Mark}
-use Rattle.spl_meaning.specs.Elements.{as_words, moved_text, moved_list}
-use Rattle.spl_meaning.specs.References.{Setting}
-use Rattle.spl_meaning.specs.States.{Data, State, done}
-use Rattle.spl_code.specs.Code.{as_value}
-use Rattle.spl_code.specs.Constants.{constant, text_offset}
-use Rattle.spl_code.specs.Instructions.{LDI, LDNI, LSL, ORI, BR, LOAD_BEFORE}
-use Rattle.spl_code.specs.Parts.{Part, Wanted, pieces, piece, ◌⨟◌}
-use Rattle.spl_statement_code.specs.Effects.{move_of, text_scaled, text_count}
-use Rattle.spl_follow.specs.Leading.{Leads}
-use Rattle.spl_follow.specs.Spots.{Spot, pos, half, landed, next_word, on}
-use Rattle.spl_follow.specs.Matching.{IsValue}
-use Rattle.spl_follow.specs.Following.{tally, Follows, NoExit}
-use Rattle.spl_follow.specs.Doing.{doing, turning}
-use Rattle.spl_follow.specs.Yielding.{Yields}
-use Rattle.spl_follow.specs.Standing.{Stands, IsClosed}
-use Rattle.spl_follow.specs.Parts.{Ready, Gives}
-use Rattle.spl_follow.specs.Simulating.{Surroundings}
-use Rattle.spl_follow.proofs.FollowLemmas.{then_follows}
-use Rattle.spl_follow.proofs.KeepLemmas.{values_join, value_word}
-use Rattle.spl_follow.proofs.PartLemmas.{stand_in_order, stand_from_place}
-use Rattle.spl_follow.proofs.RowLemmas.{shown, no_print}
-use Rattle.spl_follow.proofs.StandLemmas.{closed_last}
-use Rattle.spl_follow.proofs.WayLemmas.{lead}
-use Rattle.spl_values.specs.Reached.{IsWhole}
-use Rattle.spl_values.proofs.ConstantLemmas.{constants_give}
-use Rattle.spl_values.proofs.GiveLemmas.{last_leads, ready_room, row_gives, row_behind}
-use Rattle.spl_values.proofs.WholeLemmas.{whole_then, whole_last, whole_behind}
+use Rattle.spl_moves.specs.hp_word.Bits.{shifted}
+use Rattle.spl_moves.proofs.hp_word_proofs.ShiftLemmas.{shifted-Lsl}
+use Rattle.spl_moves.specs.hp_instr.declared.instruction.Instr.TheVariants as i
+use Rattle.spl_moves.specs.hp_program.Programs.{code_word}
+use Rattle.spl_moves.specs.hp_session.State.{Machine}
+use Rattle.spl_moves.specs.hp_word_rows.WordRows.{shift_of, shifting}
+use Rattle.spl_moves.specs.hp_memory_rows.MemoryRows.{code_loaded}
+use Rattle.spl_moves.specs.hp_flat.Step.{at_left}
+use Rattle.spl_moves.proofs.hp_yields_proofs.MemoryYields as memory
+use Rattle.spl_moves.proofs.hp_yields_proofs.WordYields as words
+use Rattle.spl_moves.specs.spl_tree.declared.expressions.Kind.{Kind}
+use Rattle.spl_moves.specs.spl_branch.declared.pieces.Piece.{Piece}
+use Rattle.spl_moves.specs.spl_branch.declared.pieces.Piece.TheVariants.{Literal, Place, Mark}
+use Rattle.spl_moves.specs.spl_meaning.Elements.{as_words, moved_text, moved_list}
+use Rattle.spl_moves.specs.spl_meaning.References.{Setting}
+use Rattle.spl_moves.specs.spl_meaning.States.{Data, State, done}
+use Rattle.spl_moves.specs.spl_code.Code.{as_value}
+use Rattle.spl_moves.specs.spl_code.Constants.{constant, text_offset}
+use Rattle.spl_moves.specs.spl_code.Instructions.{LDI, LDNI, LSL, ORI, BR, LOAD_BEFORE}
+use Rattle.spl_moves.specs.spl_code.Parts.{Part, Wanted, pieces, piece, ◌⨟◌}
+use Rattle.spl_moves.specs.spl_statement_code.Effects.{move_of, text_scaled, text_count}
+use Rattle.spl_moves.specs.spl_follow.Leading.{Leads}
+use Rattle.spl_moves.specs.spl_follow.Spots.{Spot, pos, half, landed, next_word, on}
+use Rattle.spl_moves.specs.spl_follow.Matching.{IsValue}
+use Rattle.spl_moves.specs.spl_follow.Following.{tally, Follows, NoExit}
+use Rattle.spl_moves.specs.spl_follow.Doing.{doing, turning}
+use Rattle.spl_moves.specs.spl_follow.Yielding.{Yields}
+use Rattle.spl_moves.specs.spl_follow.Standing.{Stands, IsClosed}
+use Rattle.spl_moves.specs.spl_follow.Parts.{Ready, Gives}
+use Rattle.spl_moves.specs.spl_follow.Simulating.{Surroundings}
+use Rattle.spl_moves.proofs.spl_follow_proofs.FollowLemmas.{then_follows}
+use Rattle.spl_moves.proofs.spl_follow_proofs.KeepLemmas.{values_join, value_word}
+use Rattle.spl_moves.proofs.spl_follow_proofs.PartLemmas.{stand_in_order, stand_from_place}
+use Rattle.spl_moves.proofs.spl_follow_proofs.RowLemmas.{shown, no_print}
+use Rattle.spl_moves.proofs.spl_follow_proofs.StandLemmas.{closed_last}
+use Rattle.spl_moves.proofs.spl_follow_proofs.WayLemmas.{lead}
+use Rattle.spl_moves.specs.spl_values.Reached.{IsWhole}
+use Rattle.spl_moves.proofs.spl_values_proofs.ConstantLemmas.{constants_give}
+use Rattle.spl_moves.proofs.spl_values_proofs.GiveLemmas.{last_leads, ready_room, row_gives, row_behind}
+use Rattle.spl_moves.proofs.spl_values_proofs.WholeLemmas.{whole_then, whole_last, whole_behind}
 use Rattle.spl_moves.specs.Laws.{AreUnits}
 use Rattle.spl_scans.specs.Laws.{AreBytes, text_moved, TextMovesPerform}
 use Rattle.spl_moves.proofs.CountLemmas.{at_address}
@@ -62,11 +62,11 @@ offset_whole text = record {
   keeps = λ h ws. record { rest = []; is = sym (append-nil ws) };
 }
 
-scaled_whole : (bytes : Bool) (text : List ℕ) → IsWhole (text_offset text ⨟ pieces (text_scaled bytes))
+pub scaled_whole : (bytes : Bool) (text : List ℕ) → IsWhole (text_offset text ⨟ pieces (text_scaled bytes))
 scaled_whole true text = whole_behind (text_offset text) (LSL 1 ∷ []) (offset_whole text) refl
 scaled_whole false text = whole_last (text_offset text) (offset_whole text)
 
-constant_closed : (c : ℕ) → IsClosed (constant c)
+pub constant_closed : (c : ℕ) → IsClosed (constant c)
 constant_closed c = by (nat_lt c 256) (nat_lt 65280 c) where
   by : (a b : Bool)
       → IsClosed (if a then LDI c ∷ [] else if b then LDNI (65536 - c) ∷ [] else LDI (c / 256) ∷ LSL 8 ∷ ORI (c % 256) ∷ [])
@@ -202,12 +202,12 @@ doubled st p k d m v s n x =
 
 -- its elements stand in the segment of p, and the code from p to q has pushed where
 pub record IsSpelled (z : Surroundings) (p : Spot) (q : Spot) (k : ℕ) (bytes : Bool) (text : List ℕ) (s : State) (m : Machine) : Type 0 where
-  offset : ℕ
-  spelled : Spelled z.ground bytes p.seg offset (text_units bytes text)
-  few : length (text_units bytes text) < 32768
-  gives : Gives z.ground z.rate z.setting z.sites.marks as_value 1 (on p) q k s s.begun m (done (offset ∷ []) s)
+  pub offset : ℕ
+  pub spelled : Spelled z.ground bytes p.seg offset (text_units bytes text)
+  pub few : length (text_units bytes text) < 32768
+  pub gives : Gives z.ground z.rate z.setting z.sites.marks as_value 1 (on p) q k s s.begun m (done (offset ∷ []) s)
 
-offset_spelled : (z : Surroundings) (d k need : ℕ) (bytes : Bool) (text : List ℕ) → AreBytes text → 1 ≤ need → (h : ℕ) (ws : List Wanted) (p q : Spot)
+pub offset_spelled : (z : Surroundings) (d k need : ℕ) (bytes : Bool) (text : List ℕ) → AreBytes text → 1 ≤ need → (h : ℕ) (ws : List Wanted) (p q : Spot)
     (s : State) (m : Machine) → Stands z.ground z.sites (on p) ((text_offset text ⨟ pieces (text_scaled bytes)) h ws).pieces q
     → Ready z.setting d (on p) k need s s.begun m → IsSpelled z p q k bytes text s m
 offset_spelled z d k need true text small enough h ws p q s m stands ready =

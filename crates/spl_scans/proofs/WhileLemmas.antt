@@ -2,32 +2,32 @@
 use Rattle.std.proofs.Common.{◌≡◌, ℕ, zero, suc, ◌+◌, ◌-◌, ◌/◌, ◌%◌, ◌<◌, ◌≤◌, Bool, true, false}
 use Rattle.std.proofs.Common.{List, [], ◌∷◌, length, Ok, Err, refl, sym, ap, subst, ◌∙◌, arith, inl}
 use Rattle.std.specs.Prelude.{Some, ◌==◌, ◌&&◌, ◌||◌, not, if◌then◌else◌, slice_set}
-use Rattle.hp_word.specs.Bytes.{byte_at}
-use Rattle.hp_word.specs.declared.endings.Trap.TheVariants.{Bounds}
-use Rattle.hp_instr.specs.declared.instruction.Instr.TheVariants as i
-use Rattle.hp_session.specs.State.{Machine, Outcome as Row, word, without, replaced, passed}
-use Rattle.hp_session.specs.declared.places.Place.TheVariants.{Db}
-use Rattle.hp_session.specs.Places.{byte_read, byte_written}
-use Rattle.hp_memory_rows.specs.MoveRows as row
-use Rattle.hp_memory_rows.specs.MoveRows.{source_byte, move_row, byte_passed, scan_ended}
-use Rattle.hp_call_yields.proofs.MoveYields as rows
-use Rattle.hp_flat.specs.Step.{at_left}
-use Rattle.hp_yields.specs.Rows.{held, with_held}
-use Rattle.spl_tree.specs.declared.expressions.Kind.{Kind}
-use Rattle.spl_meaning.specs.Kinds.{width, is_byte}
-use Rattle.spl_meaning.specs.Elements.{is_of_class, of_class, moved_while, is_passed, scanned, with_one}
-use Rattle.spl_meaning.specs.References.{Setting, Located, placed_word, word_at, store_by}
-use Rattle.spl_meaning.specs.States.{Data, State, Outcome, done, ends, trapped, then_go, stepping}
-use Rattle.spl_statement_code.specs.Effects.{class_letters}
-use Rattle.spl_follow.specs.Spots.{Spot, pos, on, Ground}
-use Rattle.spl_follow.specs.Leading.{Leads}
-use Rattle.spl_follow.specs.Matching.{IsValue}
-use Rattle.spl_follow.specs.Following.{Rate, tally, Goes, Follows, NoExit}
-use Rattle.spl_follow.specs.Doing.{moving, doing}
-use Rattle.spl_follow.proofs.FollowLemmas.{then_follows, widen, spend_follows}
-use Rattle.spl_follow.proofs.RowLemmas.{stray_here}
-use Rattle.spl_operands.specs.Operands.{Seen}
-use Rattle.spl_operands.proofs.SeeLemmas.{see}
+use Rattle.spl_moves.specs.hp_word.Bytes.{byte_at}
+use Rattle.spl_moves.specs.hp_word.declared.endings.Trap.TheVariants.{Bounds}
+use Rattle.spl_moves.specs.hp_instr.declared.instruction.Instr.TheVariants as i
+use Rattle.spl_moves.specs.hp_session.State.{Machine, Outcome as Row, word, without, replaced, passed}
+use Rattle.spl_moves.specs.hp_session.declared.places.Place.TheVariants.{Db}
+use Rattle.spl_moves.specs.hp_session.Places.{byte_read, byte_written}
+use Rattle.spl_moves.specs.hp_memory_rows.MoveRows as row
+use Rattle.spl_moves.specs.hp_memory_rows.MoveRows.{source_byte, move_row, byte_passed, scan_ended}
+use Rattle.spl_moves.proofs.hp_call_yields_proofs.MoveYields as rows
+use Rattle.spl_moves.specs.hp_flat.Step.{at_left}
+use Rattle.spl_moves.specs.hp_yields.Rows.{held, with_held}
+use Rattle.spl_moves.specs.spl_tree.declared.expressions.Kind.{Kind}
+use Rattle.spl_moves.specs.spl_meaning.Kinds.{width, is_byte}
+use Rattle.spl_moves.specs.spl_meaning.Elements.{is_of_class, of_class, moved_while, is_passed, scanned, with_one}
+use Rattle.spl_moves.specs.spl_meaning.References.{Setting, Located, placed_word, word_at, store_by}
+use Rattle.spl_moves.specs.spl_meaning.States.{Data, State, Outcome, done, ends, trapped, then_go, stepping}
+use Rattle.spl_moves.specs.spl_statement_code.Effects.{class_letters}
+use Rattle.spl_moves.specs.spl_follow.Spots.{Spot, pos, on, Ground}
+use Rattle.spl_moves.specs.spl_follow.Leading.{Leads}
+use Rattle.spl_moves.specs.spl_follow.Matching.{IsValue}
+use Rattle.spl_moves.specs.spl_follow.Following.{Rate, tally, Goes, Follows, NoExit}
+use Rattle.spl_moves.specs.spl_follow.Doing.{moving, doing}
+use Rattle.spl_moves.proofs.spl_follow_proofs.FollowLemmas.{then_follows, widen, spend_follows}
+use Rattle.spl_moves.proofs.spl_follow_proofs.RowLemmas.{stray_here}
+use Rattle.spl_moves.specs.spl_operands.Operands.{Seen}
+use Rattle.spl_moves.proofs.spl_operands_proofs.SeeLemmas.{see}
 use Rattle.spl_moves.proofs.StepLemmas.{placed_matched, placed_kept}
 use Rattle.spl_moves.proofs.UnitLemmas.{unit_read, unit_not_read, unit_put, unit_not_put, unit_small, with_unit_small, with_unit, reads, stores}
 use Rattle.spl_moves.proofs.CountLemmas.{at_address}

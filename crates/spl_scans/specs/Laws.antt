@@ -1,20 +1,20 @@
 -- The laws of this crate: MOVE of strings, MOVE WHILE and SCAN, over the code of their operands.
 use Rattle.std.specs.Prelude.{ℕ, suc, ◌+◌, ◌%◌, ◌<◌, ◌≤◌, Bool, true, false, List}
-use Rattle.spl_tree.specs.declared.expressions.Kind.{Kind}
-use Rattle.spl_tree.specs.declared.names_and_places.At.{At}
-use Rattle.spl_branch.specs.declared.pieces.Piece.TheVariants.{Begin}
-use Rattle.spl_meaning.specs.Elements.{with_one, moved_text, moved_while, scanned}
-use Rattle.spl_meaning.specs.References.{Located}
-use Rattle.spl_meaning.specs.States.{State, Outcome, then_go, stopping}
-use Rattle.spl_meaning.specs.Statements.{value_dropped, moved_far}
-use Rattle.spl_code.specs.Code.{as_value}
-use Rattle.spl_code.specs.Constants.{constant, text_offset}
-use Rattle.spl_code.specs.Parts.{Part, pieces, piece, ◌⨟◌}
-use Rattle.spl_statement_code.specs.Effects.{kept_first, told, move_of, text_scaled, text_count, class_letters, scan_of}
-use Rattle.spl_statement_code.specs.Instructions.{MVBW}
-use Rattle.spl_frames.specs.Words.{AllOf}
-use Rattle.spl_follow.specs.Simulating.{Surroundings, Simulates, Performs}
-use Rattle.spl_values.specs.Reached.{IsWhole}
+use Rattle.spl_moves.specs.spl_tree.declared.expressions.Kind.{Kind}
+use Rattle.spl_moves.specs.spl_tree.declared.names_and_places.At.{At}
+use Rattle.spl_moves.specs.spl_branch.declared.pieces.Piece.TheVariants.{Begin}
+use Rattle.spl_moves.specs.spl_meaning.Elements.{with_one, moved_text, moved_while, scanned}
+use Rattle.spl_moves.specs.spl_meaning.References.{Located}
+use Rattle.spl_moves.specs.spl_meaning.States.{State, Outcome, then_go, stopping}
+use Rattle.spl_moves.specs.spl_meaning.Statements.{value_dropped, moved_far}
+use Rattle.spl_moves.specs.spl_code.Code.{as_value}
+use Rattle.spl_moves.specs.spl_code.Constants.{constant, text_offset}
+use Rattle.spl_moves.specs.spl_code.Parts.{Part, pieces, piece, ◌⨟◌}
+use Rattle.spl_moves.specs.spl_statement_code.Effects.{kept_first, told, move_of, text_scaled, text_count, class_letters, scan_of}
+use Rattle.spl_moves.specs.spl_statement_code.Instructions.{MVBW}
+use Rattle.spl_moves.specs.spl_frames.Words.{AllOf}
+use Rattle.spl_moves.specs.spl_follow.Simulating.{Surroundings, Simulates, Performs}
+use Rattle.spl_moves.specs.spl_values.Reached.{IsWhole}
 use Rattle.spl_moves.specs.Moving.{IsReference, Answers}
 use Rattle.spl_moves.specs.Laws.{AreUnits}
 

@@ -1,12 +1,12 @@
 -- Names, places and results of bodies, worked by hand.
 use Rattle.std.specs.Prelude.{◌≡◌, false, codes, Option, Some, None, refl}
 use Prim.Native.String.{String}
-use Rattle.spl_tree.specs.declared.expressions.Kind.{Kind}
-use Rattle.spl_tree.specs.declared.expressions.Kind.TheVariants as kind
-use Rattle.spl_meaning.specs.Names as n
-use Rattle.spl_meaning.specs.Names.{Sort}
-use Rattle.spl_meaning.specs.Places.{Place, data_word, above_base, below_base, below_return}
-use Rattle.spl_meaning.specs.Bodies.{program_of, program_from, data_words}
+use Rattle.spl_code.specs.spl_tree.declared.expressions.Kind.{Kind}
+use Rattle.spl_code.specs.spl_tree.declared.expressions.Kind.TheVariants as kind
+use Rattle.spl_code.specs.spl_meaning.Names as n
+use Rattle.spl_code.specs.spl_meaning.Names.{Sort}
+use Rattle.spl_code.specs.spl_meaning.Places.{Place, data_word, above_base, below_base, below_return}
+use Rattle.spl_code.specs.spl_meaning.Bodies.{program_of, program_from, data_words}
 use Rattle.spl_code.specs.Calls.{Scope}
 use Rattle.spl_scopes.specs.Entries.{main, routine}
 use Rattle.spl_scopes.specs.Scopes.{outer, inner, Results, first_reached, scope_at, results_at}

@@ -8,14 +8,14 @@
 -- The second is a subprogram: PROCEDURE Q; BEGIN OWN INTEGER V; OWN DOUBLE W; ; END;
 use Rattle.std.specs.Prelude.{ℕ, Bool, true, false, List, [], ◌∷◌, map, codes, Option, Some, None}
 use Prim.Native.String.{String}
-use Rattle.spl_tree.specs.declared.names_and_places.At.{At}
-use Rattle.spl_tree.specs.declared.expressions.Kind.{Kind}
-use Rattle.spl_tree.specs.declared.expressions.Kind.TheVariants as kind
-use Rattle.spl_tree.specs.Trees.{number}
-use Rattle.spl_tree.specs.StatementTrees as stat
-use Rattle.spl_tree.specs.DeclarationTrees as decl
-use Rattle.spl_tree.specs.DeclarationTrees.{Placed, Spec, Heading, Item, Declaration, Declarations, declarations}
-use Rattle.spl_meaning.specs.Tables.{Source}
+use Rattle.spl_code.specs.spl_tree.declared.names_and_places.At.{At}
+use Rattle.spl_code.specs.spl_tree.declared.expressions.Kind.{Kind}
+use Rattle.spl_code.specs.spl_tree.declared.expressions.Kind.TheVariants as kind
+use Rattle.spl_code.specs.spl_tree.Trees.{number}
+use Rattle.spl_code.specs.spl_tree.StatementTrees as stat
+use Rattle.spl_code.specs.spl_tree.DeclarationTrees as decl
+use Rattle.spl_code.specs.spl_tree.DeclarationTrees.{Placed, Spec, Heading, Item, Declaration, Declarations, declarations}
+use Rattle.spl_code.specs.spl_meaning.Tables.{Source}
 
 -- where all stands in the text
 abbrev pub nowhere : At

@@ -1,9 +1,9 @@
 -- The bodies of units, one unit behind the other, are those of the program.
 use Rattle.std.proofs.Common.{ℕ, ◌≡◌, Bool, true, false, List, [], ◌∷◌, ◌++◌, Option, Some, None, refl, ap, if◌then◌else◌}
-use Rattle.spl_meaning.specs.Names.{or_else}
-use Rattle.spl_meaning.specs.Tables.{Source}
-use Rattle.spl_meaning.specs.Bodies.{Body, Named, Reached, reached_behind, program_from, main_body, data_words}
-use Rattle.spl_meaning.specs.Limits.{joined}
+use Rattle.spl_code.specs.spl_meaning.Names.{or_else}
+use Rattle.spl_code.specs.spl_meaning.Tables.{Source}
+use Rattle.spl_code.specs.spl_meaning.Bodies.{Body, Named, Reached, reached_behind, program_from, main_body, data_words}
+use Rattle.spl_code.specs.spl_meaning.Limits.{joined}
 use Rattle.spl_scopes.specs.Scopes.{first_reached, placed_units, routine_bodies, global_places}
 use Rattle.spl_scopes.specs.ProgramBodies.{first_main, ProceduresAreOfUnits, MainIsOfUnits}
 

@@ -1,11 +1,11 @@
 -- The entries of modules: in order of text, the procedures with bodies and the subroutines of a unit that stand in one segment. A procedure
 -- stands in the segment of its heading, a subroutine in that of the body whose it is.
 use Rattle.std.specs.Prelude.{ℕ, suc, Bool, true, false, if◌then◌else◌, nat_eq, List, [], ◌∷◌, ◌++◌, Option}
-use Rattle.spl_tree.specs.DeclarationTrees as decl
-use Rattle.spl_tree.specs.DeclarationTrees.{Declaration, Declarations, declarations}
-use Rattle.spl_meaning.specs.Names.{Table, find}
-use Rattle.spl_meaning.specs.Tables.{Source}
-use Rattle.spl_meaning.specs.Places.{only}
+use Rattle.spl_code.specs.spl_tree.DeclarationTrees as decl
+use Rattle.spl_code.specs.spl_tree.DeclarationTrees.{Declaration, Declarations, declarations}
+use Rattle.spl_code.specs.spl_meaning.Names.{Table, find}
+use Rattle.spl_code.specs.spl_meaning.Tables.{Source}
+use Rattle.spl_code.specs.spl_meaning.Places.{only}
 
 -- whose a subroutine is: the main body's, or that of a procedure, by its number among the unit's procedures with bodies
 pub data Owner : Type 0 where

@@ -1,9 +1,9 @@
 -- The bodies of a program by its units.
 use Rattle.std.specs.Prelude.{◌≡◌, List, [], ◌∷◌, Option, None}
-use Rattle.spl_meaning.specs.Names.{or_else}
-use Rattle.spl_meaning.specs.Tables.{Source}
-use Rattle.spl_meaning.specs.Bodies.{Body, program_of}
-use Rattle.spl_meaning.specs.Limits.{joined}
+use Rattle.spl_code.specs.spl_meaning.Names.{or_else}
+use Rattle.spl_code.specs.spl_meaning.Tables.{Source}
+use Rattle.spl_code.specs.spl_meaning.Bodies.{Body, program_of}
+use Rattle.spl_code.specs.spl_meaning.Limits.{joined}
 use Rattle.spl_scopes.specs.Entries.{main}
 use Rattle.spl_scopes.specs.Scopes.{Placed, first_reached, placed_units, routine_bodies, outer_body}
 

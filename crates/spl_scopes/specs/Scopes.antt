@@ -2,11 +2,11 @@
 -- body, and which entries of its module it calls.
 use Rattle.std.specs.Prelude.{ℕ, ◌+◌, if◌then◌else◌, List, [], ◌∷◌, Option, Some, None, option_map}
 use Rattle.std.specs.List.{slice_get}
-use Rattle.spl_tree.specs.declared.expressions.Kind.{Kind}
-use Rattle.spl_meaning.specs.Names.{Table}
-use Rattle.spl_meaning.specs.Tables.{Source, Routine, routines_of}
-use Rattle.spl_meaning.specs.Places.{Place}
-use Rattle.spl_meaning.specs.Bodies.{Body, Named, Reached, reached_behind, laid_unit, named_bodies, main_body, subroutine_body, global_words, primary_words, global_array_words}
+use Rattle.spl_code.specs.spl_tree.declared.expressions.Kind.{Kind}
+use Rattle.spl_code.specs.spl_meaning.Names.{Table}
+use Rattle.spl_code.specs.spl_meaning.Tables.{Source, Routine, routines_of}
+use Rattle.spl_code.specs.spl_meaning.Places.{Place}
+use Rattle.spl_code.specs.spl_meaning.Bodies.{Body, Named, Reached, reached_behind, laid_unit, named_bodies, main_body, subroutine_body, global_words, primary_words, global_array_words}
 use Rattle.spl_code.specs.Calls.{Scope}
 use Rattle.spl_scopes.specs.Entries.{Owner, main, routine, Entry, module_entries, procedure_index, subroutine_index}
 

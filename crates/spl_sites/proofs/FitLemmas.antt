@@ -7,26 +7,26 @@ use Rattle.std.specs.List.{list_all}
 use Rattle.std.proofs.lemmas.Bool.{and_parts, eq-eqb, ne_eqb}
 use Rattle.std.proofs.lemmas.Option.{slice_get_within}
 use Rattle.std.proofs.lemmas.Bool.Decides.{nat_tests}
-use Rattle.hp_program.specs.declared.program.Program.{Program}
-use Rattle.hp_program.specs.Programs.{segments_of}
-use Rattle.hp_program.specs.Valid.{is_head}
-use Rattle.hp_program.proofs.ValidLaws.{right_head, segment_fits}
-use Rattle.spl_tree.specs.declared.names_and_places.At.{At}
-use Rattle.spl_branch.specs.declared.pieces.Piece.{Piece}
-use Rattle.spl_branch.specs.declared.pieces.Piece.TheVariants.{Do, Literal, Place, Branch, Mark, Call, Begin}
-use Rattle.spl_branch.specs.declared.buffer.Code.{Code}
-use Rattle.spl_branch.specs.declared.modules.Start.{Start}
-use Rattle.spl_branch.specs.declared.spots.Spot as module_spot
-use Rattle.spl_branch.specs.Branches.{branch_size}
-use Rattle.spl_branch.specs.Pieces.{named, is_set, is_set_if, is_direct, sets, once}
-use Rattle.spl_branch.specs.Fixes.{starts_of}
-use Rattle.spl_branch.specs.Stands as decoded
-use Rattle.spl_branch.specs.Stands.{after, ahead}
-use Rattle.spl_branch.specs.Modules.{sites}
+use Rattle.mpe_segmenter.specs.hp_program.declared.program.Program.{Program}
+use Rattle.mpe_segmenter.specs.hp_program.Programs.{segments_of}
+use Rattle.mpe_segmenter.specs.hp_program.Valid.{is_head}
+use Rattle.mpe_segmenter.proofs.hp_program_proofs.ValidLaws.{right_head, segment_fits}
+use Rattle.mpe_segmenter.specs.spl_tree.declared.names_and_places.At.{At}
+use Rattle.mpe_segmenter.specs.spl_branch.declared.pieces.Piece.{Piece}
+use Rattle.mpe_segmenter.specs.spl_branch.declared.pieces.Piece.TheVariants.{Do, Literal, Place, Branch, Mark, Call, Begin}
+use Rattle.mpe_segmenter.specs.spl_branch.declared.buffer.Code.{Code}
+use Rattle.mpe_segmenter.specs.spl_branch.declared.modules.Start.{Start}
+use Rattle.mpe_segmenter.specs.spl_branch.declared.spots.Spot as module_spot
+use Rattle.mpe_segmenter.specs.spl_branch.Branches.{branch_size}
+use Rattle.mpe_segmenter.specs.spl_branch.Pieces.{named, is_set, is_set_if, is_direct, sets, once}
+use Rattle.mpe_segmenter.specs.spl_branch.Fixes.{starts_of}
+use Rattle.mpe_segmenter.specs.spl_branch.Stands as decoded
+use Rattle.mpe_segmenter.specs.spl_branch.Stands.{after, ahead}
+use Rattle.mpe_segmenter.specs.spl_branch.Modules.{sites}
 use Rattle.mpe_segmenter.specs.Names.{parts}
 use Rattle.mpe_segmenter.specs.Counts.{sizes}
-use Rattle.spl_follow.specs.Spots.{Ground, start_at}
-use Rattle.spl_follow.specs.Standing.{Sites}
+use Rattle.spl_stands.specs.spl_follow.Spots.{Ground, start_at}
+use Rattle.spl_stands.specs.spl_follow.Standing.{Sites}
 use Rattle.spl_stands.specs.Fitting.{placed, is_plain, AllFit}
 use Rattle.spl_sites.specs.Beginnings.{begins_well, is_of_kind}
 use Rattle.spl_sites.specs.Grounds.{started, ground_of, AllCallsLead}

@@ -1,8 +1,8 @@
 -- Pieces that begin well, and pieces that do not; starts that are found; by computing.
 use Rattle.std.proofs.Common.{◌≡◌, true, false, [], ◌∷◌, Some, None, refl}
-use Rattle.hp_instr.specs.declared.instruction.Instr.TheVariants as i
-use Rattle.spl_tree.specs.declared.names_and_places.At.{At}
-use Rattle.spl_branch.specs.declared.pieces.Piece.TheVariants.{Do, Mark, Call, Begin, Literal}
+use Rattle.mpe_segmenter.specs.hp_instr.declared.instruction.Instr.TheVariants as i
+use Rattle.mpe_segmenter.specs.spl_tree.declared.names_and_places.At.{At}
+use Rattle.mpe_segmenter.specs.spl_branch.declared.pieces.Piece.TheVariants.{Do, Mark, Call, Begin, Literal}
 use Rattle.spl_sites.specs.Beginnings.{begins_well, is_of_kind}
 use Rattle.spl_sites.specs.Grounds.{started}
 

@@ -6,16 +6,16 @@
 use Rattle.std.proofs.Common.{◌≡◌, ℕ, ◌==◌, ◌+◌, ◌<◌, ◌≤◌, nat_lt, Bool, true, false, List, [], ◌∷◌, None, Some, refl, sym, ap, ◌∙◌, subst, arith}
 use Rattle.std.specs.Prelude.{if◌then◌else◌}
 use Rattle.std.proofs.lemmas.Bool.{eqb-true, ne_eqb}
-use Rattle.hp_instr.specs.declared.instruction.Instr.{Instr}
-use Rattle.hp_instr.specs.declared.instruction.Instr.TheVariants as i
-use Rattle.hp_instr.specs.declared.instruction.Op.{Op}
-use Rattle.spl_branch.specs.declared.pieces.Piece.{Piece}
-use Rattle.spl_branch.specs.declared.pieces.Piece.TheVariants.{Do, Literal, Place, Branch, Mark, Call, Begin}
-use Rattle.spl_branch.specs.declared.spots.Spot.{Spot}
-use Rattle.spl_branch.specs.Branches.{reach, gap, is_far, more, branch_size}
-use Rattle.spl_branch.specs.Pieces.{sets}
-use Rattle.spl_branch.specs.Fixes.{starts_of}
-use Rattle.spl_branch.specs.Stands.{Sites, at_left, at_right, past_instr, ahead, after, Stands}
+use Rattle.mpe_segmenter.specs.hp_instr.declared.instruction.Instr.{Instr}
+use Rattle.mpe_segmenter.specs.hp_instr.declared.instruction.Instr.TheVariants as i
+use Rattle.mpe_segmenter.specs.hp_instr.declared.instruction.Op.{Op}
+use Rattle.mpe_segmenter.specs.spl_branch.declared.pieces.Piece.{Piece}
+use Rattle.mpe_segmenter.specs.spl_branch.declared.pieces.Piece.TheVariants.{Do, Literal, Place, Branch, Mark, Call, Begin}
+use Rattle.mpe_segmenter.specs.spl_branch.declared.spots.Spot.{Spot}
+use Rattle.mpe_segmenter.specs.spl_branch.Branches.{reach, gap, is_far, more, branch_size}
+use Rattle.mpe_segmenter.specs.spl_branch.Pieces.{sets}
+use Rattle.mpe_segmenter.specs.spl_branch.Fixes.{starts_of}
+use Rattle.mpe_segmenter.specs.spl_branch.Stands.{Sites, at_left, at_right, past_instr, ahead, after, Stands}
 use Rattle.spl_sites.specs.Grounds.{started}
 
 -- ---- 1. going on

@@ -1,10 +1,10 @@
 -- The pieces of a program's modules stand where these lie.
 use Rattle.std.proofs.Common.{◌≡◌, ℕ, ◌+◌, ◌<◌, List, [], length, Option, None, Some, refl, arith}
 use Rattle.std.specs.Prelude.{slice_get, unwrap_or}
-use Rattle.hp_program.specs.Programs.{segments_of, words_of}
-use Rattle.hp_program.proofs.ValidLaws.{segment_fits}
-use Rattle.spl_branch.specs.Stands as decoded
-use Rattle.spl_branch.specs.Modules.{sites}
+use Rattle.mpe_segmenter.specs.hp_program.Programs.{segments_of, words_of}
+use Rattle.mpe_segmenter.proofs.hp_program_proofs.ValidLaws.{segment_fits}
+use Rattle.mpe_segmenter.specs.spl_branch.Stands as decoded
+use Rattle.mpe_segmenter.specs.spl_branch.Modules.{sites}
 use Rattle.mpe_segmenter.specs.Counts.{sizes}
 use Rattle.mpe_segmenter.specs.Sites.{module_entries}
 use Rattle.spl_stands.proofs.StandLemmas.{words_stand}

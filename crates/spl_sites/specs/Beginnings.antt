@@ -1,10 +1,10 @@
 -- Pieces in which each beginning of a statement stands right before a word that is run, and which have instructions of their kinds.
 use Rattle.std.specs.Prelude.{◌==◌, ◌&&◌, ◌||◌, Bool, true, false, not, List, [], ◌∷◌}
-use Rattle.hp_instr.specs.declared.instruction.Instr.{Instr}
-use Rattle.hp_instr.specs.declared.instruction.Instr.TheVariants as i
-use Rattle.spl_branch.specs.declared.pieces.Piece.{Piece}
-use Rattle.spl_branch.specs.declared.pieces.Piece.TheVariants.{Do, Branch, Call, Begin}
-use Rattle.spl_branch.specs.Pieces.{is_direct}
+use Rattle.mpe_segmenter.specs.hp_instr.declared.instruction.Instr.{Instr}
+use Rattle.mpe_segmenter.specs.hp_instr.declared.instruction.Instr.TheVariants as i
+use Rattle.mpe_segmenter.specs.spl_branch.declared.pieces.Piece.{Piece}
+use Rattle.mpe_segmenter.specs.spl_branch.declared.pieces.Piece.TheVariants.{Do, Branch, Call, Begin}
+use Rattle.mpe_segmenter.specs.spl_branch.Pieces.{is_direct}
 use Rattle.spl_stands.specs.Fitting.{is_plain}
 
 -- a piece has words that are run

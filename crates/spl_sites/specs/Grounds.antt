@@ -1,17 +1,17 @@
 -- The ground of a program that is made of modules: its segments, and where the statements of its modules start.
 use Rattle.std.specs.Prelude.{ℕ, ◌+◌, ◌==◌, nat_lt, if◌then◌else◌, List, [], ◌∷◌, slice_get, Option, None, Some}
-use Rattle.spl_tree.specs.declared.names_and_places.At.{At}
-use Rattle.hp_program.specs.declared.program.Program.{Program}
-use Rattle.hp_program.specs.Programs.{segments_of}
-use Rattle.hp_steady.specs.Laws.{WordsAreNear}
-use Rattle.spl_branch.specs.declared.pieces.Piece.{Piece}
-use Rattle.spl_branch.specs.declared.pieces.Piece.TheVariants.{Call}
-use Rattle.spl_branch.specs.declared.modules.Start.{Start}
-use Rattle.spl_branch.specs.declared.modules.Module.{Module}
-use Rattle.spl_branch.specs.Stands as decoded
+use Rattle.mpe_segmenter.specs.spl_tree.declared.names_and_places.At.{At}
+use Rattle.mpe_segmenter.specs.hp_program.declared.program.Program.{Program}
+use Rattle.mpe_segmenter.specs.hp_program.Programs.{segments_of}
+use Rattle.spl_stands.specs.hp_steady.Laws.{WordsAreNear}
+use Rattle.mpe_segmenter.specs.spl_branch.declared.pieces.Piece.{Piece}
+use Rattle.mpe_segmenter.specs.spl_branch.declared.pieces.Piece.TheVariants.{Call}
+use Rattle.mpe_segmenter.specs.spl_branch.declared.modules.Start.{Start}
+use Rattle.mpe_segmenter.specs.spl_branch.declared.modules.Module.{Module}
+use Rattle.mpe_segmenter.specs.spl_branch.Stands as decoded
 use Rattle.mpe_segmenter.specs.Names.{Part, parts}
-use Rattle.spl_follow.specs.Spots.{Ground}
-use Rattle.spl_follow.specs.Standing.{Sites}
+use Rattle.spl_stands.specs.spl_follow.Spots.{Ground}
+use Rattle.spl_stands.specs.spl_follow.Standing.{Sites}
 use Rattle.spl_stands.specs.Fitting.{CallLeads}
 
 -- ---- starts

@@ -1,21 +1,21 @@
 -- The laws of this crate.
 use Rattle.std.specs.Prelude.{◌≡◌, ◌+◌, ◌<◌, ◌≤◌, ℕ, Bool, true, false, List, length, Some, None, slice_get}
 use Rattle.std.specs.List.{list_all}
-use Rattle.hp_program.specs.declared.program.Program.{Program}
-use Rattle.hp_program.specs.Programs.{segments_of}
-use Rattle.hp_steady.specs.Laws.{WordsAreNear}
-use Rattle.spl_branch.specs.declared.pieces.Piece.{Piece}
-use Rattle.spl_branch.specs.declared.buffer.Code.{Code}
-use Rattle.spl_branch.specs.declared.modules.Module.{Module}
-use Rattle.spl_branch.specs.Pieces.{named, is_set_if}
-use Rattle.spl_branch.specs.Fixes.{starts_of}
-use Rattle.spl_branch.specs.Stands as decoded
-use Rattle.spl_branch.specs.Modules.{Finished, LiesAt, sites}
+use Rattle.mpe_segmenter.specs.hp_program.declared.program.Program.{Program}
+use Rattle.mpe_segmenter.specs.hp_program.Programs.{segments_of}
+use Rattle.spl_stands.specs.hp_steady.Laws.{WordsAreNear}
+use Rattle.mpe_segmenter.specs.spl_branch.declared.pieces.Piece.{Piece}
+use Rattle.mpe_segmenter.specs.spl_branch.declared.buffer.Code.{Code}
+use Rattle.mpe_segmenter.specs.spl_branch.declared.modules.Module.{Module}
+use Rattle.mpe_segmenter.specs.spl_branch.Pieces.{named, is_set_if}
+use Rattle.mpe_segmenter.specs.spl_branch.Fixes.{starts_of}
+use Rattle.mpe_segmenter.specs.spl_branch.Stands as decoded
+use Rattle.mpe_segmenter.specs.spl_branch.Modules.{Finished, LiesAt, sites}
 use Rattle.mpe_segmenter.specs.Names.{parts}
 use Rattle.mpe_segmenter.specs.Counts.{sizes}
 use Rattle.mpe_segmenter.specs.Sites.{IsModule, module_entries, Links}
-use Rattle.spl_follow.specs.Spots.{on, Ground}
-use Rattle.spl_follow.specs.Standing.{Sites, Stands}
+use Rattle.spl_stands.specs.spl_follow.Spots.{on, Ground}
+use Rattle.spl_stands.specs.spl_follow.Standing.{Sites, Stands}
 use Rattle.spl_stands.specs.Fitting.{placed, MarksAgree, AllFit}
 use Rattle.spl_sites.specs.Beginnings.{begins_well, is_of_kind}
 use Rattle.spl_sites.specs.Grounds.{started, ground_of, AllCallsLead}

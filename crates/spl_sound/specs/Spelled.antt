@@ -6,7 +6,7 @@ use Rattle.spl_tree.specs.Views.{letters}
 use Rattle.spl_cuts.specs.Signs.{Listed}
 use Rattle.spl_cuts.specs.Lexemes.{lexemes}
 use Rattle.spl_cuts.specs.Whole.{IsWhole}
-use Rattle.spl_reading.specs.Readers.{Got}
+use Rattle.spl_grammar.specs.spl_reading.Readers.{Got}
 use Rattle.spl_grammar.specs.Verdicts.{Verdict}
 use Rattle.spl_meaning.specs.Tables.{Source}
 

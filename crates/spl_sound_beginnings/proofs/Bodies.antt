@@ -3,21 +3,21 @@
 -- 2. the names that a procedure and a main body see            (routine_names_found, main_names_found)
 use Rattle.std.proofs.Common.{◌≡◌, ℕ, ◌+◌, not, true, false, List, [], ◌++◌, Option, Some, option_map, is_some, refl, sym, subst, ap}
 use Rattle.std.proofs.lemmas.Bool.{and_from}
-use Rattle.spl_tree.specs.DeclarationTrees as decl
-use Rattle.spl_tree.specs.DeclarationTrees.{Declaration, Declarations, Heading, declarations}
-use Rattle.spl_tree.specs.StatementTrees.{Statement}
-use Rattle.spl_meaning.specs.Names.{Names, Sort, Table, find, within, parameters, formals_of}
-use Rattle.spl_meaning.specs.Tables.{Routine, Subroutine, routine_table, subroutine_in, subroutines_among, with_declaration}
-use Rattle.spl_meaning.specs.Places.{data_word, above_base, below_base, below_return, places_from}
-use Rattle.spl_meaning.specs.Stops.{declaration_stops}
-use Rattle.spl_meaning.specs.Bodies.{Body, subroutine_body, marker_gap, parameter_places, procedure_body}
-use Rattle.spl_meaning.specs.Faults.{Fault, unless}
-use Rattle.spl_meaning.specs.ExpressionRules as rule
-use Rattle.spl_meaning.specs.StatementRules.{has_name, list_labels, repeated, all_labels, statement_faults, statements_faults}
-use Rattle.spl_meaning.specs.DeclarationRules.{Around, twice, heading_faults, subroutine_scope, subroutine_faults, declared_subroutine, local_faults_of, local_faults, procedure_scope}
-use Rattle.spl_scopes.specs.Entries.{Owner, Entry, procedure_index, subroutine_index}
-use Rattle.spl_module_code.specs.LabelsOfBodies.{labels_among}
-use Rattle.spl_module_code.specs.Bodies.{assigned_place, seen_results}
+use Rattle.spl_sound_names.specs.spl_tree.DeclarationTrees as decl
+use Rattle.spl_sound_names.specs.spl_tree.DeclarationTrees.{Declaration, Declarations, Heading, declarations}
+use Rattle.spl_sound_names.specs.spl_tree.StatementTrees.{Statement}
+use Rattle.spl_sound_names.specs.spl_meaning.Names.{Names, Sort, Table, find, within, parameters, formals_of}
+use Rattle.spl_sound_names.specs.spl_meaning.Tables.{Routine, Subroutine, routine_table, subroutine_in, subroutines_among, with_declaration}
+use Rattle.spl_sound_names.specs.spl_meaning.Places.{data_word, above_base, below_base, below_return, places_from}
+use Rattle.spl_sound_names.specs.spl_meaning.Stops.{declaration_stops}
+use Rattle.spl_sound_names.specs.spl_meaning.Bodies.{Body, subroutine_body, marker_gap, parameter_places, procedure_body}
+use Rattle.spl_sound_names.specs.spl_meaning.Faults.{Fault, unless}
+use Rattle.spl_sound_names.specs.spl_meaning.ExpressionRules as rule
+use Rattle.spl_sound_names.specs.spl_meaning.StatementRules.{has_name, list_labels, repeated, all_labels, statement_faults, statements_faults}
+use Rattle.spl_sound_names.specs.spl_meaning.DeclarationRules.{Around, twice, heading_faults, subroutine_scope, subroutine_faults, declared_subroutine, local_faults_of, local_faults, procedure_scope}
+use Rattle.spl_piece_kinds.specs.spl_scopes.Entries.{Owner, Entry, procedure_index, subroutine_index}
+use Rattle.spl_piece_kinds.specs.spl_module_code.LabelsOfBodies.{labels_among}
+use Rattle.spl_piece_kinds.specs.spl_module_code.Bodies.{assigned_place, seen_results}
 use Rattle.spl_beginnings.specs.Found.{are_found}
 use Rattle.spl_sound_beginnings.specs.FoundBodies.{bears, is_found_body, are_found_inner}
 use Rattle.spl_sound_names.specs.Known.{AreKnown, NamesAreFound, has_inner}

@@ -1,10 +1,10 @@
 -- The entries of a module by name: each subroutine that a list of declarations has is an entry of its body's, in the segment of that body.
 use Rattle.std.proofs.Common.{◌≡◌, ℕ, suc, ◌&&◌, nat_eq, Bool, true, false, if◌then◌else◌, List, [], ◌∷◌, ◌++◌, Option, Some, is_some, refl, ap, ◌∙◌, rules}
-use Rattle.spl_tree.specs.DeclarationTrees as decl
-use Rattle.spl_tree.specs.DeclarationTrees.{Declaration, Declarations}
-use Rattle.spl_meaning.specs.Names.{Table, find, same_name}
-use Rattle.spl_meaning.specs.Places.{only}
-use Rattle.spl_scopes.specs.Entries.{Owner, main, routine, Callee, subroutine, Entry, is_inner, same_owner, indexes, in_segment, inner_entries, declared_entries, entries_among}
+use Rattle.spl_sound_names.specs.spl_tree.DeclarationTrees as decl
+use Rattle.spl_sound_names.specs.spl_tree.DeclarationTrees.{Declaration, Declarations}
+use Rattle.spl_sound_names.specs.spl_meaning.Names.{Table, find, same_name}
+use Rattle.spl_sound_names.specs.spl_meaning.Places.{only}
+use Rattle.spl_piece_kinds.specs.spl_scopes.Entries.{Owner, main, routine, Callee, subroutine, Entry, is_inner, same_owner, indexes, in_segment, inner_entries, declared_entries, entries_among}
 use Rattle.spl_sound_names.specs.Known.{has_inner}
 use Rattle.spl_sound_names.proofs.Tables.{never}
 use Rattle.spl_sound_beginnings.proofs.Statements.{if_more, if_later}

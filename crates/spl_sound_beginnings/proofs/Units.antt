@@ -5,20 +5,20 @@
 use Rattle.std.proofs.Common.{◌≡◌, ℕ, zero, suc, ◌+◌, ◌&&◌, nat_eq, not, Bool, true, false, if◌then◌else◌, List, [], ◌∷◌, ◌++◌, Option, Some, None, is_some, refl, sym, subst, ap, ◌∙◌, arith, zero-add}
 use Rattle.std.specs.List.{list_all, slice_get}
 use Rattle.std.proofs.lemmas.Bool.{and_from}
-use Rattle.spl_tree.specs.DeclarationTrees as decl
-use Rattle.spl_tree.specs.DeclarationTrees.{Declaration, Declarations, Heading, declarations}
-use Rattle.spl_tree.specs.StatementTrees.{Statement, statements}
-use Rattle.spl_meaning.specs.Names.{Sort, Table, find, nothing_declared, parameters, formals_of}
-use Rattle.spl_meaning.specs.Tables.{Source, Routine, Subroutine, with_declaration, with_declarations, unit_table, routine_table, routines_among, subroutines_among, unit_subroutines}
-use Rattle.spl_meaning.specs.Places.{data_word, places_from, list_words, list_array_words}
-use Rattle.spl_meaning.specs.Stops.{declaration_stops}
-use Rattle.spl_meaning.specs.Bodies.{Body, Reached, named_bodies, main_body, procedure_body, reached_behind, all_routines}
-use Rattle.spl_meaning.specs.StatementRules.{list_labels, label_faults, body_faults, statements_faults}
-use Rattle.spl_meaning.specs.DeclarationRules.{Around, Waiting, without, declared_subroutine, main_scope, heading_faults, local_faults, procedure_by, procedure_scope, procedure_faults, global_faults, globals_faults, waiting_behind, silent_faults, unit_faults}
-use Rattle.spl_meaning.specs.Sound.{all_faults, faults_behind}
-use Rattle.spl_scopes.specs.Entries.{main, routine, Entry, Callee, procedure, is_inner, module_entries, in_segment, inner_entries, declared_entries, entries_among, subroutine_index}
-use Rattle.spl_scopes.specs.Scopes.{Placed, first_reached, placed_units, routine_bodies, outer_body, global_places}
-use Rattle.spl_module_code.specs.Modules.{holds_main}
+use Rattle.spl_sound_names.specs.spl_tree.DeclarationTrees as decl
+use Rattle.spl_sound_names.specs.spl_tree.DeclarationTrees.{Declaration, Declarations, Heading, declarations}
+use Rattle.spl_sound_names.specs.spl_tree.StatementTrees.{Statement, statements}
+use Rattle.spl_sound_names.specs.spl_meaning.Names.{Sort, Table, find, nothing_declared, parameters, formals_of}
+use Rattle.spl_sound_names.specs.spl_meaning.Tables.{Source, Routine, Subroutine, with_declaration, with_declarations, unit_table, routine_table, routines_among, subroutines_among, unit_subroutines}
+use Rattle.spl_sound_names.specs.spl_meaning.Places.{data_word, places_from, list_words, list_array_words}
+use Rattle.spl_sound_names.specs.spl_meaning.Stops.{declaration_stops}
+use Rattle.spl_sound_names.specs.spl_meaning.Bodies.{Body, Reached, named_bodies, main_body, procedure_body, reached_behind, all_routines}
+use Rattle.spl_sound_names.specs.spl_meaning.StatementRules.{list_labels, label_faults, body_faults, statements_faults}
+use Rattle.spl_sound_names.specs.spl_meaning.DeclarationRules.{Around, Waiting, without, declared_subroutine, main_scope, heading_faults, local_faults, procedure_by, procedure_scope, procedure_faults, global_faults, globals_faults, waiting_behind, silent_faults, unit_faults}
+use Rattle.spl_sound_names.specs.spl_meaning.Sound.{all_faults, faults_behind}
+use Rattle.spl_piece_kinds.specs.spl_scopes.Entries.{main, routine, Entry, Callee, procedure, is_inner, module_entries, in_segment, inner_entries, declared_entries, entries_among, subroutine_index}
+use Rattle.spl_piece_kinds.specs.spl_scopes.Scopes.{Placed, first_reached, placed_units, routine_bodies, outer_body, global_places}
+use Rattle.spl_piece_kinds.specs.spl_module_code.Modules.{holds_main}
 use Rattle.spl_sound_beginnings.specs.FoundBodies.{is_found_body, are_found_inner, is_found_routine, is_found_inner, is_found_inner_at, is_found_main, declares_found, declare_found, is_found_in}
 use Rattle.spl_sound_names.specs.Known.{AreKnown, NamesAreFound, declares_inner, has_inner, inner_last}
 use Rattle.spl_sound_names.proofs.Tables.{left_none, right_none, never, kept_declarations}
@@ -28,7 +28,7 @@ use Rattle.spl_sound_names.proofs.Order.{units_last}
 use Rattle.spl_sound_beginnings.proofs.ModuleLaws.{well_written}
 use Rattle.spl_piece_kinds.proofs.ModuleLaws.{kinds_written}
 use Rattle.spl_complete_codes.proofs.Complete.{complete}
-use Rattle.spl_sites.specs.Beginnings.{begins_well, is_of_kind}
+use Rattle.spl_piece_kinds.specs.spl_sites.Beginnings.{begins_well, is_of_kind}
 use Rattle.spl_sound_beginnings.specs.Laws.{SoundUnitsAreFound, SoundCodesBeginWell, SoundCodesMayStand}
 use Rattle.spl_sound_beginnings.proofs.Entries.{has_entry, index_there, front_in, behind_in, inner_there, main_there}
 use Rattle.spl_sound_beginnings.proofs.Bodies.{body_found, inner_found, all_inner_found, main_names_found, routine_names_found}

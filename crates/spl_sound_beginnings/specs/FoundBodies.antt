@@ -1,16 +1,16 @@
 -- The bodies of a unit in a segment, whose statements' names are found.
 use Rattle.std.specs.Prelude.{ℕ, ◌&&◌, Bool, true, false, if◌then◌else◌, nat_eq, List, [], ◌∷◌, Option, Some, None}
 use Rattle.std.specs.List.{slice_get}
-use Rattle.spl_tree.specs.DeclarationTrees as decl
-use Rattle.spl_tree.specs.DeclarationTrees.{Declaration, Declarations, declarations}
-use Rattle.spl_meaning.specs.Names.{same_name}
-use Rattle.spl_meaning.specs.Tables.{Subroutine}
-use Rattle.spl_meaning.specs.Bodies.{Body, Named, subroutine_body}
-use Rattle.spl_scopes.specs.Entries.{Owner, main, routine, Entry, module_entries, routines_behind}
-use Rattle.spl_scopes.specs.Scopes.{Placed, routine_bodies, outer_body}
-use Rattle.spl_module_code.specs.LabelsOfBodies.{Label, labels_among}
-use Rattle.spl_module_code.specs.Bodies.{statements_scope}
-use Rattle.spl_module_code.specs.Modules.{inner_behind, holds_main}
+use Rattle.spl_sound_names.specs.spl_tree.DeclarationTrees as decl
+use Rattle.spl_sound_names.specs.spl_tree.DeclarationTrees.{Declaration, Declarations, declarations}
+use Rattle.spl_sound_names.specs.spl_meaning.Names.{same_name}
+use Rattle.spl_sound_names.specs.spl_meaning.Tables.{Subroutine}
+use Rattle.spl_sound_names.specs.spl_meaning.Bodies.{Body, Named, subroutine_body}
+use Rattle.spl_piece_kinds.specs.spl_scopes.Entries.{Owner, main, routine, Entry, module_entries, routines_behind}
+use Rattle.spl_piece_kinds.specs.spl_scopes.Scopes.{Placed, routine_bodies, outer_body}
+use Rattle.spl_piece_kinds.specs.spl_module_code.LabelsOfBodies.{Label, labels_among}
+use Rattle.spl_piece_kinds.specs.spl_module_code.Bodies.{statements_scope}
+use Rattle.spl_piece_kinds.specs.spl_module_code.Modules.{inner_behind, holds_main}
 use Rattle.spl_beginnings.specs.Found.{are_found}
 
 -- ---- bodies

@@ -1,19 +1,19 @@
 -- The laws of this crate: of bodies and units whose names are found; and of units that break no rule, and that some tokens spell.
 use Rattle.std.specs.Prelude.{◌≡◌, ℕ, true, false, List, [], Some}
 use Rattle.std.specs.List.{list_all}
-use Rattle.spl_meaning.specs.Tables.{Source}
-use Rattle.spl_meaning.specs.Bodies.{Body}
-use Rattle.spl_meaning.specs.ExpressionRules as rule
-use Rattle.spl_meaning.specs.StatementRules.{list_labels, statements_faults}
-use Rattle.spl_meaning.specs.Sound.{IsSound}
-use Rattle.spl_sound.specs.Spelled.{AreSpelled}
-use Rattle.spl_branch.specs.declared.buffer.Code.{Code}
-use Rattle.spl_branch.specs.Pieces.{named, is_set_if}
-use Rattle.spl_scopes.specs.Entries.{Owner, Entry, subroutine_index}
-use Rattle.spl_scopes.specs.Scopes.{Placed, unit_at}
-use Rattle.spl_module_code.specs.Bodies.{body_statements}
-use Rattle.spl_module_code.specs.Modules.{module_part, module_written, IsCodeOf}
-use Rattle.spl_sites.specs.Beginnings.{begins_well, is_of_kind}
+use Rattle.spl_sound_names.specs.spl_meaning.Tables.{Source}
+use Rattle.spl_sound_names.specs.spl_meaning.Bodies.{Body}
+use Rattle.spl_sound_names.specs.spl_meaning.ExpressionRules as rule
+use Rattle.spl_sound_names.specs.spl_meaning.StatementRules.{list_labels, statements_faults}
+use Rattle.spl_sound_names.specs.spl_meaning.Sound.{IsSound}
+use Rattle.spl_sound_names.specs.spl_sound.Spelled.{AreSpelled}
+use Rattle.spl_piece_kinds.specs.spl_branch.declared.buffer.Code.{Code}
+use Rattle.spl_piece_kinds.specs.spl_branch.Pieces.{named, is_set_if}
+use Rattle.spl_piece_kinds.specs.spl_scopes.Entries.{Owner, Entry, subroutine_index}
+use Rattle.spl_piece_kinds.specs.spl_scopes.Scopes.{Placed, unit_at}
+use Rattle.spl_piece_kinds.specs.spl_module_code.Bodies.{body_statements}
+use Rattle.spl_piece_kinds.specs.spl_module_code.Modules.{module_part, module_written, IsCodeOf}
+use Rattle.spl_piece_kinds.specs.spl_sites.Beginnings.{begins_well, is_of_kind}
 use Rattle.spl_beginnings.specs.Opens.{BeginsWell}
 use Rattle.spl_sound_beginnings.specs.FoundBodies.{is_found_body, is_found_in}
 use Rattle.spl_sound_names.specs.Known.{NamesAreFound}

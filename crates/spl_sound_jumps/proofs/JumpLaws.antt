@@ -3,32 +3,34 @@
 -- 2. GO TO names a label of a list around it            (statement_lands, list_lands, arms_land)
 -- 3. so it is in main bodies of units                   (mains_land)
 -- 4. and in their procedures                             (routines_land)
-use Rattle.std.proofs.Common.{ℕ, suc, ◌≡◌, ◌+◌, Bool, true, false, if◌then◌else◌, List, [], ◌∷◌, ◌++◌, Option, Some, None, is_some, refl, sym, ap, ◌∙◌}
+-- 5. and in the subroutines of both                      (inners_land)
+use Rattle.std.proofs.Common.{ℕ, suc, ◌≡◌, ◌+◌, Bool, true, false, if◌then◌else◌, List, [], ◌∷◌, ◌++◌, Option, Some, None, is_some, refl, sym, ap, ◌∙◌, append-nil}
+use Rattle.std.specs.Prelude.{not}
 use Rattle.std.proofs.lemmas.Bool.{and_from, eq-eqb, false≢true}
-use Rattle.spl_tree.specs.declared.names_and_places.At.{At}
-use Rattle.spl_tree.specs.DeclarationTrees as decl
-use Rattle.spl_tree.specs.DeclarationTrees.{Declaration, Declarations, declarations}
-use Rattle.spl_tree.specs.StatementTrees as stat
-use Rattle.spl_tree.specs.StatementTrees.{Statement, Statements, statements}
-use Rattle.spl_meaning.specs.Names.{Sort, Table, find, same_name, nothing_declared, parameters, formals_of}
-use Rattle.spl_meaning.specs.Stops.{declaration_stops}
-use Rattle.spl_meaning.specs.Tables.{Source, Routine, routine_in, routines_among, with_declaration}
-use Rattle.spl_meaning.specs.Bodies.{all_routines}
-use Rattle.spl_meaning.specs.ExpressionRules.{Scope}
-use Rattle.spl_meaning.specs.Faults.{unless}
-use Rattle.spl_meaning.specs.DeclarationRules.{Around, Waiting, heading_faults, local_faults, procedure_scope, procedure_by, procedure_faults, global_faults, waiting_behind, globals_faults, silent_faults, unit_faults, main_scope}
-use Rattle.spl_meaning.specs.StatementRules.{has_name, condition_faults, single_value_faults, step_faults, counter_by, test_faults, sets_code, own_labels, list_labels, label_faults, statement_faults, statements_faults, arms_faults, body_faults}
-use Rattle.spl_meaning.specs.Sound.{all_faults, faults_behind}
-use Rattle.spl_places.specs.Programs.{Each}
-use Rattle.spl_statement_code.specs.Landings.{Landing}
-use Rattle.spl_module_code.specs.LabelsOfBodies.{Label, labels_in, labels_among, landed_from}
+use Rattle.spl_sound_labels.specs.spl_tree.declared.names_and_places.At.{At}
+use Rattle.spl_sound_labels.specs.spl_tree.DeclarationTrees as decl
+use Rattle.spl_sound_labels.specs.spl_tree.DeclarationTrees.{Declaration, Declarations, Heading, declarations}
+use Rattle.spl_sound_labels.specs.spl_tree.StatementTrees as stat
+use Rattle.spl_sound_labels.specs.spl_tree.StatementTrees.{Statement, Statements, statements}
+use Rattle.spl_sound_labels.specs.spl_meaning.Names.{Sort, Table, find, same_name, nothing_declared, parameters, formals_of}
+use Rattle.spl_sound_labels.specs.spl_meaning.Stops.{declaration_stops}
+use Rattle.spl_sound_labels.specs.spl_meaning.Tables.{Source, Routine, routine_in, routines_among, subroutine_in, subroutines_among, with_declaration}
+use Rattle.spl_sound_labels.specs.spl_meaning.Bodies.{all_routines}
+use Rattle.spl_sound_labels.specs.spl_meaning.ExpressionRules.{Scope}
+use Rattle.spl_sound_labels.specs.spl_meaning.Faults.{unless}
+use Rattle.spl_sound_labels.specs.spl_meaning.DeclarationRules.{Around, Waiting, twice, heading_faults, subroutine_scope, subroutine_faults, declared_subroutine, local_faults_of, local_faults, procedure_scope, procedure_by, procedure_faults, global_faults, waiting_behind, globals_faults, silent_faults, unit_faults, main_scope}
+use Rattle.spl_sound_labels.specs.spl_meaning.StatementRules.{has_name, condition_faults, single_value_faults, step_faults, counter_by, test_faults, sets_code, own_labels, all_labels, repeated, list_labels, label_faults, statement_faults, statements_faults, arms_faults, body_faults}
+use Rattle.spl_sound_labels.specs.spl_meaning.Sound.{all_faults, faults_behind}
+use Rattle.spl_label_marks.specs.spl_places.Programs.{Each}
+use Rattle.spl_label_marks.specs.spl_statement_code.Landings.{Landing}
+use Rattle.spl_label_marks.specs.spl_module_code.LabelsOfBodies.{Label, labels_in, labels_among, landed_from}
 use Rattle.spl_label_marks.specs.Laws.{Lead}
 use Rattle.spl_label_marks.proofs.LabelNames.{labels_lead}
 use Rattle.spl_sound_labels.proofs.LabelLaws.{left_none, right_none, no_faults}
 use Rattle.spl_jumps.specs.Landed.{is_landing, is_landed, are_landed}
 use Rattle.spl_jumps.proofs.LabelLemmas.{same_letters}
 use Rattle.spl_jumps.proofs.LandedLemmas.{either_named}
-use Rattle.spl_sound_jumps.specs.Laws.{LandsInUnit, LandsInRoutine, LandsInRoutines, SoundBodiesLand, SoundMainsLand, SoundRoutinesLand}
+use Rattle.spl_sound_jumps.specs.Laws.{LandsInUnit, LandsInRoutine, LandsInRoutines, LandsInInner, LandsInInnersOf, LandsInInners, SoundBodiesLand, SoundMainsLand, SoundRoutinesLand, SoundInnersLand}
 
 -- ---- 1. labels
 
@@ -238,3 +240,95 @@ units_routines_land before (u ∷ us) none =
 
 pub routines_land : SoundRoutinesLand
 routines_land us sound = units_routines_land [] us (no_faults us (all_faults us) refl sound)
+
+-- ---- 5. subroutines
+
+-- the statement of one, around which is no list
+inner_lands : (a : Around) (t : Table Sort) (sc : Scope) (m : ℕ) (h : Heading) (s : Statement) → declared_subroutine a t sc h s ≡ []
+    → LandsInInner (record { heading = h; statement = s; before = m })
+inner_lands a t sc m h s none mark =
+    let head = twice t h.name h.at ++ unless (not a.subprogram) 28 h.at in
+    let statement = statement_faults (subroutine_scope sc h) [] false s in
+    let labels = repeated 20 [] (all_labels s) in
+    let in_list = right_none head (subroutine_faults sc h s) none in
+    let of_statement = right_none (heading_faults sc.split h) statement (left_none (heading_faults sc.split h ++ statement) labels in_list) in
+    let once : label_faults (stat.Statements.and s stat.Statements.none) ≡ [] =
+    ap (λ xs. repeated 20 [] xs) (append-nil (all_labels s)) ∙ right_none (heading_faults sc.split h ++ statement) labels in_list in
+    let alone = stat.Statements.and s stat.Statements.none in
+    let at = find (landed_from mark (labels_among alone 0)) in
+    let own = all_lead at mark (labels_among alone 0) (labels_lead mark alone 0 once) in
+    and_from (is_landed at [] s 0) true
+    (statement_lands (subroutine_scope sc h) at [] (λ y is. absurd (false≢true is)) s 0 (lead_left at (labels_in s 0) [] own) false of_statement) refl
+
+-- those in the list of a procedure
+local_inners : (a : Around) (sc : Scope) (t : Table Sort) (m : ℕ) (d : Declaration) → local_faults_of a sc t d ≡ [] → Each LandsInInner (subroutine_in m d)
+local_inners a sc t m (decl.Declaration.data_items own k items) none = tt
+local_inners a sc t m (decl.Declaration.equate es) none = tt
+local_inners a sc t m (decl.Declaration.intrinsic xs) none = tt
+local_inners a sc t m (decl.Declaration.label xs) none = tt
+local_inners a sc t m (decl.Declaration.forward h) none = tt
+local_inners a sc t m (decl.Declaration.external h) none = tt
+local_inners a sc t m (decl.Declaration.procedure h items ss) none = tt
+local_inners a sc t m (decl.Declaration.subroutine h s) none = (inner_lands a t sc m h s none, tt)
+
+locals_land : (a : Around) (sc : Scope) (t : Table Sort) (m : ℕ) (ds : Declarations) → local_faults a sc t ds ≡ [] → Each LandsInInner (subroutines_among m ds)
+locals_land a sc t m decl.none none = tt
+locals_land a sc t m (decl.and d ds) none =
+    let behind = with_declaration a.names t d in
+    each_both LandsInInner (subroutine_in m d) (subroutines_among (m + declaration_stops d) ds)
+    (local_inners a sc t m d (left_none (local_faults_of a sc t d) (local_faults a sc behind ds) none))
+    (locals_land a sc behind (m + declaration_stops d) ds (right_none (local_faults_of a sc t d) (local_faults a sc behind ds) none))
+
+-- of a declaration of a unit: those of the procedure, or the subroutine, that it is
+global_inners : (a : Around) (sc : Scope) (others : List Routine) (w : Waiting) (t : Table Sort) (m : ℕ) (d : Declaration) (ds : Declarations)
+    → global_faults a sc others w t d ds ≡ [] → Each LandsInInner (subroutine_in m d) × Each LandsInInnersOf (routine_in t m d)
+global_inners a sc others w t m (decl.Declaration.data_items own k items) ds none = (tt, tt)
+global_inners a sc others w t m (decl.Declaration.equate es) ds none = (tt, tt)
+global_inners a sc others w t m (decl.Declaration.intrinsic xs) ds none = (tt, tt)
+global_inners a sc others w t m (decl.Declaration.label xs) ds none = (tt, tt)
+global_inners a sc others w t m (decl.Declaration.forward h) ds none = (tt, tt)
+global_inners a sc others w t m (decl.Declaration.external h) ds none = (tt, tt)
+global_inners a sc others w t m (decl.Declaration.procedure h items ss) ds none =
+    let globals = with_declaration nothing_declared t (decl.Declaration.procedure h items ss) in
+    let around : Around = record { names = find globals; in_procedure = true; split = h.split; subprogram = false } in
+    let scope = procedure_scope globals h items in
+    let own = local_faults around scope (parameters (formals_of h)) items in
+    let body = body_faults scope (statements ss) in
+    let all = right_none (procedure_by t (find w h.name) h) (procedure_faults globals h items ss) none in
+    let lists = right_none (heading_faults h.split h) own (left_none (heading_faults h.split h ++ own) body all) in
+    (tt, (locals_land around scope (parameters (formals_of h)) m items lists, tt))
+global_inners a sc others w t m (decl.Declaration.subroutine h s) ds none = ((inner_lands a t sc m h s none, tt), tt)
+
+globals_land : (a : Around) (sc : Scope) (others : List Routine) (w : Waiting) (t : Table Sort) (m : ℕ) (ds : Declarations)
+    → globals_faults a sc others w t ds ≡ [] → Each LandsInInner (subroutines_among m ds) × Each LandsInInnersOf (routines_among t m ds)
+globals_land a sc others w t m decl.none none = (tt, tt)
+globals_land a sc others w t m (decl.and d ds) none =
+    let behind = with_declaration nothing_declared t d in
+    let n = m + declaration_stops d in
+    let own = global_faults a sc others w t d ds in
+    let rest = globals_faults a sc others (waiting_behind w d) behind ds in
+    let first = global_inners a sc others w t m d ds (left_none own rest none) in
+    let second = globals_land a sc others (waiting_behind w d) behind n ds (right_none own rest none) in (
+      each_both LandsInInner (subroutine_in m d) (subroutines_among n ds) first.0 second.0,
+      each_both LandsInInnersOf (routine_in t m d) (routines_among behind n ds) first.1 second.1,
+    )
+
+unit_inners_land : (others : List Routine) (u : Source) → unit_faults others u ≡ [] → LandsInInners u
+unit_inners_land others u none =
+    let around : Around = record { names = nothing_declared; in_procedure = false; split = false; subprogram = u.subprogram } in
+    let lists = globals_faults around (main_scope u) others [] [] (declarations u.tree.items) in
+    let body = body_faults (main_scope u) (statements u.tree.statements) in
+    let silent = if u.subprogram then silent_faults u.tree.at u.tree.statements else [] in
+    globals_land around (main_scope u) others [] [] 0 (declarations u.tree.items) (left_none lists body (left_none (lists ++ body) silent none))
+
+units_inners_land : (before us : List Source) → faults_behind before us ≡ [] → Each LandsInInners us
+units_inners_land before [] none = tt
+units_inners_land before (u ∷ us) none =
+    let of_u = unit_faults (all_routines before ++ all_routines us) u in
+    let of_rest = faults_behind (before ++ u ∷ []) us in (
+      unit_inners_land (all_routines before ++ all_routines us) u (left_none of_u of_rest none),
+      units_inners_land (before ++ u ∷ []) us (right_none of_u of_rest none),
+    )
+
+pub inners_land : SoundInnersLand
+inners_land us sound = units_inners_land [] us (no_faults us (all_faults us) refl sound)

@@ -1,13 +1,13 @@
 -- Labels and jumps of known lists that lead somewhere, and of some that do not.
 use Rattle.std.specs.Prelude.{◌≡◌, ℕ, true, false, Bool, List, [], ◌∷◌, codes, refl}
 use Prim.Native.String.{String}
-use Rattle.spl_tree.specs.declared.names_and_places.At.{At}
-use Rattle.spl_tree.specs.Trees as tree
-use Rattle.spl_tree.specs.StatementTrees as stat
-use Rattle.spl_tree.specs.StatementTrees.{Statement, statements}
-use Rattle.spl_meaning.specs.Names.{find}
-use Rattle.spl_meaning.specs.StatementRules.{list_labels}
-use Rattle.spl_statement_code.specs.Landings.{Landing}
+use Rattle.spl_sound_labels.specs.spl_tree.declared.names_and_places.At.{At}
+use Rattle.spl_sound_labels.specs.spl_tree.Trees as tree
+use Rattle.spl_sound_labels.specs.spl_tree.StatementTrees as stat
+use Rattle.spl_sound_labels.specs.spl_tree.StatementTrees.{Statement, statements}
+use Rattle.spl_sound_labels.specs.spl_meaning.Names.{find}
+use Rattle.spl_sound_labels.specs.spl_meaning.StatementRules.{list_labels}
+use Rattle.spl_label_marks.specs.spl_statement_code.Landings.{Landing}
 use Rattle.spl_jumps.specs.Landed.{are_landed}
 
 abbrev here : At

@@ -1,13 +1,14 @@
 -- The laws of this crate: in a body that breaks no rule labels and jumps lead somewhere, where its labels have marks of their own from one on.
 use Rattle.std.specs.Prelude.{◌≡◌, ℕ, true, List, []}
-use Rattle.spl_tree.specs.StatementTrees.{Statements, statements}
-use Rattle.spl_meaning.specs.Names.{find}
-use Rattle.spl_meaning.specs.Tables.{Source, Routine, routines_of}
-use Rattle.spl_meaning.specs.ExpressionRules.{Scope}
-use Rattle.spl_meaning.specs.StatementRules.{list_labels, body_faults}
-use Rattle.spl_meaning.specs.Sound.{IsSound}
-use Rattle.spl_places.specs.Programs.{Each}
-use Rattle.spl_module_code.specs.LabelsOfBodies.{labels_among, landed_from}
+use Rattle.spl_sound_labels.specs.spl_tree.StatementTrees as stat
+use Rattle.spl_sound_labels.specs.spl_tree.StatementTrees.{Statements, statements}
+use Rattle.spl_sound_labels.specs.spl_meaning.Names.{find}
+use Rattle.spl_sound_labels.specs.spl_meaning.Tables.{Source, Routine, Subroutine, routines_of, routine_subroutines, unit_subroutines}
+use Rattle.spl_sound_labels.specs.spl_meaning.ExpressionRules.{Scope}
+use Rattle.spl_sound_labels.specs.spl_meaning.StatementRules.{list_labels, body_faults}
+use Rattle.spl_sound_labels.specs.spl_meaning.Sound.{IsSound}
+use Rattle.spl_label_marks.specs.spl_places.Programs.{Each}
+use Rattle.spl_label_marks.specs.spl_module_code.LabelsOfBodies.{labels_among, landed_from}
 use Rattle.spl_jumps.specs.Landed.{are_landed}
 
 -- the labels of a body's statements lead to marks from one on, each of its own, and so its jumps lead somewhere
@@ -36,3 +37,20 @@ LandsInRoutines u = Each LandsInRoutine (routines_of u)
 
 abbrev pub SoundRoutinesLand : Type 0
 SoundRoutinesLand = (us : List Source) → IsSound us → Each LandsInRoutines us
+
+-- a subroutine's statement is in no list: so its jumps lead to labels within it
+abbrev pub LandsInInner : Subroutine → Type 0
+LandsInInner s =
+    (mark : ℕ) → are_landed (find (landed_from mark (labels_among (stat.Statements.and s.statement stat.Statements.none) 0))) []
+    (stat.Statements.and s.statement stat.Statements.none) 0 ≡ true
+
+-- those of a procedure's subroutines
+abbrev pub LandsInInnersOf : Routine → Type 0
+LandsInInnersOf r = Each LandsInInner (routine_subroutines r)
+
+-- those of a unit: of its main body, and of its procedures
+abbrev pub LandsInInners : Source → Type 0
+LandsInInners u = Each LandsInInner (unit_subroutines u) × Each LandsInInnersOf (routines_of u)
+
+abbrev pub SoundInnersLand : Type 0
+SoundInnersLand = (us : List Source) → IsSound us → Each LandsInInners us

@@ -1,5 +1,5 @@
 //! The laws of this crate, as the contracts of functions that do nothing.
-ghost use Rattle.spl_sound_jumps.specs.Laws.{SoundBodiesLand, SoundMainsLand, SoundRoutinesLand};
+ghost use Rattle.spl_sound_jumps.specs.Laws.{SoundBodiesLand, SoundMainsLand, SoundRoutinesLand, SoundInnersLand};
 
 /// Labels and jumps of a body that breaks no rule, and of the main bodies of units that do not.
 pub fn sound_jumps_land()
@@ -10,4 +10,9 @@ pub fn sound_jumps_land()
 /// So it is with the procedures of such units.
 pub fn sound_routines_land()
     ensures { SoundRoutinesLand }
+{}
+
+/// And with the subroutines of main bodies and of procedures, each of which is one statement.
+pub fn sound_inners_land()
+    ensures { SoundInnersLand }
 {}

@@ -3,4 +3,4 @@
 
 mod laws;
 
-pub use laws::{sound_jumps_land, sound_routines_land};
+pub use laws::{sound_inners_land, sound_jumps_land, sound_routines_land};

@@ -1,19 +1,19 @@
 -- Units that break no rule bear each label of a body once: the faults of rule 20 are among those of each body, subroutine by subroutine,
 -- procedure by procedure, unit by unit.
 use Rattle.std.proofs.Common.{ℕ, ◌≡◌, Bool, true, false, not, if◌then◌else◌, List, [], ◌∷◌, ◌++◌, refl, inl, subst, ap, ◌∙◌, ◌+◌}
-use Rattle.spl_tree.specs.DeclarationTrees as decl
-use Rattle.spl_tree.specs.DeclarationTrees.{Heading, Declaration, Declarations, declarations}
-use Rattle.spl_tree.specs.StatementTrees as stat
-use Rattle.spl_tree.specs.StatementTrees.{Statement, Statements, statements}
-use Rattle.spl_meaning.specs.Names.{Sort, Table, find, nothing_declared, parameters, formals_of}
-use Rattle.spl_meaning.specs.Tables.{Source, Routine, Subroutine, with_declaration, routine_in, routines_among, routines_of, subroutine_in, subroutines_among, unit_subroutines}
-use Rattle.spl_meaning.specs.Bodies.{all_routines}
-use Rattle.spl_meaning.specs.Stops.{declaration_stops}
-use Rattle.spl_meaning.specs.ExpressionRules.{Scope}
-use Rattle.spl_meaning.specs.Faults.{Fault, unless, IsAmong}
-use Rattle.spl_meaning.specs.DeclarationRules.{Around, Waiting, twice, subroutine_scope, subroutine_faults, declared_subroutine, local_faults_of, local_faults, heading_faults, procedure_by, procedure_scope, procedure_faults, global_faults, globals_faults, waiting_behind, silent_faults, unit_faults, main_scope}
-use Rattle.spl_meaning.specs.StatementRules.{repeated, all_labels, list_labels, statement_faults, statements_faults, label_faults, body_faults}
-use Rattle.spl_meaning.specs.Sound.{IsSound, all_faults, faults_behind}
+use Rattle.spl_places.specs.spl_tree.DeclarationTrees as decl
+use Rattle.spl_places.specs.spl_tree.DeclarationTrees.{Heading, Declaration, Declarations, declarations}
+use Rattle.spl_places.specs.spl_tree.StatementTrees as stat
+use Rattle.spl_places.specs.spl_tree.StatementTrees.{Statement, Statements, statements}
+use Rattle.spl_places.specs.spl_meaning.Names.{Sort, Table, find, nothing_declared, parameters, formals_of}
+use Rattle.spl_places.specs.spl_meaning.Tables.{Source, Routine, Subroutine, with_declaration, routine_in, routines_among, routines_of, subroutine_in, subroutines_among, unit_subroutines}
+use Rattle.spl_places.specs.spl_meaning.Bodies.{all_routines}
+use Rattle.spl_places.specs.spl_meaning.Stops.{declaration_stops}
+use Rattle.spl_places.specs.spl_meaning.ExpressionRules.{Scope}
+use Rattle.spl_places.specs.spl_meaning.Faults.{Fault, unless, IsAmong}
+use Rattle.spl_places.specs.spl_meaning.DeclarationRules.{Around, Waiting, twice, subroutine_scope, subroutine_faults, declared_subroutine, local_faults_of, local_faults, heading_faults, procedure_by, procedure_scope, procedure_faults, global_faults, globals_faults, waiting_behind, silent_faults, unit_faults, main_scope}
+use Rattle.spl_places.specs.spl_meaning.StatementRules.{repeated, all_labels, list_labels, statement_faults, statements_faults, label_faults, body_faults}
+use Rattle.spl_places.specs.spl_meaning.Sound.{IsSound, all_faults, faults_behind}
 use Rattle.spl_places.specs.Programs.{Each}
 use Rattle.spl_sound_labels.specs.Labels.{LabelsOnce, LabelsOnceInSubroutine, LabelsOnceInRoutine, LabelsOnceInUnit, LabelsOnceInAll}
 

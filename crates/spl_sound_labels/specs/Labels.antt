@@ -1,11 +1,11 @@
 -- Bodies in which no label stands twice: those of all units, of their procedures and of the subroutines of both.
 use Rattle.std.specs.Prelude.{◌≡◌, true, List, []}
-use Rattle.spl_tree.specs.StatementTrees as stat
-use Rattle.spl_tree.specs.StatementTrees.{Statements, statements}
-use Rattle.spl_meaning.specs.Tables.{Source, Routine, Subroutine, routine_subroutines, unit_subroutines}
-use Rattle.spl_meaning.specs.Bodies.{all_routines}
-use Rattle.spl_meaning.specs.StatementRules.{label_faults}
-use Rattle.spl_meaning.specs.Sound.{IsSound}
+use Rattle.spl_places.specs.spl_tree.StatementTrees as stat
+use Rattle.spl_places.specs.spl_tree.StatementTrees.{Statements, statements}
+use Rattle.spl_places.specs.spl_meaning.Tables.{Source, Routine, Subroutine, routine_subroutines, unit_subroutines}
+use Rattle.spl_places.specs.spl_meaning.Bodies.{all_routines}
+use Rattle.spl_places.specs.spl_meaning.StatementRules.{label_faults}
+use Rattle.spl_places.specs.spl_meaning.Sound.{IsSound}
 use Rattle.spl_places.specs.Programs.{Each}
 
 -- each label of a body's statements stands there once

@@ -1,13 +1,13 @@
 -- Lists of names with the places of what they stand for: an item's in its list, a parameter's among the parameters, and one list around another.
 use Rattle.std.proofs.Common.{◌≡◌, ℕ, ◌+◌, nat_lt, Bool, true, false, if◌then◌else◌, List, [], ◌∷◌, ◌++◌, Option, Some, None, is_some, refl, sym, ap, ◌∙◌}
-use Rattle.spl_tree.specs.declared.expressions.Kind.TheVariants as kind
-use Rattle.spl_tree.specs.DeclarationTrees.{Placed, Spec, Heading}
-use Rattle.spl_meaning.specs.Names as n
-use Rattle.spl_meaning.specs.Names.{Names, Sort, Table, find, or_else, same_name, parameters, formals_among, formals_of, spec_of, kind_in, is_array_in, lists, sort_by}
-use Rattle.spl_meaning.specs.Places.{Place, only, place_of, places_from, item_words, is_own, where_own}
-use Rattle.spl_meaning.specs.Bodies.{parameter_places}
-use Rattle.spl_meaning.specs.Faults.{unless}
-use Rattle.spl_meaning.specs.DeclarationRules.{without_kind}
+use Rattle.spl_sound.specs.spl_tree.declared.expressions.Kind.TheVariants as kind
+use Rattle.spl_sound.specs.spl_tree.DeclarationTrees.{Placed, Spec, Heading}
+use Rattle.spl_sound.specs.spl_meaning.Names as n
+use Rattle.spl_sound.specs.spl_meaning.Names.{Names, Sort, Table, find, or_else, same_name, parameters, formals_among, formals_of, spec_of, kind_in, is_array_in, lists, sort_by}
+use Rattle.spl_sound.specs.spl_meaning.Places.{Place, only, place_of, places_from, item_words, is_own, where_own}
+use Rattle.spl_sound.specs.spl_meaning.Bodies.{parameter_places}
+use Rattle.spl_sound.specs.spl_meaning.Faults.{unless}
+use Rattle.spl_sound.specs.spl_meaning.DeclarationRules.{without_kind}
 use Rattle.spl_sound_names.specs.Known.{is_known, is_item, is_passed, is_inner, AreKnown, NamesAreFound}
 use Rattle.spl_sound_names.proofs.Tables.{left_none, right_none, unless_none, never}
 

@@ -3,17 +3,17 @@ use Rattle.std.proofs.Common.{◌≡◌, ℕ, ◌+◌, ◌||◌, not, Bool, true
 use Rattle.std.specs.List.{slice_get}
 use Rattle.std.proofs.Math.Bool.{Bool-set}
 use Rattle.std.proofs.Math.Logic.{∥∥₁_elim}
-use Rattle.spl_tree.specs.Symbols.{Lexeme}
-use Rattle.spl_tree.specs.DeclarationTrees as decl
-use Rattle.spl_tree.specs.DeclarationTrees.{UnitTree, declarations}
-use Rattle.spl_tree.specs.Declarations as dl
-use Rattle.spl_tree.specs.Declarations.{is_subroutine}
-use Rattle.spl_tree.specs.Units as un
-use Rattle.spl_tree.specs.Units.{Unit_of}
-use Rattle.spl_cuts.specs.Lexemes.{lexemes}
-use Rattle.spl_reading.specs.Readers.{Got}
-use Rattle.spl_grammar.specs.Verdicts.{Verdict, spelled}
-use Rattle.spl_meaning.specs.Tables.{Source}
+use Rattle.spl_sound.specs.spl_tree.Symbols.{Lexeme}
+use Rattle.spl_sound.specs.spl_tree.DeclarationTrees as decl
+use Rattle.spl_sound.specs.spl_tree.DeclarationTrees.{UnitTree, declarations}
+use Rattle.spl_sound.specs.spl_tree.Declarations as dl
+use Rattle.spl_sound.specs.spl_tree.Declarations.{is_subroutine}
+use Rattle.spl_sound.specs.spl_tree.Units as un
+use Rattle.spl_sound.specs.spl_tree.Units.{Unit_of}
+use Rattle.spl_sound.specs.spl_cuts.Lexemes.{lexemes}
+use Rattle.spl_sound.specs.spl_reading.Readers.{Got}
+use Rattle.spl_sound.specs.spl_grammar.Verdicts.{Verdict, spelled}
+use Rattle.spl_sound.specs.spl_meaning.Tables.{Source}
 use Rattle.spl_sound.specs.Spelled.{Spelled, AreSpelled}
 use Rattle.spl_sound_names.specs.Known.{inner_last}
 use Rattle.spl_sound_names.proofs.Tables.{never}

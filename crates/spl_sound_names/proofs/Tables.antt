@@ -5,19 +5,19 @@
 use Rattle.std.proofs.Common.{◌≡◌, ◌⊎◌, inl, inr, ℕ, Bool, true, false, if◌then◌else◌, ℤ, List, [], ◌∷◌, ◌++◌, Option, Some, None, is_some, refl, sym, subst, ap, ◌∙◌}
 use Rattle.std.proofs.lemmas.Bool.{false≢true}
 use Rattle.std.specs.Cmp.Lexicographic.{same_text}
-use Rattle.hp_word.specs.declared.intrinsics.Intrinsic.{Intrinsic}
-use Rattle.spl_tree.specs.declared.names_and_places.At.{At}
-use Rattle.spl_tree.specs.declared.expressions.Kind.{Kind}
-use Rattle.spl_tree.specs.Trees as tree
-use Rattle.spl_tree.specs.Trees.{Constant}
-use Rattle.spl_tree.specs.DeclarationTrees as decl
-use Rattle.spl_tree.specs.DeclarationTrees.{Placed, Item, Equal, Term, Declaration, Declarations}
-use Rattle.spl_meaning.specs.Names as n
-use Rattle.spl_meaning.specs.Names.{Names, Sort, Table, find, within, or_else, same_name, nothing_declared, text_value, whole_number, constant_value, sum_with, sum_from, sum_value, kept_value, intrinsic_named, profile_of}
-use Rattle.spl_meaning.specs.Tables.{declared, shaped, intrinsic_sort, with_items, with_equates, with_intrinsics, with_labels, with_declaration, with_declarations}
-use Rattle.spl_meaning.specs.Faults.{fault, unless}
-use Rattle.spl_meaning.specs.ExpressionRules.{constant_name, constant_faults}
-use Rattle.spl_meaning.specs.DeclarationRules.{Around, twice, terms_faults, equate_faults, equates_faults, intrinsics_faults}
+use Rattle.spl_sound.specs.hp_word.declared.intrinsics.Intrinsic.{Intrinsic}
+use Rattle.spl_sound.specs.spl_tree.declared.names_and_places.At.{At}
+use Rattle.spl_sound.specs.spl_tree.declared.expressions.Kind.{Kind}
+use Rattle.spl_sound.specs.spl_tree.Trees as tree
+use Rattle.spl_sound.specs.spl_tree.Trees.{Constant}
+use Rattle.spl_sound.specs.spl_tree.DeclarationTrees as decl
+use Rattle.spl_sound.specs.spl_tree.DeclarationTrees.{Placed, Item, Equal, Term, Declaration, Declarations}
+use Rattle.spl_sound.specs.spl_meaning.Names as n
+use Rattle.spl_sound.specs.spl_meaning.Names.{Names, Sort, Table, find, within, or_else, same_name, nothing_declared, text_value, whole_number, constant_value, sum_with, sum_from, sum_value, kept_value, intrinsic_named, profile_of}
+use Rattle.spl_sound.specs.spl_meaning.Tables.{declared, shaped, intrinsic_sort, with_items, with_equates, with_intrinsics, with_labels, with_declaration, with_declarations}
+use Rattle.spl_sound.specs.spl_meaning.Faults.{fault, unless}
+use Rattle.spl_sound.specs.spl_meaning.ExpressionRules.{constant_name, constant_faults}
+use Rattle.spl_sound.specs.spl_meaning.DeclarationRules.{Around, twice, terms_faults, equate_faults, equates_faults, intrinsics_faults}
 use Rattle.spl_found.specs.OwnNames.{with_name}
 use Rattle.spl_found.proofs.OwnNames.{find_declared}
 use Rattle.spl_sound_names.specs.Known.{is_known, is_passed, is_inner, AreKnown}
@@ -97,7 +97,7 @@ known_within t outer here around x s is = by (find t x) refl is
     by None there is_one = around x s is_one
 
 -- a constant that breaks no rule has a value
-constant_known : (names : Names) → Known names → (at : At) (c : Constant) → constant_faults names at c ≡ [] → is_some (constant_value names c) ≡ true
+pub constant_known : (names : Names) → Known names → (at : At) (c : Constant) → constant_faults names at c ≡ [] → is_some (constant_value names c) ≡ true
 constant_known names known at (tree.Constant.number minus v) none = refl
 constant_known names known at (tree.Constant.wide minus v) none = refl
 constant_known names known at (tree.Constant.text bytes) none = by (text_value bytes) (unless_none (is_some (text_value bytes)) 14 at none)

@@ -1,15 +1,15 @@
 -- The names of units that break no rule, and the parameters of headings that break none.
 use Rattle.std.proofs.Common.{◌≡◌, ℕ, zero, suc, Bool, false, if◌then◌else◌, List, [], ◌∷◌, ◌++◌, Some, inl, refl, subst}
 use Rattle.std.specs.List.{slice_get}
-use Rattle.spl_tree.specs.DeclarationTrees.{Heading, declarations}
-use Rattle.spl_tree.specs.StatementTrees.{statements}
-use Rattle.spl_meaning.specs.Names.{find, formals_of}
-use Rattle.spl_meaning.specs.Tables.{Source, Routine, unit_table}
-use Rattle.spl_meaning.specs.Bodies.{all_routines}
-use Rattle.spl_meaning.specs.StatementRules.{repeated, body_faults}
-use Rattle.spl_meaning.specs.DeclarationRules.{heading_faults, not_parameters, all_listed, array_values, without_kind, split_parameters, globals_faults, main_scope, silent_faults, unit_faults}
-use Rattle.spl_meaning.specs.Faults.{Fault, IsAmong}
-use Rattle.spl_meaning.specs.Sound.{IsSound, all_faults, faults_behind}
+use Rattle.spl_sound.specs.spl_tree.DeclarationTrees.{Heading, declarations}
+use Rattle.spl_sound.specs.spl_tree.StatementTrees.{statements}
+use Rattle.spl_sound.specs.spl_meaning.Names.{find, formals_of}
+use Rattle.spl_sound.specs.spl_meaning.Tables.{Source, Routine, unit_table}
+use Rattle.spl_sound.specs.spl_meaning.Bodies.{all_routines}
+use Rattle.spl_sound.specs.spl_meaning.StatementRules.{repeated, body_faults}
+use Rattle.spl_sound.specs.spl_meaning.DeclarationRules.{heading_faults, not_parameters, all_listed, array_values, without_kind, split_parameters, globals_faults, main_scope, silent_faults, unit_faults}
+use Rattle.spl_sound.specs.spl_meaning.Faults.{Fault, IsAmong}
+use Rattle.spl_sound.specs.spl_meaning.Sound.{IsSound, all_faults, faults_behind}
 use Rattle.spl_sound_names.specs.Known.{AreKnown, has_inner}
 use Rattle.spl_sound_names.specs.Laws.{UnitNamesAreKnown, ParametersAreFound, LocalNamesAreKnown}
 use Rattle.spl_sound_names.proofs.Tables.{left_none, right_none}

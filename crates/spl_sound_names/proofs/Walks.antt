@@ -1,12 +1,12 @@
 -- Lists of declarations that break no rule: what each name of the list stands for is known, and a subroutine is one that the list declares.
 use Rattle.std.proofs.Common.{◌≡◌, ℕ, Bool, true, false, if◌then◌else◌, List, [], refl, rules}
-use Rattle.spl_tree.specs.DeclarationTrees as decl
-use Rattle.spl_tree.specs.DeclarationTrees.{Declaration, Declarations, Heading}
-use Rattle.spl_meaning.specs.Names as n
-use Rattle.spl_meaning.specs.Names.{Names, Sort, Table, find, same_name, nothing_declared, profile_of}
-use Rattle.spl_meaning.specs.Tables.{Routine, with_declaration, with_declarations}
-use Rattle.spl_meaning.specs.ExpressionRules.{Scope}
-use Rattle.spl_meaning.specs.DeclarationRules.{Around, Waiting, local_faults_of, local_faults, global_faults, globals_faults, waiting_behind}
+use Rattle.spl_sound.specs.spl_tree.DeclarationTrees as decl
+use Rattle.spl_sound.specs.spl_tree.DeclarationTrees.{Declaration, Declarations, Heading}
+use Rattle.spl_sound.specs.spl_meaning.Names as n
+use Rattle.spl_sound.specs.spl_meaning.Names.{Names, Sort, Table, find, same_name, nothing_declared, profile_of}
+use Rattle.spl_sound.specs.spl_meaning.Tables.{Routine, with_declaration, with_declarations}
+use Rattle.spl_sound.specs.spl_meaning.ExpressionRules.{Scope}
+use Rattle.spl_sound.specs.spl_meaning.DeclarationRules.{Around, Waiting, local_faults_of, local_faults, global_faults, globals_faults, waiting_behind}
 use Rattle.spl_sound_names.specs.Known.{AreKnown, declares_inner, has_inner}
 use Rattle.spl_sound_names.proofs.Tables.{left_none, right_none, never, known_declared, known_items, Known, known_equates, known_intrinsics, known_labels}
 

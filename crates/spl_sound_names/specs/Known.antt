@@ -1,10 +1,10 @@
 -- What names stand for in lists of declarations that break no rule: each is known, and has what an expression asks of it.
 use Rattle.std.specs.Prelude.{◌≡◌, ℕ, Bool, true, false, if◌then◌else◌, List, Option, Some, is_some}
-use Rattle.spl_tree.specs.DeclarationTrees as decl
-use Rattle.spl_tree.specs.DeclarationTrees.{Declaration, Declarations}
-use Rattle.spl_meaning.specs.Names as n
-use Rattle.spl_meaning.specs.Names.{Names, Sort, Table, find, same_name}
-use Rattle.spl_meaning.specs.Places.{Place}
+use Rattle.spl_sound.specs.spl_tree.DeclarationTrees as decl
+use Rattle.spl_sound.specs.spl_tree.DeclarationTrees.{Declaration, Declarations}
+use Rattle.spl_sound.specs.spl_meaning.Names as n
+use Rattle.spl_sound.specs.spl_meaning.Names.{Names, Sort, Table, find, same_name}
+use Rattle.spl_sound.specs.spl_meaning.Places.{Place}
 
 -- it is declared rightly, and an EQUATE name has a value
 abbrev pub is_known : Sort → Bool

@@ -1,14 +1,14 @@
 -- The laws of this crate.
 use Rattle.std.specs.Prelude.{◌≡◌, ℕ, ◌++◌, Bool, true, false, List, [], Option, Some, is_some}
 use Rattle.std.specs.List.{slice_get}
-use Rattle.spl_tree.specs.DeclarationTrees.{Declarations, Heading, declarations}
-use Rattle.spl_meaning.specs.Names.{Sort, Table, find, parameters, formals_of}
-use Rattle.spl_meaning.specs.Tables.{Source, with_declarations, unit_table}
-use Rattle.spl_meaning.specs.Places.{Place, places_from}
-use Rattle.spl_meaning.specs.Bodies.{parameter_places}
-use Rattle.spl_meaning.specs.ExpressionRules.{Scope}
-use Rattle.spl_meaning.specs.DeclarationRules.{Around, local_faults, heading_faults}
-use Rattle.spl_meaning.specs.Sound.{IsSound}
+use Rattle.spl_sound.specs.spl_tree.DeclarationTrees.{Declarations, Heading, declarations}
+use Rattle.spl_sound.specs.spl_meaning.Names.{Sort, Table, find, parameters, formals_of}
+use Rattle.spl_sound.specs.spl_meaning.Tables.{Source, with_declarations, unit_table}
+use Rattle.spl_sound.specs.spl_meaning.Places.{Place, places_from}
+use Rattle.spl_sound.specs.spl_meaning.Bodies.{parameter_places}
+use Rattle.spl_sound.specs.spl_meaning.ExpressionRules.{Scope}
+use Rattle.spl_sound.specs.spl_meaning.DeclarationRules.{Around, local_faults, heading_faults}
+use Rattle.spl_sound.specs.spl_meaning.Sound.{IsSound}
 use Rattle.spl_sound.specs.Spelled.{AreSpelled}
 use Rattle.spl_sound_names.specs.Known.{is_known, AreKnown, NamesAreFound, has_inner, inner_last}
 

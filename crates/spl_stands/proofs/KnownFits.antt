@@ -1,11 +1,11 @@
 -- Pieces that fit, and pieces that do not, by computing.
 use Rattle.std.proofs.Common.{◌≡◌, false, [], ◌∷◌, Some, None, refl}
-use Rattle.hp_instr.specs.declared.instruction.Instr.TheVariants as i
-use Rattle.spl_tree.specs.declared.names_and_places.At.{At}
-use Rattle.spl_branch.specs.declared.pieces.Piece.TheVariants.{Do, Mark, Begin}
-use Rattle.spl_branch.specs.Stands as decoded
-use Rattle.spl_follow.specs.Spots.{Ground}
-use Rattle.spl_follow.specs.Standing.{Sites}
+use Rattle.hp_leads.specs.hp_instr.declared.instruction.Instr.TheVariants as i
+use Rattle.hp_leads.specs.spl_tree.declared.names_and_places.At.{At}
+use Rattle.hp_leads.specs.spl_branch.declared.pieces.Piece.TheVariants.{Do, Mark, Begin}
+use Rattle.hp_leads.specs.spl_branch.Stands as decoded
+use Rattle.hp_leads.specs.spl_follow.Spots.{Ground}
+use Rattle.hp_leads.specs.spl_follow.Standing.{Sites}
 use Rattle.spl_stands.specs.Fitting.{AllFit}
 
 -- LDI and SUBS, of one statement that starts at the first

@@ -5,22 +5,22 @@
 use Rattle.std.proofs.Common.{◌≡◌, inl, inr, ◌==◌, ◌+◌, ◌<◌, ℕ, Bool, true, false, List, [], ◌∷◌, Option, None, Some, refl, sym, ap, subst, ◌∙◌, arith}
 use Rattle.std.specs.Prelude.{if◌then◌else◌, slice_get, option_and_then}
 use Rattle.std.specs.Bool.{MatchBool}
-use Rattle.hp_instr.specs.declared.instruction.Instr.{Instr}
-use Rattle.hp_instr.specs.declared.instruction.Instr.TheVariants as i
-use Rattle.hp_instr.specs.declared.instruction.Op.{Op}
-use Rattle.hp_program.specs.Programs.{code_word}
-use Rattle.spl_tree.specs.declared.names_and_places.At.{At}
-use Rattle.spl_branch.specs.declared.pieces.Piece.{Piece}
-use Rattle.spl_branch.specs.declared.pieces.Piece.TheVariants.{Do, Literal, Place, Branch, Mark, Call, Begin}
-use Rattle.spl_branch.specs.declared.spots.Spot as module_spot
-use Rattle.spl_branch.specs.Branches.{aimed, toward, is_far, more, branch_size, through, past, calling as called_by}
-use Rattle.spl_branch.specs.Pieces.{is_direct}
-use Rattle.spl_branch.specs.Stands as decoded
-use Rattle.spl_branch.specs.Stands.{at_left, past_instr, Has, LeadsTo, Does, TurnsFar, Turns}
-use Rattle.spl_follow.specs.Spots.{Spot, Point, on, Ground, start_at}
-use Rattle.spl_follow.specs.Leading.{Leads}
-use Rattle.spl_follow.specs.Doing.{doing, turning, Way, calling}
-use Rattle.spl_follow.specs.Standing.{Sites, Stands}
+use Rattle.hp_leads.specs.hp_instr.declared.instruction.Instr.{Instr}
+use Rattle.hp_leads.specs.hp_instr.declared.instruction.Instr.TheVariants as i
+use Rattle.hp_leads.specs.hp_instr.declared.instruction.Op.{Op}
+use Rattle.hp_leads.specs.hp_program.Programs.{code_word}
+use Rattle.hp_leads.specs.spl_tree.declared.names_and_places.At.{At}
+use Rattle.hp_leads.specs.spl_branch.declared.pieces.Piece.{Piece}
+use Rattle.hp_leads.specs.spl_branch.declared.pieces.Piece.TheVariants.{Do, Literal, Place, Branch, Mark, Call, Begin}
+use Rattle.hp_leads.specs.spl_branch.declared.spots.Spot as module_spot
+use Rattle.hp_leads.specs.spl_branch.Branches.{aimed, toward, is_far, more, branch_size, through, past, calling as called_by}
+use Rattle.hp_leads.specs.spl_branch.Pieces.{is_direct}
+use Rattle.hp_leads.specs.spl_branch.Stands as decoded
+use Rattle.hp_leads.specs.spl_branch.Stands.{at_left, past_instr, Has, LeadsTo, Does, TurnsFar, Turns}
+use Rattle.hp_leads.specs.spl_follow.Spots.{Spot, Point, on, Ground, start_at}
+use Rattle.hp_leads.specs.spl_follow.Leading.{Leads}
+use Rattle.hp_leads.specs.spl_follow.Doing.{doing, turning, Way, calling}
+use Rattle.hp_leads.specs.spl_follow.Standing.{Sites, Stands}
 use Rattle.hp_leads.specs.Words.{word_at, HasInstr, is_whole, Points}
 use Rattle.hp_leads.proofs.WordLemmas.{right_leads, left_leads, single_leads, whole_leads}
 use Rattle.hp_leads.proofs.BranchLemmas.{toward_leads, far_jump_leads, far_leads}

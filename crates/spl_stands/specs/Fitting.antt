@@ -1,18 +1,18 @@
 -- What is asked of a program beside the words of a segment, so that pieces that stand there by their words stand there by what they do: the
 -- starts of statements, and where calls lead.
 use Rattle.std.specs.Prelude.{◌≡◌, ◌⊎◌, ◌==◌, ◌&&◌, ◌+◌, ◌<◌, ℕ, Bool, true, false, not, List, [], ◌∷◌, Option, None, Some}
-use Rattle.hp_instr.specs.declared.instruction.Instr.{Instr}
-use Rattle.hp_instr.specs.declared.instruction.Instr.TheVariants as i
-use Rattle.spl_tree.specs.declared.names_and_places.At.{At}
-use Rattle.spl_branch.specs.declared.pieces.Piece.{Piece}
-use Rattle.spl_branch.specs.declared.pieces.Piece.TheVariants.{Do, Literal, Place, Branch, Mark, Call, Begin}
-use Rattle.spl_branch.specs.declared.spots.Spot as module_spot
-use Rattle.spl_branch.specs.Branches.{branch_size}
-use Rattle.spl_branch.specs.Pieces.{is_direct}
-use Rattle.spl_branch.specs.Stands as decoded
-use Rattle.spl_follow.specs.Spots.{Spot, Point, Ground, Real, start_at}
-use Rattle.spl_follow.specs.Doing.{Way}
-use Rattle.spl_follow.specs.Standing.{Sites}
+use Rattle.hp_leads.specs.hp_instr.declared.instruction.Instr.{Instr}
+use Rattle.hp_leads.specs.hp_instr.declared.instruction.Instr.TheVariants as i
+use Rattle.hp_leads.specs.spl_tree.declared.names_and_places.At.{At}
+use Rattle.hp_leads.specs.spl_branch.declared.pieces.Piece.{Piece}
+use Rattle.hp_leads.specs.spl_branch.declared.pieces.Piece.TheVariants.{Do, Literal, Place, Branch, Mark, Call, Begin}
+use Rattle.hp_leads.specs.spl_branch.declared.spots.Spot as module_spot
+use Rattle.hp_leads.specs.spl_branch.Branches.{branch_size}
+use Rattle.hp_leads.specs.spl_branch.Pieces.{is_direct}
+use Rattle.hp_leads.specs.spl_branch.Stands as decoded
+use Rattle.hp_leads.specs.spl_follow.Spots.{Spot, Point, Ground, Real, start_at}
+use Rattle.hp_leads.specs.spl_follow.Doing.{Way}
+use Rattle.hp_leads.specs.spl_follow.Standing.{Sites}
 use Rattle.hp_leads.specs.Words.{is_whole, entry_way, subroutine_way}
 
 -- ---- places

@@ -1,14 +1,14 @@
 -- The laws of this crate.
 use Rattle.std.specs.Prelude.{◌≡◌, ◌+◌, ◌<◌, ◌≤◌, ℕ, Bool, List, length, Option, Some, None, slice_get}
-use Rattle.spl_tree.specs.declared.names_and_places.At.{At}
-use Rattle.spl_branch.specs.declared.pieces.Piece.{Piece}
-use Rattle.spl_branch.specs.declared.spots.Spot as module_spot
-use Rattle.spl_branch.specs.declared.buffer.Code.{Code}
-use Rattle.spl_branch.specs.declared.modules.Module.{Module}
-use Rattle.spl_branch.specs.Stands as decoded
-use Rattle.spl_branch.specs.Modules.{Finished, LiesAt, sites}
-use Rattle.spl_follow.specs.Spots.{on, Ground}
-use Rattle.spl_follow.specs.Standing.{Sites, Stands}
+use Rattle.hp_leads.specs.spl_tree.declared.names_and_places.At.{At}
+use Rattle.hp_leads.specs.spl_branch.declared.pieces.Piece.{Piece}
+use Rattle.hp_leads.specs.spl_branch.declared.spots.Spot as module_spot
+use Rattle.hp_leads.specs.spl_branch.declared.buffer.Code.{Code}
+use Rattle.hp_leads.specs.spl_branch.declared.modules.Module.{Module}
+use Rattle.hp_leads.specs.spl_branch.Stands as decoded
+use Rattle.hp_leads.specs.spl_branch.Modules.{Finished, LiesAt, sites}
+use Rattle.hp_leads.specs.spl_follow.Spots.{on, Ground}
+use Rattle.hp_leads.specs.spl_follow.Standing.{Sites, Stands}
 use Rattle.spl_stands.specs.Fitting.{placed, point, MarksAgree, AllFit}
 
 -- Words of a segment that stand for pieces stand for them by what the machine does there.

@@ -1,10 +1,10 @@
 -- The code of a statement has few words, along the tree.
 use Rattle.std.proofs.Common.{◌≤◌, ℕ, ◌+◌, ◌*◌, true, false, List, [], arith}
-use Rattle.spl_tree.specs.StatementTrees as stat
-use Rattle.spl_tree.specs.StatementTrees.{Statement, Statements}
-use Rattle.spl_meaning.specs.Bound.{statement_weight, statements_weight}
-use Rattle.spl_branch.specs.declared.pieces.Piece.TheVariants.{Begin, Mark}
-use Rattle.spl_branch.specs.Pieces.{count_of}
+use Rattle.spl_code.specs.spl_tree.StatementTrees as stat
+use Rattle.spl_code.specs.spl_tree.StatementTrees.{Statement, Statements}
+use Rattle.spl_code.specs.spl_meaning.Bound.{statement_weight, statements_weight}
+use Rattle.spl_code.specs.spl_branch.declared.pieces.Piece.TheVariants.{Begin, Mark}
+use Rattle.spl_code.specs.spl_branch.Pieces.{count_of}
 use Rattle.spl_code.specs.Instructions.{BR, DEL}
 use Rattle.spl_code.specs.Parts.{Part, Wanted}
 use Rattle.spl_code.proofs.CountLemmas.{Few, few_then, few_more, few_pieces, few_fresh, few_one}

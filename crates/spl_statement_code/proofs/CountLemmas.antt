@@ -1,25 +1,25 @@
 -- The words of the parts of a statement.
 use Rattle.std.proofs.Common.{◌≡◌, ◌≤◌, ℕ, ◌+◌, ◌-◌, ◌%◌, nat_le, Bool, true, false, if◌then◌else◌, List, [], ◌∷◌, length, map, Option, Some, None, refl, arith}
 use Rattle.std.proofs.lemmas.Bool.{le-leb, false≢true}
-use Rattle.hp_instr.specs.declared.instruction.Mode.{Mode}
-use Rattle.spl_tree.specs.declared.names_and_places.At.{At}
-use Rattle.spl_tree.specs.declared.expressions.Kind.{Kind}
-use Rattle.spl_tree.specs.declared.expressions.Kind.TheVariants as kind
-use Rattle.spl_tree.specs.Trees as tree
-use Rattle.spl_tree.specs.Trees.{Tree, Trees}
-use Rattle.spl_tree.specs.StatementTrees as stat
-use Rattle.spl_tree.specs.StatementTrees.{Target, Source, Effect, Test}
-use Rattle.spl_meaning.specs.Names.{Profile}
-use Rattle.spl_meaning.specs.Kinds.{callable}
-use Rattle.spl_meaning.specs.Pending.{waiting, behind_first, behind_second, result_words}
-use Rattle.spl_meaning.specs.Places as p
-use Rattle.spl_meaning.specs.References.{Access, its_own, by_address, by_cell, its_result, nowhere, access_of}
-use Rattle.spl_meaning.specs.Values.{sense_of, small_constant}
-use Rattle.spl_meaning.specs.Elements.{as_words}
-use Rattle.spl_meaning.specs.Bound.{weight, trees_weight, string_words, target_weight, source_weight, effect_weight, test_weight}
-use Rattle.spl_branch.specs.declared.pieces.Piece.{Piece}
-use Rattle.spl_branch.specs.declared.pieces.Piece.TheVariants.{Mark, Literal, Place as PlaceOf}
-use Rattle.spl_branch.specs.Pieces.{count_of}
+use Rattle.spl_code.specs.hp_instr.declared.instruction.Mode.{Mode}
+use Rattle.spl_code.specs.spl_tree.declared.names_and_places.At.{At}
+use Rattle.spl_code.specs.spl_tree.declared.expressions.Kind.{Kind}
+use Rattle.spl_code.specs.spl_tree.declared.expressions.Kind.TheVariants as kind
+use Rattle.spl_code.specs.spl_tree.Trees as tree
+use Rattle.spl_code.specs.spl_tree.Trees.{Tree, Trees}
+use Rattle.spl_code.specs.spl_tree.StatementTrees as stat
+use Rattle.spl_code.specs.spl_tree.StatementTrees.{Target, Source, Effect, Test}
+use Rattle.spl_code.specs.spl_meaning.Names.{Profile}
+use Rattle.spl_code.specs.spl_meaning.Kinds.{callable}
+use Rattle.spl_code.specs.spl_meaning.Pending.{waiting, behind_first, behind_second, result_words}
+use Rattle.spl_code.specs.spl_meaning.Places as p
+use Rattle.spl_code.specs.spl_meaning.References.{Access, its_own, by_address, by_cell, its_result, nowhere, access_of}
+use Rattle.spl_code.specs.spl_meaning.Values.{sense_of, small_constant}
+use Rattle.spl_code.specs.spl_meaning.Elements.{as_words}
+use Rattle.spl_code.specs.spl_meaning.Bound.{weight, trees_weight, string_words, target_weight, source_weight, effect_weight, test_weight}
+use Rattle.spl_code.specs.spl_branch.declared.pieces.Piece.{Piece}
+use Rattle.spl_code.specs.spl_branch.declared.pieces.Piece.TheVariants.{Mark, Literal, Place as PlaceOf}
+use Rattle.spl_code.specs.spl_branch.Pieces.{count_of}
 use Rattle.spl_code.specs.Instructions.{LDI, LRA, BR, DEL, LOAD_BEFORE}
 use Rattle.spl_code.specs.Parts.{Part, Wanted, pieces, piece, ◌⨟◌}
 use Rattle.spl_code.specs.Constants.{constant, text_offset}

@@ -1,14 +1,14 @@
 -- The code of assignments, worked by hand.
 use Rattle.std.specs.Prelude.{◌≡◌, [], ◌∷◌, codes, false, true}
 use Rattle.std.proofs.Common.{refl}
-use Rattle.hp_word.specs.Bytes as w
-use Rattle.hp_instr.specs.declared.instruction.Instr.TheVariants as i
-use Rattle.hp_instr.specs.declared.instruction.Mode.TheVariants.{QPlus, QMinus, SMinus}
-use Rattle.spl_tree.specs.Trees as tree
-use Rattle.spl_tree.specs.Trees.{Tree}
-use Rattle.spl_tree.specs.StatementTrees as stat
-use Rattle.spl_tree.specs.StatementTrees.{Statement, Target}
-use Rattle.spl_branch.specs.declared.pieces.Piece.TheVariants.{Do}
+use Rattle.spl_code.specs.hp_word.Bytes as w
+use Rattle.spl_code.specs.hp_instr.declared.instruction.Instr.TheVariants as i
+use Rattle.spl_code.specs.hp_instr.declared.instruction.Mode.TheVariants.{QPlus, QMinus, SMinus}
+use Rattle.spl_code.specs.spl_tree.Trees as tree
+use Rattle.spl_code.specs.spl_tree.Trees.{Tree}
+use Rattle.spl_code.specs.spl_tree.StatementTrees as stat
+use Rattle.spl_code.specs.spl_tree.StatementTrees.{Statement, Target}
+use Rattle.spl_code.specs.spl_branch.declared.pieces.Piece.TheVariants.{Do}
 use Rattle.spl_code.specs.Instructions.{LDI, LOAD, STOR, LDX, LDXN, DPF, DEL, XCH}
 use Rattle.spl_statement_code.proofs.KnownNames.{name, name_of, number, here, start, pieces_of, pieces_while}
 

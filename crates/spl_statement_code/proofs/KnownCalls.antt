@@ -1,11 +1,11 @@
 -- The code of calls by themselves, worked by hand: results are dropped.
 use Rattle.std.specs.Prelude.{◌≡◌, [], ◌∷◌, codes, false, true}
 use Rattle.std.proofs.Common.{refl}
-use Rattle.hp_instr.specs.declared.instruction.Instr.TheVariants as i
-use Rattle.hp_instr.specs.declared.instruction.Mode.TheVariants.{QPlus}
-use Rattle.spl_tree.specs.Trees as tree
-use Rattle.spl_tree.specs.StatementTrees as stat
-use Rattle.spl_branch.specs.declared.pieces.Piece.TheVariants.{Call}
+use Rattle.spl_code.specs.hp_instr.declared.instruction.Instr.TheVariants as i
+use Rattle.spl_code.specs.hp_instr.declared.instruction.Mode.TheVariants.{QPlus}
+use Rattle.spl_code.specs.spl_tree.Trees as tree
+use Rattle.spl_code.specs.spl_tree.StatementTrees as stat
+use Rattle.spl_code.specs.spl_branch.declared.pieces.Piece.TheVariants.{Call}
 use Rattle.spl_code.specs.Instructions.{LDI, LOAD, ZERO, DZRO, DEL, DDEL}
 use Rattle.spl_statement_code.specs.Statements.{statement}
 use Rattle.spl_statement_code.proofs.KnownNames.{context, name, number, here, start, pieces_of}

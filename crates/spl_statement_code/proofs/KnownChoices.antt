@@ -1,9 +1,9 @@
 -- The code of blocks, of IF and of CASE, worked by hand.
 use Rattle.std.specs.Prelude.{◌≡◌, [], ◌∷◌, false}
 use Rattle.std.proofs.Common.{refl}
-use Rattle.hp_instr.specs.declared.instruction.Mode.TheVariants.{QPlus}
-use Rattle.spl_tree.specs.StatementTrees as stat
-use Rattle.spl_branch.specs.declared.pieces.Piece.TheVariants.{Mark}
+use Rattle.spl_code.specs.hp_instr.declared.instruction.Mode.TheVariants.{QPlus}
+use Rattle.spl_code.specs.spl_tree.StatementTrees as stat
+use Rattle.spl_code.specs.spl_branch.declared.pieces.Piece.TheVariants.{Mark}
 use Rattle.spl_code.specs.Instructions.{operate, LDI, LOAD, STOR, DEL, BR, BRE, BCC}
 use Rattle.spl_statement_code.specs.Instructions.{SUBS, TEST}
 use Rattle.spl_statement_code.specs.Statements.{statement}

@@ -1,9 +1,9 @@
 -- The code of MOVE and SCAN, worked by hand.
 use Rattle.std.specs.Prelude.{◌≡◌, [], ◌∷◌, codes, false, true}
 use Rattle.std.proofs.Common.{refl}
-use Rattle.hp_instr.specs.declared.instruction.Mode.TheVariants.{QPlus, QMinus, SMinus}
-use Rattle.spl_tree.specs.StatementTrees as stat
-use Rattle.spl_branch.specs.declared.pieces.Piece.TheVariants.{Literal, Place, Mark}
+use Rattle.spl_code.specs.hp_instr.declared.instruction.Mode.TheVariants.{QPlus, QMinus, SMinus}
+use Rattle.spl_code.specs.spl_tree.StatementTrees as stat
+use Rattle.spl_code.specs.spl_branch.declared.pieces.Piece.TheVariants.{Literal, Place, Mark}
 use Rattle.spl_code.specs.Instructions.{operate, LDI, LOAD, LRA, LSL, DUP, XCH, STOR, DEL, LOAD_BEFORE, BR}
 use Rattle.spl_statement_code.specs.Instructions.{MOVE, MVB, MVBW, SCW, SCU}
 use Rattle.spl_statement_code.proofs.KnownNames.{name, number, here, start, pieces_of}

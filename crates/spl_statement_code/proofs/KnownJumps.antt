@@ -1,9 +1,9 @@
 -- The code of labels, GO TO and RETURN, worked by hand, with the marks that labels set.
 use Rattle.std.specs.Prelude.{◌≡◌, [], ◌∷◌, codes, false, true}
 use Rattle.std.proofs.Common.{refl}
-use Rattle.hp_instr.specs.declared.instruction.Mode.TheVariants.{QPlus}
-use Rattle.spl_tree.specs.StatementTrees as stat
-use Rattle.spl_branch.specs.declared.pieces.Piece.TheVariants.{Mark}
+use Rattle.spl_code.specs.hp_instr.declared.instruction.Mode.TheVariants.{QPlus}
+use Rattle.spl_code.specs.spl_tree.StatementTrees as stat
+use Rattle.spl_code.specs.spl_branch.declared.pieces.Piece.TheVariants.{Mark}
 use Rattle.spl_code.specs.Instructions.{LDI, STOR, BR}
 use Rattle.spl_statement_code.specs.Instructions.{SUBS}
 use Rattle.spl_statement_code.specs.Labels.{marks_inside, all_set}

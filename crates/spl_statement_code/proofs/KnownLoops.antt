@@ -1,10 +1,10 @@
 -- The code of loops, worked by hand.
 use Rattle.std.specs.Prelude.{◌≡◌, [], ◌∷◌, codes, false, true}
 use Rattle.std.proofs.Common.{refl}
-use Rattle.hp_instr.specs.declared.instruction.Mode.TheVariants.{QPlus, QMinus, SMinus, DbPlus}
-use Rattle.spl_tree.specs.Trees as tree
-use Rattle.spl_tree.specs.StatementTrees as stat
-use Rattle.spl_branch.specs.declared.pieces.Piece.TheVariants.{Mark}
+use Rattle.spl_code.specs.hp_instr.declared.instruction.Mode.TheVariants.{QPlus, QMinus, SMinus, DbPlus}
+use Rattle.spl_code.specs.spl_tree.Trees as tree
+use Rattle.spl_code.specs.spl_tree.StatementTrees as stat
+use Rattle.spl_code.specs.spl_branch.declared.pieces.Piece.TheVariants.{Mark}
 use Rattle.spl_code.specs.Instructions.{operate, LDI, LOAD, STOR, LRA, LDXN, XCH, BR, BRE, BCC}
 use Rattle.spl_statement_code.specs.Instructions.{SUBS, TBA, MTBA}
 use Rattle.spl_statement_code.proofs.KnownNames.{name, number, binary, set_to, here, start, pieces_of, pieces_while}

@@ -1,16 +1,16 @@
 -- The names, places and labels of the examples: statements of a subroutine in a procedure F.
 use Rattle.std.specs.Prelude.{ℕ, pos, true, false, List, [], ◌∷◌, codes, Some, None}
-use Rattle.hp_word.specs.declared.intrinsics.Intrinsic.TheVariants as gate
-use Rattle.spl_tree.specs.declared.names_and_places.At.{At}
-use Rattle.spl_tree.specs.declared.expressions.Kind.TheVariants as kind
-use Rattle.spl_tree.specs.Trees as tree
-use Rattle.spl_tree.specs.Trees.{Tree, Trees}
-use Rattle.spl_tree.specs.StatementTrees as stat
-use Rattle.spl_tree.specs.StatementTrees.{Statement, Statements, statements}
-use Rattle.spl_meaning.specs.Names.{Sort, Table, Profile, find, given, simple, array, pointer, value, by_reference, intrinsic, procedure, subroutine}
-use Rattle.spl_meaning.specs.Places.{Place, data_word, above_base, below_base, below_return}
-use Rattle.spl_branch.specs.declared.pieces.Piece.{Piece}
-use Rattle.spl_branch.specs.declared.pieces.Piece.TheVariants.{Begin}
+use Rattle.spl_code.specs.hp_word.declared.intrinsics.Intrinsic.TheVariants as gate
+use Rattle.spl_code.specs.spl_tree.declared.names_and_places.At.{At}
+use Rattle.spl_code.specs.spl_tree.declared.expressions.Kind.TheVariants as kind
+use Rattle.spl_code.specs.spl_tree.Trees as tree
+use Rattle.spl_code.specs.spl_tree.Trees.{Tree, Trees}
+use Rattle.spl_code.specs.spl_tree.StatementTrees as stat
+use Rattle.spl_code.specs.spl_tree.StatementTrees.{Statement, Statements, statements}
+use Rattle.spl_code.specs.spl_meaning.Names.{Sort, Table, Profile, find, given, simple, array, pointer, value, by_reference, intrinsic, procedure, subroutine}
+use Rattle.spl_code.specs.spl_meaning.Places.{Place, data_word, above_base, below_base, below_return}
+use Rattle.spl_code.specs.spl_branch.declared.pieces.Piece.{Piece}
+use Rattle.spl_code.specs.spl_branch.declared.pieces.Piece.TheVariants.{Begin}
 use Rattle.spl_code.specs.Calls.{Scope}
 use Rattle.spl_statement_code.specs.Landings.{Landing, Context}
 use Rattle.spl_statement_code.specs.Statements.{statement}

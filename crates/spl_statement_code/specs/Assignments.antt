@@ -1,16 +1,16 @@
 -- Assignments: the index of a target, which waits below the value, and what stands behind the value.
 use Rattle.std.specs.Prelude.{ℕ, ◌+◌, ◌&&◌, nat_le, if◌then◌else◌, Bool, List, [], Option, Some, None}
-use Rattle.spl_tree.specs.declared.expressions.Kind.{Kind}
-use Rattle.spl_tree.specs.Trees as tree
-use Rattle.spl_tree.specs.Trees.{Tree, Trees}
-use Rattle.spl_tree.specs.StatementTrees as stat
-use Rattle.spl_tree.specs.StatementTrees.{Target}
-use Rattle.spl_meaning.specs.Names as n
-use Rattle.spl_meaning.specs.Names.{Sort}
-use Rattle.spl_meaning.specs.Pending.{waiting}
-use Rattle.spl_meaning.specs.References.{Access, its_own, nowhere, access_of}
-use Rattle.spl_meaning.specs.Values.{small_constant}
-use Rattle.spl_branch.specs.declared.pieces.Piece.{Piece}
+use Rattle.spl_code.specs.spl_tree.declared.expressions.Kind.{Kind}
+use Rattle.spl_code.specs.spl_tree.Trees as tree
+use Rattle.spl_code.specs.spl_tree.Trees.{Tree, Trees}
+use Rattle.spl_code.specs.spl_tree.StatementTrees as stat
+use Rattle.spl_code.specs.spl_tree.StatementTrees.{Target}
+use Rattle.spl_code.specs.spl_meaning.Names as n
+use Rattle.spl_code.specs.spl_meaning.Names.{Sort}
+use Rattle.spl_code.specs.spl_meaning.Pending.{waiting}
+use Rattle.spl_code.specs.spl_meaning.References.{Access, its_own, nowhere, access_of}
+use Rattle.spl_code.specs.spl_meaning.Values.{small_constant}
+use Rattle.spl_code.specs.spl_branch.declared.pieces.Piece.{Piece}
 use Rattle.spl_code.specs.Parts.{Part, pieces, nothing, ◌⨟◌}
 use Rattle.spl_code.specs.Operands.{at_place}
 use Rattle.spl_code.specs.Calls.{Scope}

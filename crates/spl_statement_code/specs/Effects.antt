@@ -1,12 +1,12 @@
 -- MOVE and SCAN. Where the answer is used, the first address is kept below, and all behind it wait one word higher.
 use Rattle.std.specs.Prelude.{ℕ, ◌%◌, ◌==◌, Bool, true, false, if◌then◌else◌, List, [], ◌∷◌, length}
-use Rattle.spl_tree.specs.Trees.{Tree}
-use Rattle.spl_tree.specs.StatementTrees as stat
-use Rattle.spl_tree.specs.StatementTrees.{Source, Effect}
-use Rattle.spl_meaning.specs.Kinds.{reference_kind, is_byte}
-use Rattle.spl_meaning.specs.Pending.{behind_first, behind_second}
-use Rattle.spl_meaning.specs.Elements.{as_words}
-use Rattle.spl_branch.specs.declared.pieces.Piece.{Piece}
+use Rattle.spl_code.specs.spl_tree.Trees.{Tree}
+use Rattle.spl_code.specs.spl_tree.StatementTrees as stat
+use Rattle.spl_code.specs.spl_tree.StatementTrees.{Source, Effect}
+use Rattle.spl_code.specs.spl_meaning.Kinds.{reference_kind, is_byte}
+use Rattle.spl_code.specs.spl_meaning.Pending.{behind_first, behind_second}
+use Rattle.spl_code.specs.spl_meaning.Elements.{as_words}
+use Rattle.spl_code.specs.spl_branch.declared.pieces.Piece.{Piece}
 use Rattle.spl_code.specs.Instructions.{DUP, XCH, DEL, LSL}
 use Rattle.spl_code.specs.Parts.{Part, pieces, piece, ◌⨟◌}
 use Rattle.spl_code.specs.Constants.{constant, text_offset}

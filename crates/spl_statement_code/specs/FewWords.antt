@@ -1,9 +1,9 @@
 -- How many words the code of a statement takes at most: its weight, with twelve to spare.
 use Rattle.std.specs.Prelude.{ℕ, ◌+◌, ◌*◌, ◌≤◌, max, List}
-use Rattle.spl_tree.specs.StatementTrees as stat
-use Rattle.spl_tree.specs.StatementTrees.{Statement, Statements}
-use Rattle.spl_meaning.specs.Bound.{statement_weight, statements_weight}
-use Rattle.spl_branch.specs.Pieces.{count_of}
+use Rattle.spl_code.specs.spl_tree.StatementTrees as stat
+use Rattle.spl_code.specs.spl_tree.StatementTrees.{Statement, Statements}
+use Rattle.spl_code.specs.spl_meaning.Bound.{statement_weight, statements_weight}
+use Rattle.spl_code.specs.spl_branch.Pieces.{count_of}
 use Rattle.spl_code.specs.Parts.{Wanted}
 use Rattle.spl_statement_code.specs.Landings.{Context}
 use Rattle.spl_statement_code.specs.Statements.{statement, listed}

@@ -1,8 +1,8 @@
 -- The instructions that the code of statements has beside those of expressions and stores, as pieces, by the manual's names.
 use Rattle.std.specs.Prelude.{ℕ, true, false}
-use Rattle.hp_instr.specs.declared.instruction.Instr.TheVariants as i
-use Rattle.spl_branch.specs.declared.pieces.Piece.{Piece}
-use Rattle.spl_branch.specs.declared.pieces.Piece.TheVariants.{Do, Branch}
+use Rattle.spl_code.specs.hp_instr.declared.instruction.Instr.TheVariants as i
+use Rattle.spl_code.specs.spl_branch.declared.pieces.Piece.{Piece}
+use Rattle.spl_code.specs.spl_branch.declared.pieces.Piece.TheVariants.{Do, Branch}
 use Rattle.spl_code.specs.Instructions.{operate}
 
 -- an instruction with a number of words, or for the moves with a choice

@@ -1,12 +1,12 @@
 -- What it means that the code of statements was appended: as of any part; and the marks of the labels inside, which were made before, are set.
 use Rattle.std.specs.Prelude.{ℕ, ◌≡◌, Bool, true, List, [], ◌∷◌, ◌++◌, Option, Some, None, replicate, slice_set}
-use Rattle.spl_tree.specs.StatementTrees.{Statement, Statements}
-use Rattle.spl_tree.specs.DeclarationTrees.{Placed}
-use Rattle.spl_meaning.specs.StatementRules.{all_labels, all_labels_of}
-use Rattle.spl_branch.specs.declared.buffer.Code.{Code}
-use Rattle.spl_branch.specs.declared.pieces.Piece.TheVariants.{Mark}
-use Rattle.spl_branch.specs.Pieces.{is_settable}
-use Rattle.spl_branch.specs.Codes.{SameFrame}
+use Rattle.spl_code.specs.spl_tree.StatementTrees.{Statement, Statements}
+use Rattle.spl_code.specs.spl_tree.DeclarationTrees.{Placed}
+use Rattle.spl_code.specs.spl_meaning.StatementRules.{all_labels, all_labels_of}
+use Rattle.spl_code.specs.spl_branch.declared.buffer.Code.{Code}
+use Rattle.spl_code.specs.spl_branch.declared.pieces.Piece.TheVariants.{Mark}
+use Rattle.spl_code.specs.spl_branch.Pieces.{is_settable}
+use Rattle.spl_code.specs.spl_branch.Codes.{SameFrame}
 use Rattle.spl_code.specs.Parts.{Part, wants_of}
 use Rattle.spl_code.specs.Appends.{behind}
 use Rattle.spl_statement_code.specs.Landings.{Landing, Context}

@@ -1,7 +1,7 @@
 -- What the code of statements is made with, and the ways out of lists of statements: GO TO and RETURN.
 use Rattle.std.specs.Prelude.{ℕ, ◌-◌, ◌/◌, ◌%◌, ◌<◌, ◌≡◌, nat_le, if◌then◌else◌, List, [], ◌∷◌, ◌++◌, Option, Some, None, replicate}
-use Rattle.spl_branch.specs.declared.pieces.Piece.{Piece}
-use Rattle.spl_branch.specs.declared.pieces.Piece.TheVariants.{Mark}
+use Rattle.spl_code.specs.spl_branch.declared.pieces.Piece.{Piece}
+use Rattle.spl_code.specs.spl_branch.declared.pieces.Piece.TheVariants.{Mark}
 use Rattle.spl_code.specs.Instructions.{BR}
 use Rattle.spl_code.specs.Parts.{Part, pieces, piece, nothing, ◌⨟◌}
 use Rattle.spl_code.specs.Calls.{Scope}

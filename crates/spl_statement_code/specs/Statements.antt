@@ -1,20 +1,20 @@
 -- The code of statements: one recursion on the tree, by how many words wait. Where a debugger may stop at a statement, its first word has a
 -- start. A statement that does nothing of its own has one word, which deletes none.
 use Rattle.std.specs.Prelude.{ℕ, ◌+◌, Bool, true, false, List, [], ◌∷◌, ◌++◌, Option, Some, None}
-use Rattle.hp_instr.specs.declared.instruction.Mode.{Mode}
-use Rattle.hp_instr.specs.declared.instruction.Mode.TheVariants.{SMinus}
-use Rattle.spl_tree.specs.declared.names_and_places.At.{At}
-use Rattle.spl_tree.specs.declared.expressions.Kind.{Kind}
-use Rattle.spl_tree.specs.declared.expressions.Kind.TheVariants as kind
-use Rattle.spl_tree.specs.Trees as tree
-use Rattle.spl_tree.specs.Trees.{Tree, Trees}
-use Rattle.spl_tree.specs.StatementTrees as stat
-use Rattle.spl_tree.specs.StatementTrees.{Statement, Statements, Test}
-use Rattle.spl_meaning.specs.Names.{Profile}
-use Rattle.spl_meaning.specs.Kinds.{callable}
-use Rattle.spl_meaning.specs.References.{Access, its_own, by_address, by_cell, its_result, nowhere, access_of}
-use Rattle.spl_branch.specs.declared.pieces.Piece.{Piece}
-use Rattle.spl_branch.specs.declared.pieces.Piece.TheVariants.{Begin, Mark}
+use Rattle.spl_code.specs.hp_instr.declared.instruction.Mode.{Mode}
+use Rattle.spl_code.specs.hp_instr.declared.instruction.Mode.TheVariants.{SMinus}
+use Rattle.spl_code.specs.spl_tree.declared.names_and_places.At.{At}
+use Rattle.spl_code.specs.spl_tree.declared.expressions.Kind.{Kind}
+use Rattle.spl_code.specs.spl_tree.declared.expressions.Kind.TheVariants as kind
+use Rattle.spl_code.specs.spl_tree.Trees as tree
+use Rattle.spl_code.specs.spl_tree.Trees.{Tree, Trees}
+use Rattle.spl_code.specs.spl_tree.StatementTrees as stat
+use Rattle.spl_code.specs.spl_tree.StatementTrees.{Statement, Statements, Test}
+use Rattle.spl_code.specs.spl_meaning.Names.{Profile}
+use Rattle.spl_code.specs.spl_meaning.Kinds.{callable}
+use Rattle.spl_code.specs.spl_meaning.References.{Access, its_own, by_address, by_cell, its_result, nowhere, access_of}
+use Rattle.spl_code.specs.spl_branch.declared.pieces.Piece.{Piece}
+use Rattle.spl_code.specs.spl_branch.declared.pieces.Piece.TheVariants.{Begin, Mark}
 use Rattle.spl_code.specs.Instructions.{LDI, LOAD, STOR, LRA, XCH, DEL, DDEL, BR}
 use Rattle.spl_code.specs.Parts.{Part, pieces, piece, nothing, ◌⨟◌, with_fresh}
 use Rattle.spl_code.specs.Operands.{at_place, mode_of}

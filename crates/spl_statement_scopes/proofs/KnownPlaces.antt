@@ -7,11 +7,11 @@
 use Rattle.std.specs.Prelude.{◌≡◌, [], ◌∷◌, codes, Option, Some, None, refl}
 use Prim.Native.String.{String}
 use Rattle.spl_tree.specs.declared.expressions.Kind.TheVariants as kind
-use Rattle.spl_meaning.specs.Tables.{Source}
-use Rattle.spl_meaning.specs.Places.{Place, data_word, above_base, below_base, below_return}
-use Rattle.spl_code.specs.Calls.{Scope}
-use Rattle.spl_scopes.specs.Entries.{main, routine}
-use Rattle.spl_scopes.specs.Scopes.{Placed, first_reached, Which, outer, inner}
+use Rattle.spl_sorts.specs.spl_meaning.Tables.{Source}
+use Rattle.spl_sorts.specs.spl_meaning.Places.{Place, data_word, above_base, below_base, below_return}
+use Rattle.spl_module_code.specs.spl_code.Calls.{Scope}
+use Rattle.spl_module_code.specs.spl_scopes.Entries.{main, routine}
+use Rattle.spl_module_code.specs.spl_scopes.Scopes.{Placed, first_reached, Which, outer, inner}
 use Rattle.spl_module_code.proofs.KnownUnits.{unit_of, procedure, subroutine, heading, simple}
 use Rattle.spl_statement_scopes.specs.Scopes.{statements_in}
 

@@ -7,15 +7,15 @@ use Rattle.std.specs.Prelude.{option_map, if◌then◌else◌}
 use Rattle.std.specs.Cmp.Lexicographic.{same_text}
 use Rattle.spl_tree.specs.declared.expressions.Kind.{Kind}
 use Rattle.spl_tree.specs.Views.{letters}
-use Rattle.spl_meaning.specs.Names.{Names, Sort, Formal, find, or_else, same_name, sort_by, parameters, formals_of}
-use Rattle.spl_meaning.specs.Pending.{formal_words, formals_words}
-use Rattle.spl_meaning.specs.Bodies.{parameter_places}
+use Rattle.spl_sorts.specs.spl_meaning.Names.{Names, Sort, Formal, find, or_else, same_name, sort_by, parameters, formals_of}
+use Rattle.spl_sorts.specs.spl_meaning.Pending.{formal_words, formals_words}
+use Rattle.spl_sorts.specs.spl_meaning.Bodies.{parameter_places}
 use Rattle.spl_tree.specs.DeclarationTrees.{Heading}
 use Rattle.spl_module_code.specs.Bodies.{is_called, seen_results}
-use Rattle.spl_meaning.specs.Places.{Place, below_return}
-use Rattle.spl_found.specs.OwnNames.{with_name}
+use Rattle.spl_sorts.specs.spl_meaning.Places.{Place, below_return}
+use Rattle.spl_body_scopes.specs.spl_found.OwnNames.{with_name}
 use Rattle.spl_places.specs.Spots.{spot_of}
-use Rattle.spl_scopes.specs.Scopes.{Results}
+use Rattle.spl_module_code.specs.spl_scopes.Scopes.{Results}
 use Rattle.spl_body_scopes.specs.declared.results.BodyResult.{BodyResult}
 use Rattle.spl_body_scopes.specs.Levels.{Spots, Level, through, inner_level}
 use Rattle.spl_body_scopes.specs.Results.{result_of, results_through}

@@ -3,13 +3,13 @@
 -- 2. and so it is seen through the levels                                                        (inner_seen, outer_seen)
 use Rattle.std.proofs.Common.{ℕ, ◌≡◌, List, Option, Some, None, refl, sym, ap, ◌∙◌}
 use Rattle.std.specs.Prelude.{option_map}
-use Rattle.spl_meaning.specs.Names.{Names, or_else}
+use Rattle.spl_sorts.specs.spl_meaning.Names.{Names, or_else}
 use Rattle.spl_tree.specs.DeclarationTrees.{Heading}
-use Rattle.spl_meaning.specs.Bodies.{Body}
-use Rattle.spl_code.specs.Calls.{Scope}
+use Rattle.spl_sorts.specs.spl_meaning.Bodies.{Body}
+use Rattle.spl_module_code.specs.spl_code.Calls.{Scope}
 use Rattle.spl_module_code.specs.Bodies.{statements_scope}
-use Rattle.spl_scopes.specs.Entries.{Owner, main, routine, Entry, module_entries}
-use Rattle.spl_scopes.specs.Scopes.{Placed, Which, outer, inner, Results, owner_of, body_in, body_segment, scope_with, scope_in, results_in}
+use Rattle.spl_module_code.specs.spl_scopes.Entries.{Owner, main, routine, Entry, module_entries}
+use Rattle.spl_module_code.specs.spl_scopes.Scopes.{Placed, Which, outer, inner, Results, owner_of, body_in, body_segment, scope_with, scope_in, results_in}
 use Rattle.spl_body_scopes.specs.Levels.{Spots, Level, through, inner_level}
 use Rattle.spl_body_scopes.specs.Results.{result_of, heading_result, routine_result, results_through}
 use Rattle.spl_body_scopes.specs.declared.places.Base.TheVariants as base

@@ -1,7 +1,7 @@
 -- The first level of a body's statements, which has the results too, of the names that stand for what gives them.
 use Rattle.std.specs.Prelude.{None, option_map}
-use Rattle.spl_meaning.specs.Names.{or_else, nothing_declared}
-use Rattle.spl_scopes.specs.Scopes.{Results}
+use Rattle.spl_sorts.specs.spl_meaning.Names.{or_else, nothing_declared}
+use Rattle.spl_module_code.specs.spl_scopes.Scopes.{Results}
 use Rattle.spl_module_code.specs.Bodies.{seen_results}
 use Rattle.spl_body_scopes.specs.Levels.{Spots, Level, through}
 

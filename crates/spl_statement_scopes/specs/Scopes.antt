@@ -4,10 +4,10 @@ use Rattle.std.specs.List.{slice_get}
 use Rattle.spl_tree.specs.DeclarationTrees as decl
 use Rattle.spl_tree.specs.DeclarationTrees.{Heading, Declarations, declarations}
 use Rattle.spl_tree.specs.StatementTrees as stat
-use Rattle.spl_meaning.specs.Names.{Names}
-use Rattle.spl_scopes.specs.Entries.{main, routine, module_entries}
-use Rattle.spl_scopes.specs.Scopes.{Placed, Which, outer, inner, owner_of, body_in, body_segment}
-use Rattle.spl_code.specs.Calls.{Scope}
+use Rattle.spl_sorts.specs.spl_meaning.Names.{Names}
+use Rattle.spl_module_code.specs.spl_scopes.Entries.{main, routine, module_entries}
+use Rattle.spl_module_code.specs.spl_scopes.Scopes.{Placed, Which, outer, inner, owner_of, body_in, body_segment}
+use Rattle.spl_module_code.specs.spl_code.Calls.{Scope}
 use Rattle.spl_module_code.specs.Bodies.{statements_scope}
 use Rattle.spl_body_scopes.specs.Levels.{Level, routine_level, inner_level}
 use Rattle.spl_body_scopes.specs.declared.places.Base.TheVariants as base

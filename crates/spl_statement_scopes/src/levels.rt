@@ -1,7 +1,7 @@
 //! The first of the three levels of a body, with the results that may be assigned.
 ghost use Rattle.std.specs.Prelude.{◌≡◌, OnOk, IfOk};
 ghost use Rattle.spl_tree.specs.Views.{letters};
-ghost use Rattle.spl_meaning.specs.Names.{find};
+ghost use Rattle.spl_sorts.specs.spl_meaning.Names.{find};
 ghost use Rattle.spl_places.specs.NameMaps.{entries_of, shown};
 ghost use Rattle.spl_places.specs.Spots.{spot_of};
 ghost use Rattle.spl_body_scopes.specs.Levels.{level_of};

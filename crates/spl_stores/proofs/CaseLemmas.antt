@@ -1,38 +1,38 @@
 -- CASE in a tree, over the code of its arms.
 use Rattle.std.proofs.Common.{◌≡◌, ℕ, Bool, zero, suc, ◌+◌, ◌-◌, ◌≤◌, true, List, refl, sym, subst}
 use Rattle.std.specs.Prelude.{Option}
-use Rattle.spl_tree.specs.declared.expressions.Kind.{Kind}
-use Rattle.spl_tree.specs.declared.names_and_places.At.{At}
-use Rattle.spl_tree.specs.Trees.{Tree}
-use Rattle.spl_tree.specs.StatementTrees as stat
-use Rattle.spl_tree.specs.StatementTrees.{Statement, Statements}
-use Rattle.spl_meaning.specs.Laws.{IsFront}
-use Rattle.spl_meaning.specs.Pending.{most}
-use Rattle.spl_meaning.specs.Places.{Place}
-use Rattle.spl_meaning.specs.References.{Setting}
-use Rattle.spl_meaning.specs.States.{State, Outcome, code_dropped}
-use Rattle.spl_meaning.specs.Statements.{bears_among, landing, run, run_arm, run_bearer}
-use Rattle.spl_meaning.specs.Stops.{stops}
-use Rattle.spl_meaning.specs.Values.{Callee, value}
-use Rattle.spl_code.specs.Parts.{Part, Wanted, ◌⨟◌}
-use Rattle.spl_code.specs.Code.{as_value, code}
-use Rattle.spl_statement_code.specs.Landings.{Context}
-use Rattle.spl_statement_code.specs.Statements.{statement, arm, arms, chosen_among}
-use Rattle.spl_follow.specs.Parts.{Leaving}
-use Rattle.spl_follow.specs.Following.{tally, Follows}
-use Rattle.spl_follow.specs.Simulating.{Surroundings, Simulates, Performs}
-use Rattle.spl_follow.specs.Spots.{pos}
-use Rattle.spl_control.specs.Laws.{Settles}
-use Rattle.spl_values.specs.Reached.{IsWhole}
-use Rattle.spl_covered.specs.Covered.{is_covered}
-use Rattle.spl_links.specs.Links.{MayCall}
-use Rattle.spl_names.specs.Names.{read_with}
-use Rattle.spl_covered.proofs.CoverLemmas.{covered_width, covered_whole, covered_gives}
-use Rattle.spl_choices.specs.Laws.{Chooses, chosen_before}
-use Rattle.spl_choices.proofs.PartLemmas.{begun_whole}
-use Rattle.spl_choices.proofs.CaseLemmas.{arm_before, cases, case_whole}
+use Rattle.spl_counts.specs.spl_tree.declared.expressions.Kind.{Kind}
+use Rattle.spl_counts.specs.spl_tree.declared.names_and_places.At.{At}
+use Rattle.spl_counts.specs.spl_tree.Trees.{Tree}
+use Rattle.spl_counts.specs.spl_tree.StatementTrees as stat
+use Rattle.spl_counts.specs.spl_tree.StatementTrees.{Statement, Statements}
+use Rattle.spl_counts.specs.spl_meaning.Laws.{IsFront}
+use Rattle.spl_counts.specs.spl_meaning.Pending.{most}
+use Rattle.spl_counts.specs.spl_meaning.Places.{Place}
+use Rattle.spl_counts.specs.spl_meaning.References.{Setting}
+use Rattle.spl_counts.specs.spl_meaning.States.{State, Outcome, code_dropped}
+use Rattle.spl_counts.specs.spl_meaning.Statements.{bears_among, landing, run, run_arm, run_bearer}
+use Rattle.spl_counts.specs.spl_meaning.Stops.{stops}
+use Rattle.spl_counts.specs.spl_meaning.Values.{Who, Callee, value}
+use Rattle.spl_counts.specs.spl_code.Parts.{Part, Wanted, ◌⨟◌}
+use Rattle.spl_counts.specs.spl_code.Code.{as_value, code}
+use Rattle.spl_counts.specs.spl_statement_code.Landings.{Context}
+use Rattle.spl_counts.specs.spl_statement_code.Statements.{statement, arm, arms, chosen_among}
+use Rattle.spl_counts.specs.spl_follow.Parts.{Leaving}
+use Rattle.spl_counts.specs.spl_follow.Following.{tally, Follows}
+use Rattle.spl_counts.specs.spl_follow.Simulating.{Surroundings, Simulates, Performs}
+use Rattle.spl_counts.specs.spl_follow.Spots.{pos}
+use Rattle.spl_counts.specs.spl_control.Laws.{Settles}
+use Rattle.spl_counts.specs.spl_values.Reached.{IsWhole}
+use Rattle.spl_moved.specs.spl_covered.Covered.{is_covered}
+use Rattle.spl_moved.specs.spl_links.Links.{MayCall}
+use Rattle.spl_moved.specs.spl_names.Names.{read_with}
+use Rattle.spl_moved.proofs.spl_covered_proofs.CoverLemmas.{covered_width, covered_whole, covered_gives}
+use Rattle.spl_counts.specs.spl_choices.Laws.{Chooses, chosen_before}
+use Rattle.spl_counts.proofs.spl_choices_proofs.PartLemmas.{begun_whole}
+use Rattle.spl_counts.proofs.spl_choices_proofs.CaseLemmas.{arm_before, cases, case_whole}
 
-pub cased_whole : (may : List ℕ → Bool) (c : Context) (st : Setting) (v : Tree) (ss : Statements) (at : At) (k : ℕ) → is_covered may c.scope st v k ≡ true
+pub cased_whole : (may : Who → Bool) (c : Context) (st : Setting) (v : Tree) (ss : Statements) (at : At) (k : ℕ) → is_covered may c.scope st v k ≡ true
     → ((end l : ℕ) (ws : List Wanted) → IsFront ws (arms c ss k end l ws).wants) → IsWhole (statement c (stat.Statement.case_of v ss at) k)
 cased_whole may c st v ss at k covered keeps =
     begun_whole at (chosen_among (code c.scope v as_value k) (λ end. arms c ss k end))
@@ -68,7 +68,7 @@ first_arm c results z call d number s ss k need enough whole x others =
       by (suc v) t = refl
 
 -- a CASE over arms that take the jumps to their labels
-pub case_performs : (may : List ℕ → Bool) (c : Context) (results : List ℕ → Option (Kind × Place)) (z : Surroundings) (call : Callee) (d number : ℕ) (v : Tree) (ss : Statements)
+pub case_performs : (may : Who → Bool) (c : Context) (results : List ℕ → Option (Kind × Place)) (z : Surroundings) (call : Callee) (d number : ℕ) (v : Tree) (ss : Statements)
     (at : At) (k need : ℕ) → MayCall may c.scope z d call → is_covered may c.scope z.setting v k ≡ true → most c.scope.names v + 8 ≤ need
     → Chooses z d k need (λ end. arms c ss k end) (λ j t. landing d (bears_among ss)
     (λ y u. run_bearer (read_with c.scope results z.setting) call d (number + 1) ss y k u) (run_arm (read_with c.scope results z.setting) call d (number + 1) ss j k t))

@@ -1,40 +1,39 @@
 -- Statements that are covered, along the tree: their code is whole, and performs them.
 use Rattle.std.proofs.Common.{◌≡◌, ℕ, ◌+◌, ◌-◌, ◌≤◌, Bool, true, false, List, [], ◌∷◌, ◌++◌, refl, sym, ap, subst, ◌∙◌, arith}
-use Rattle.std.specs.Prelude.{Option, is_some, ◌&&◌, ◌||◌}
+use Rattle.std.specs.Prelude.{Option, is_some, ◌&&◌}
 use Rattle.std.proofs.lemmas.Bool.{false≢true}
-use Rattle.std.proofs.Math.Logic.{⊎_elim}
 use Rattle.std.proofs.lemmas.List.{append-nil}
-use Rattle.hp_instr.specs.declared.instruction.Instr.TheVariants as i
-use Rattle.spl_branch.specs.declared.pieces.Piece.TheVariants.{Do, Begin}
-use Rattle.spl_tree.specs.declared.expressions.Kind.{Kind}
-use Rattle.spl_tree.specs.declared.names_and_places.At.{At}
-use Rattle.spl_tree.specs.StatementTrees as stat
-use Rattle.spl_tree.specs.StatementTrees.{Statement, Statements}
-use Rattle.spl_meaning.specs.Laws.{IsFront}
-use Rattle.spl_meaning.specs.Pending.{statement_most, statements_most}
-use Rattle.spl_meaning.specs.Places.{Place}
-use Rattle.spl_meaning.specs.References.{Setting}
-use Rattle.spl_meaning.specs.StatementRules.{has_name, list_labels}
-use Rattle.spl_meaning.specs.Statements.{bears, bears_among, run, run_all, run_from, run_at, run_bearer, run_arm}
-use Rattle.spl_meaning.specs.States.{back, leaves, stopping}
-use Rattle.spl_meaning.specs.Stops.{stops}
-use Rattle.spl_meaning.specs.Values.{Callee}
-use Rattle.spl_code.specs.Instructions.{BR}
-use Rattle.spl_code.specs.Parts.{Wanted, piece, ◌⨟◌}
-use Rattle.spl_statement_code.specs.Landings.{Context, dropped, jump}
-use Rattle.spl_statement_code.specs.Statements.{statement, listed, arms}
-use Rattle.spl_follow.specs.Standing.{due_after}
-use Rattle.spl_follow.specs.Simulating.{Surroundings, Performs, PerformsAll}
-use Rattle.spl_follow.proofs.StandLemmas.{closed_any, closed_last, due_add}
-use Rattle.spl_control.proofs.SequenceLemmas.{idle_performs, nothing_performs, lists_perform}
-use Rattle.spl_covered.specs.Covered.{is_covered}
-use Rattle.spl_names.specs.Names.{read_with}
-use Rattle.spl_values.proofs.VariableLemmas.{both}
-use Rattle.spl_values.proofs.SumLemmas.{front_on}
-use Rattle.spl_values.proofs.WholeLemmas.{whole_pieces}
-use Rattle.spl_values.specs.Reached.{IsWhole}
-use Rattle.spl_choices.specs.Laws.{Chooses}
-use Rattle.spl_choices.proofs.CaseLemmas.{no_arm, arm_keeps}
+use Rattle.spl_counts.specs.hp_instr.declared.instruction.Instr.TheVariants as i
+use Rattle.spl_counts.specs.spl_branch.declared.pieces.Piece.TheVariants.{Do, Begin}
+use Rattle.spl_counts.specs.spl_tree.declared.expressions.Kind.{Kind}
+use Rattle.spl_counts.specs.spl_tree.declared.names_and_places.At.{At}
+use Rattle.spl_counts.specs.spl_tree.StatementTrees as stat
+use Rattle.spl_counts.specs.spl_tree.StatementTrees.{Statement, Statements}
+use Rattle.spl_counts.specs.spl_meaning.Laws.{IsFront}
+use Rattle.spl_counts.specs.spl_meaning.Pending.{statement_most, statements_most}
+use Rattle.spl_counts.specs.spl_meaning.Places.{Place}
+use Rattle.spl_counts.specs.spl_meaning.References.{Setting}
+use Rattle.spl_counts.specs.spl_meaning.StatementRules.{has_name, list_labels}
+use Rattle.spl_counts.specs.spl_meaning.Statements.{bears, bears_among, run, run_all, run_from, run_at, run_bearer, run_arm}
+use Rattle.spl_counts.specs.spl_meaning.States.{back, leaves, stopping}
+use Rattle.spl_counts.specs.spl_meaning.Stops.{stops}
+use Rattle.spl_counts.specs.spl_meaning.Values.{Who, Callee}
+use Rattle.spl_counts.specs.spl_code.Instructions.{BR}
+use Rattle.spl_counts.specs.spl_code.Parts.{Wanted, piece, ◌⨟◌}
+use Rattle.spl_counts.specs.spl_statement_code.Landings.{Context, dropped, jump}
+use Rattle.spl_counts.specs.spl_statement_code.Statements.{statement, listed, arms}
+use Rattle.spl_counts.specs.spl_follow.Standing.{due_after}
+use Rattle.spl_counts.specs.spl_follow.Simulating.{Surroundings, Performs, PerformsAll}
+use Rattle.spl_counts.proofs.spl_follow_proofs.StandLemmas.{closed_any, closed_last, due_add}
+use Rattle.spl_counts.proofs.spl_control_proofs.SequenceLemmas.{idle_performs, nothing_performs, lists_perform}
+use Rattle.spl_moved.specs.spl_covered.Covered.{is_covered}
+use Rattle.spl_moved.specs.spl_names.Names.{read_with}
+use Rattle.spl_counts.proofs.spl_values_proofs.VariableLemmas.{both}
+use Rattle.spl_counts.proofs.spl_values_proofs.SumLemmas.{front_on}
+use Rattle.spl_counts.proofs.spl_values_proofs.WholeLemmas.{whole_pieces}
+use Rattle.spl_counts.specs.spl_values.Reached.{IsWhole}
+use Rattle.spl_counts.specs.spl_choices.Laws.{Chooses}
+use Rattle.spl_counts.proofs.spl_choices_proofs.CaseLemmas.{no_arm, arm_keeps}
 use Rattle.spl_jumps.specs.Landed.{is_landing, is_landed, are_landed}
 use Rattle.spl_jumps.specs.Laws.{PerformsAt, PerformsFrom, listing, ChoosesAt}
 use Rattle.spl_jumps.proofs.JumpLemmas.{jumps}
@@ -42,22 +41,17 @@ use Rattle.spl_jumps.proofs.LabelLemmas.{unlabelled_at}
 use Rattle.spl_jumps.proofs.LandLemmas.{nothing_from, lists_from, lists_land, blocks}
 use Rattle.spl_jumps.proofs.ArmLemmas.{no_arm_at, arm_at, arms_land}
 use Rattle.spl_jumps.proofs.LandedLemmas.{gone_whole, gone_performs, labelled_whole, labelled_performs, labelled_from}
-use Rattle.spl_stores.specs.Covered.{is_covered_statement, are_covered, is_covered_store}
+use Rattle.spl_stores.specs.Covered.{is_covered_statement, are_covered}
 use Rattle.spl_stores.specs.Laws.{MayReturn, CoveredStatementsAreWhole, CoveredStatementsPerform, CoveredListsPerform}
 use Rattle.spl_stores.proofs.WithinLemmas.{Around, AroundAll, behind_label, one_around, others_around, list_around, counted_around}
 use Rattle.spl_stores.proofs.CaseLemmas.{cased_whole, first_arm, case_performs}
 use Rattle.spl_counts.specs.Laws.{leaving_at_most}
 use Rattle.spl_stores.proofs.ForLemmas.{for_parts, for_whole, for_performs}
 use Rattle.spl_stores.proofs.ChoiceLemmas.{if_whole, if_performs, else_whole, else_performs, loop_whole, while_performs, repeat_whole, until_performs, code_if_whole, code_if_performs, code_else_whole, code_else_performs}
-use Rattle.spl_word_operators.proofs.OperatorLemmas.{either}
 use Rattle.spl_calls.proofs.ProcedureLemmas.{call_whole, call_performs}
-use Rattle.spl_calls.proofs.AnswerLemmas.{answers_whole, answers_perform}
-use Rattle.spl_calls.specs.Covered.{is_covered_answer}
 use Rattle.spl_moved.proofs.EffectLemmas.{moves_whole, covered_moves_perform}
-use Rattle.spl_wide.specs.Wide.{is_wide_assignment}
-use Rattle.spl_wide.proofs.AssignLemmas.{assigned_whole, assigned_performs}
-use Rattle.spl_stores.proofs.AssignLemmas.{store_whole, store_performs}
-use Rattle.spl_stores.proofs.EffectLemmas.{effect_whole, effect_performs}
+use Rattle.spl_assigned.proofs.AssignLemmas.{assignments_whole, assignments}
+use Rattle.spl_stores.proofs.AssignLemmas.{effect_whole, effect_performs}
 
 -- ---- RETURN
 
@@ -86,12 +80,7 @@ mutual
     closed = λ l ws. list_clear may returns c results st ss k e (labels ++ list_labels ss) f (l + 0) ws;
     keeps = λ l ws. list_keeps may returns c results st ss k e (labels ++ list_labels ss) f (l + 0) ws;
   }
-  statement_whole may returns c results st (stat.Statement.assign to v at) k e labels f =
-      let wide = is_wide_assignment may c.scope results st to v k in
-      let asked = is_covered_answer may c.scope st to v k in
-      ⊎_elim (λ own. store_whole may c results st to v at k own)
-      (λ other. ⊎_elim (λ two. assigned_whole may c results st to v at k two) (λ one. answers_whole may c st to v at k one) (either wide asked other))
-      (either (is_covered_store may c.scope results st to v k) (wide || asked) e)
+  statement_whole may returns c results st (stat.Statement.assign to v at) k e labels f = assignments_whole may c results st to v at k e
   statement_whole may returns c results st (stat.Statement.labelled y at s) k e labels f =
       labelled_whole (c.landings y) (statement c s k)
       (statement_whole may returns c results st s k e labels (both (is_landing (c.landings y) k) (is_landed c.landings labels s k) f).1)
@@ -131,7 +120,7 @@ mutual
   statement_whole may returns c results st (stat.Statement.call y es at) k e labels f = call_whole may c st y es at k e
 
   -- nothing is due behind a list
-  pub list_clear : (may : List ℕ → Bool) (returns : Bool) (c : Context) (results : List ℕ → Option (Kind × Place)) (st : Setting) (ss : Statements) (k : ℕ) → are_covered may returns c.scope results st ss k ≡ true → (labels : List (List ℕ))
+  pub list_clear : (may : Who → Bool) (returns : Bool) (c : Context) (results : List ℕ → Option (Kind × Place)) (st : Setting) (ss : Statements) (k : ℕ) → are_covered may returns c.scope results st ss k ≡ true → (labels : List (List ℕ))
       → are_landed c.landings labels ss k ≡ true → (l : ℕ) (ws : List Wanted)
       → due_after false (listed c ss k l ws).pieces ≡ false
   list_clear may returns c results st stat.Statements.none k e labels f l ws = refl
@@ -145,7 +134,7 @@ mutual
       ∙ list_clear may returns c results st ss k two.1 labels lands.1 (l + a.marks) a.wants
 
   -- and it keeps the names that are wanted
-  list_keeps : (may : List ℕ → Bool) (returns : Bool) (c : Context) (results : List ℕ → Option (Kind × Place)) (st : Setting) (ss : Statements) (k : ℕ) → are_covered may returns c.scope results st ss k ≡ true → (labels : List (List ℕ))
+  list_keeps : (may : Who → Bool) (returns : Bool) (c : Context) (results : List ℕ → Option (Kind × Place)) (st : Setting) (ss : Statements) (k : ℕ) → are_covered may returns c.scope results st ss k ≡ true → (labels : List (List ℕ))
       → are_landed c.landings labels ss k ≡ true → (l : ℕ) (ws : List Wanted)
       → IsFront ws (listed c ss k l ws).wants
   list_keeps may returns c results st stat.Statements.none k e labels f l ws = record { rest = []; is = sym (append-nil ws) }
@@ -157,7 +146,7 @@ mutual
       (list_keeps may returns c results st ss k two.1 labels lands.1 (l + a.marks) a.wants)
 
   -- so do arms
-  arms_keep : (may : List ℕ → Bool) (returns : Bool) (c : Context) (results : List ℕ → Option (Kind × Place)) (st : Setting) (ss : Statements) (k : ℕ) → are_covered may returns c.scope results st ss k ≡ true → (labels : List (List ℕ))
+  arms_keep : (may : Who → Bool) (returns : Bool) (c : Context) (results : List ℕ → Option (Kind × Place)) (st : Setting) (ss : Statements) (k : ℕ) → are_covered may returns c.scope results st ss k ≡ true → (labels : List (List ℕ))
       → are_landed c.landings labels ss k ≡ true → (end l : ℕ) (ws : List Wanted)
       → IsFront ws (arms c ss k end l ws).wants
   arms_keep may returns c results st stat.Statements.none k e labels f end l ws = record { rest = []; is = sym (append-nil ws) }
@@ -168,7 +157,7 @@ mutual
 
 mutual
   -- what is covered is performed
-  statement_performs : (may : List ℕ → Bool) (returns : Bool) (c : Context) (results : List ℕ → Option (Kind × Place)) (z : Surroundings) (call : Callee) (d number : ℕ) (st : Statement) (k need : ℕ)
+  statement_performs : (may : Who → Bool) (returns : Bool) (c : Context) (results : List ℕ → Option (Kind × Place)) (z : Surroundings) (call : Callee) (d number : ℕ) (st : Statement) (k need : ℕ)
       → is_covered_statement may returns c.scope results z.setting st k ≡ true → statement_most c.scope.names st + 8 ≤ need → Around may returns c results z d call k st
       → Performs z d k need (statement c st k) (λ s. run (read_with c.scope results z.setting) call d number st k s)
   statement_performs may returns c results z call d number stat.Statement.empty k need e enough around = idle_performs z d k need
@@ -179,12 +168,7 @@ mutual
       (list_performs may returns c results (listing (bears_among ss) k z) call d number ss k need e enough inside)
       (list_from may returns c results (listing (bears_among ss) k z) call d number ss k need e enough inside)
   statement_performs may returns c results z call d number (stat.Statement.assign to v at) k need e enough around =
-      let wide = is_wide_assignment may c.scope results z.setting to v k in
-      let asked = is_covered_answer may c.scope z.setting to v k in
-      ⊎_elim (λ own. store_performs may c results z call d number to v at k need around.calls around.agrees own enough)
-      (λ other. ⊎_elim (λ two. assigned_performs may c results z call d number to v at k need around.calls around.agrees two enough)
-      (λ one. answers_perform may c results z call d number to v at k need one enough around.calls) (either wide asked other))
-      (either (is_covered_store may c.scope results z.setting to v k) (wide || asked) e)
+      assignments may c results z call d number to v at k need around.calls around.agrees e enough
   statement_performs may returns c results z call d number (stat.Statement.labelled y at s) k need e enough around =
       labelled_performs c.landings z d k need y (statement c s k) (λ t. run (read_with c.scope results z.setting) call d number s k t)
       (both (is_landing (c.landings y) k) (is_landed c.landings around.labels s k) around.landed).0
@@ -249,7 +233,7 @@ mutual
   statement_performs may returns c results z call d number (stat.Statement.call y es at) k need e enough around = call_performs may c results z call d number y es at k need e enough around.calls
 
   -- from its labels on
-  statement_at : (may : List ℕ → Bool) (returns : Bool) (c : Context) (results : List ℕ → Option (Kind × Place)) (z : Surroundings) (call : Callee) (d number : ℕ) (st : Statement) (k need : ℕ)
+  statement_at : (may : Who → Bool) (returns : Bool) (c : Context) (results : List ℕ → Option (Kind × Place)) (z : Surroundings) (call : Callee) (d number : ℕ) (st : Statement) (k need : ℕ)
       → is_covered_statement may returns c.scope results z.setting st k ≡ true → statement_most c.scope.names st + 8 ≤ need → Around may returns c results z d call k st
       → PerformsAt z d k need (statement c st k) (λ x. bears st x) (λ x s. run_at (read_with c.scope results z.setting) call d number st x k s)
   statement_at may returns c results z call d number (stat.Statement.labelled y at s) k need e enough around =
@@ -273,7 +257,7 @@ mutual
   statement_at may returns c results z call d number (stat.Statement.call y es at) k need e enough around = unlabelled_at z d k need _ _
 
   -- a list, its statements one behind the other
-  list_performs : (may : List ℕ → Bool) (returns : Bool) (c : Context) (results : List ℕ → Option (Kind × Place)) (z : Surroundings) (call : Callee) (d number : ℕ) (ss : Statements) (k need : ℕ)
+  list_performs : (may : Who → Bool) (returns : Bool) (c : Context) (results : List ℕ → Option (Kind × Place)) (z : Surroundings) (call : Callee) (d number : ℕ) (ss : Statements) (k need : ℕ)
       → are_covered may returns c.scope results z.setting ss k ≡ true → statements_most c.scope.names ss + 8 ≤ need → AroundAll may returns c results z d call k ss
       → PerformsAll z d k need (listed c ss k) (λ s. run_all (read_with c.scope results z.setting) call d number ss k s)
   list_performs may returns c results z call d number stat.Statements.none k need e enough around = nothing_performs z d k need
@@ -289,7 +273,7 @@ mutual
       (list_performs may returns c results z call d (number + stops s) ss k need two.1 (omega (arith, enough)) others)
 
   -- from its labels on
-  list_from : (may : List ℕ → Bool) (returns : Bool) (c : Context) (results : List ℕ → Option (Kind × Place)) (z : Surroundings) (call : Callee) (d number : ℕ) (ss : Statements) (k need : ℕ)
+  list_from : (may : Who → Bool) (returns : Bool) (c : Context) (results : List ℕ → Option (Kind × Place)) (z : Surroundings) (call : Callee) (d number : ℕ) (ss : Statements) (k need : ℕ)
       → are_covered may returns c.scope results z.setting ss k ≡ true → statements_most c.scope.names ss + 8 ≤ need → AroundAll may returns c results z d call k ss
       → PerformsFrom z d k need (listed c ss k) (λ x. bears_among ss x) (λ x s. run_from (read_with c.scope results z.setting) call d number ss x k s)
   list_from may returns c results z call d number stat.Statements.none k need e enough around =
@@ -308,7 +292,7 @@ mutual
       (list_from may returns c results z call d (number + stops s) ss k need two.1 (omega (arith, enough)) others)
 
   -- arms choose by their number
-  arms_choose : (may : List ℕ → Bool) (returns : Bool) (c : Context) (results : List ℕ → Option (Kind × Place)) (z : Surroundings) (call : Callee) (d number : ℕ) (ss : Statements) (k need : ℕ)
+  arms_choose : (may : Who → Bool) (returns : Bool) (c : Context) (results : List ℕ → Option (Kind × Place)) (z : Surroundings) (call : Callee) (d number : ℕ) (ss : Statements) (k need : ℕ)
       → are_covered may returns c.scope results z.setting ss k ≡ true → statements_most c.scope.names ss + 8 ≤ need → AroundAll may returns c results z d call k ss
       → Chooses z d k need (λ end. arms c ss k end) (λ v s. run_arm (read_with c.scope results z.setting) call d number ss v k s)
   arms_choose may returns c results z call d number stat.Statements.none k need e enough around = no_arm z d k need
@@ -320,7 +304,7 @@ mutual
       (arms_choose may returns c results z call d (number + stops s) ss k need two.1 (omega (arith, enough)) (others_around may returns c results z d call k s ss around))
 
   -- from their labels on
-  arms_from : (may : List ℕ → Bool) (returns : Bool) (c : Context) (results : List ℕ → Option (Kind × Place)) (z : Surroundings) (call : Callee) (d number : ℕ) (ss : Statements) (k need : ℕ)
+  arms_from : (may : Who → Bool) (returns : Bool) (c : Context) (results : List ℕ → Option (Kind × Place)) (z : Surroundings) (call : Callee) (d number : ℕ) (ss : Statements) (k need : ℕ)
       → are_covered may returns c.scope results z.setting ss k ≡ true → statements_most c.scope.names ss + 8 ≤ need → AroundAll may returns c results z d call k ss
       → ChoosesAt z d k need (λ end. arms c ss k end) (λ x. bears_among ss x) (λ x s. run_bearer (read_with c.scope results z.setting) call d number ss x k s)
   arms_from may returns c results z call d number stat.Statements.none k need e enough around =

@@ -1,29 +1,29 @@
 -- The laws of this crate: assignments over their parts as variables; and then all that is covered.
 use Rattle.std.specs.Prelude.{◌≡◌, ℕ, ◌+◌, ◌≤◌, Bool, true, false, List, ◌++◌, Option}
-use Rattle.spl_tree.specs.declared.names_and_places.At.{At}
-use Rattle.spl_tree.specs.declared.expressions.Kind.{Kind}
-use Rattle.spl_tree.specs.StatementTrees.{Statement, Statements}
-use Rattle.spl_branch.specs.declared.pieces.Piece.TheVariants.{Begin}
-use Rattle.spl_meaning.specs.Operations.{kept}
-use Rattle.spl_meaning.specs.Pending.{statement_most, statements_most}
-use Rattle.spl_meaning.specs.Places.{Place}
-use Rattle.spl_meaning.specs.References.{Setting, its_own, address_of, variable_located, store}
-use Rattle.spl_meaning.specs.StatementRules.{list_labels}
-use Rattle.spl_meaning.specs.States.{State, back, Outcome, then_go, stopping}
-use Rattle.spl_meaning.specs.Statements.{bears_among, landing, run, run_all, run_from}
-use Rattle.spl_meaning.specs.Values.{Callee}
-use Rattle.spl_code.specs.Parts.{Part, pieces, piece, nothing, ◌⨟◌}
-use Rattle.spl_code.specs.Code.{as_value}
-use Rattle.spl_code.specs.Stores.{stored}
-use Rattle.spl_statement_code.specs.Landings.{Context}
-use Rattle.spl_statement_code.specs.Statements.{statement, listed}
-use Rattle.spl_follow.specs.Simulating.{Surroundings, Simulates, Performs, PerformsAll}
-use Rattle.spl_values.specs.Reached.{is_reached, IsWhole}
-use Rattle.spl_operators.specs.Laws.{is_single}
-use Rattle.spl_names.specs.Names.{read_with}
-use Rattle.spl_links.specs.Links.{MayCall}
+use Rattle.spl_counts.specs.spl_tree.declared.names_and_places.At.{At}
+use Rattle.spl_counts.specs.spl_tree.declared.expressions.Kind.{Kind}
+use Rattle.spl_counts.specs.spl_tree.StatementTrees.{Statement, Statements}
+use Rattle.spl_counts.specs.spl_branch.declared.pieces.Piece.TheVariants.{Begin}
+use Rattle.spl_counts.specs.spl_meaning.Operations.{kept}
+use Rattle.spl_counts.specs.spl_meaning.Pending.{statement_most, statements_most}
+use Rattle.spl_counts.specs.spl_meaning.Places.{Place}
+use Rattle.spl_counts.specs.spl_meaning.References.{Setting, its_own, address_of, variable_located, store}
+use Rattle.spl_counts.specs.spl_meaning.StatementRules.{list_labels}
+use Rattle.spl_counts.specs.spl_meaning.States.{State, back, Outcome, then_go, stopping}
+use Rattle.spl_counts.specs.spl_meaning.Statements.{bears_among, landing, run, run_all, run_from}
+use Rattle.spl_counts.specs.spl_meaning.Values.{Who, Callee}
+use Rattle.spl_counts.specs.spl_code.Parts.{Part, pieces, piece, nothing, ◌⨟◌}
+use Rattle.spl_counts.specs.spl_code.Code.{as_value}
+use Rattle.spl_counts.specs.spl_code.Stores.{stored}
+use Rattle.spl_counts.specs.spl_statement_code.Landings.{Context}
+use Rattle.spl_counts.specs.spl_statement_code.Statements.{statement, listed}
+use Rattle.spl_counts.specs.spl_follow.Simulating.{Surroundings, Simulates, Performs, PerformsAll}
+use Rattle.spl_counts.specs.spl_values.Reached.{is_reached, IsWhole}
+use Rattle.spl_counts.specs.spl_operators.Laws.{is_single}
+use Rattle.spl_moved.specs.spl_names.Names.{read_with}
+use Rattle.spl_moved.specs.spl_links.Links.{MayCall}
 use Rattle.spl_jumps.specs.Landed.{is_landed, are_landed, MayJump}
-use Rattle.spl_targets.specs.Results.{ResultsAgree}
+use Rattle.spl_calls.specs.spl_targets.Results.{ResultsAgree}
 use Rattle.spl_stores.specs.Covered.{is_covered_statement, are_covered}
 
 -- ---- constructs
@@ -45,14 +45,14 @@ pub record MayReturn (leave : ℕ) (z : Surroundings) : Type 0 where
 
 -- what is covered has whole code, where its jumps lead somewhere
 abbrev pub CoveredStatementsAreWhole : Type 0
-CoveredStatementsAreWhole = (may : List ℕ → Bool) (returns : Bool) (c : Context) (results : List ℕ → Option (Kind × Place)) (st : Setting) (s : Statement)
+CoveredStatementsAreWhole = (may : Who → Bool) (returns : Bool) (c : Context) (results : List ℕ → Option (Kind × Place)) (st : Setting) (s : Statement)
     (k : ℕ) → is_covered_statement may returns c.scope results st s k ≡ true
     → (labels : List (List ℕ)) → is_landed c.landings labels s k ≡ true → IsWhole (statement c s k)
 
 -- The code of a statement that is covered performs it, wherever it stands, where its calls find what they name, RETURN leads to the way
 -- out, and its labels and jumps lead somewhere, by those of the lists around it.
 abbrev pub CoveredStatementsPerform : Type 0
-CoveredStatementsPerform = (may : List ℕ → Bool) (returns : Bool) (c : Context) (results : List ℕ → Option (Kind × Place)) (z : Surroundings) (call : Callee)
+CoveredStatementsPerform = (may : Who → Bool) (returns : Bool) (c : Context) (results : List ℕ → Option (Kind × Place)) (z : Surroundings) (call : Callee)
     (d number : ℕ)
     (labels : List (List ℕ)) (st : Statement) (k need : ℕ) → is_covered_statement may returns c.scope results z.setting st k ≡ true
     → statement_most c.scope.names st + 8 ≤ need → MayCall may c.scope z d call → ResultsAgree c.scope results → (returns ≡ true → MayReturn c.leave z)
@@ -61,7 +61,7 @@ CoveredStatementsPerform = (may : List ℕ → Bool) (returns : Bool) (c : Conte
 
 -- and so does that of a list of such, that takes the jumps to its labels
 abbrev pub CoveredListsPerform : Type 0
-CoveredListsPerform = (may : List ℕ → Bool) (returns : Bool) (c : Context) (results : List ℕ → Option (Kind × Place)) (z : Surroundings) (call : Callee)
+CoveredListsPerform = (may : Who → Bool) (returns : Bool) (c : Context) (results : List ℕ → Option (Kind × Place)) (z : Surroundings) (call : Callee)
     (d number : ℕ)
     (labels : List (List ℕ)) (ss : Statements) (k need : ℕ) → are_covered may returns c.scope results z.setting ss k ≡ true
     → statements_most c.scope.names ss + 8 ≤ need → MayCall may c.scope z d call → ResultsAgree c.scope results → (returns ≡ true → MayReturn c.leave z)

@@ -1,19 +1,19 @@
 -- Results on the left of :=: what their names stand for, and where they are.
-use Rattle.std.proofs.Common.{◌≡◌, ℕ, Bool, true, false, List, refl, sym, ap, ◌∙◌}
-use Rattle.std.specs.Prelude.{Option, Some, None, ◌&&◌, unwrap_or}
+use Rattle.std.proofs.Common.{◌≡◌, ℕ, true, false, List, refl, sym, ap, ◌∙◌}
+use Rattle.std.specs.Prelude.{Option, Some, None, unwrap_or}
 use Rattle.std.proofs.lemmas.Bool.{false≢true}
-use Rattle.spl_tree.specs.declared.expressions.Kind.{Kind}
-use Rattle.spl_tree.specs.declared.expressions.Kind.TheVariants as kind
-use Rattle.spl_meaning.specs.Names as n
-use Rattle.spl_meaning.specs.Names.{Sort}
-use Rattle.spl_meaning.specs.Places.{Place}
-use Rattle.spl_meaning.specs.References.{Setting, its_own, its_result, target_access, own_located, result_located, locate_by, locate_target}
-use Rattle.spl_meaning.specs.States.{State}
-use Rattle.spl_code.specs.Calls.{Scope}
-use Rattle.spl_statement_code.specs.Assignments.{result_access, assigned_access}
-use Rattle.spl_values.specs.Reached.{is_reached}
-use Rattle.spl_values.proofs.VariableLemmas.{both}
-use Rattle.spl_names.specs.Names.{read_with}
+use Rattle.spl_covered.specs.spl_tree.declared.expressions.Kind.{Kind}
+use Rattle.spl_covered.specs.spl_tree.declared.expressions.Kind.TheVariants as kind
+use Rattle.spl_covered.specs.spl_meaning.Names as n
+use Rattle.spl_covered.specs.spl_meaning.Names.{Sort}
+use Rattle.spl_covered.specs.spl_meaning.Places.{Place}
+use Rattle.spl_covered.specs.spl_meaning.References.{Setting, its_own, its_result, target_access, own_located, result_located, locate_by, locate_target}
+use Rattle.spl_covered.specs.spl_meaning.States.{State}
+use Rattle.spl_covered.specs.spl_code.Calls.{Scope}
+use Rattle.spl_covered.specs.spl_statement_code.Assignments.{result_access, assigned_access}
+use Rattle.spl_covered.specs.spl_tops.Seen.{is_seen}
+use Rattle.spl_covered.proofs.spl_values_proofs.VariableLemmas.{both}
+use Rattle.spl_covered.specs.spl_names.Names.{read_with}
 use Rattle.spl_targets.specs.Results.{result_kind, same_kind, is_result, ResultsAgree}
 
 kinds_same : (t u : Kind) → same_kind t u ≡ true → t ≡ u
@@ -42,11 +42,11 @@ pub record IsResult (st : Setting) (k : ℕ) (o : Option Kind) (r : Option (Kind
   pub kind' : o ≡ Some type
   pub result : r ≡ Some (type, at)
   pub is : pl ≡ Some place
-  pub reached : is_reached st k place ≡ true
+  pub seen : is_seen st k place ≡ true
 
 pub result_case : (st : Setting) (k : ℕ) (o : Option Kind) (r : Option (Kind × Place)) (pl : Option Place) → is_result st k o r pl ≡ true → IsResult st k o r pl
 result_case st k (Some t) (Some r) (Some place) e =
-    let two = both (same_kind t r.0) (is_reached st k place) e in
+    let two = both (same_kind t r.0) (is_seen st k place) e in
     record {
       type = t;
       at = r.1;
@@ -54,7 +54,7 @@ result_case st k (Some t) (Some r) (Some place) e =
       kind' = refl;
       result = ap (λ (u : Kind). Some (u, r.1)) (sym (kinds_same t r.0 two.0));
       is = refl;
-      reached = two.1;
+      seen = two.1;
     }
 result_case st k (Some t) (Some r) None e = absurd (false≢true (both (same_kind t r.0) false e).1)
 result_case st k (Some t) None pl e = absurd (false≢true e)

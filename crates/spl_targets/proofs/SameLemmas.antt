@@ -1,14 +1,14 @@
 -- Meanings that are the same, and what follows for their code.
 use Rattle.std.proofs.Common.{◌≡◌, ℕ, zero, suc, List, [], ◌∷◌, refl, sym, subst}
-use Rattle.spl_tree.specs.declared.names_and_places.At.{At}
-use Rattle.spl_meaning.specs.Elements.{with_one}
-use Rattle.spl_meaning.specs.Laws.{IsFront}
-use Rattle.spl_meaning.specs.States.{State, Outcome, step_of, without_code, noted, stopping}
-use Rattle.spl_code.specs.Parts.{Part}
-use Rattle.spl_follow.specs.Spots.{on}
-use Rattle.spl_follow.specs.Standing.{Stands}
-use Rattle.spl_follow.specs.Parts.{Runs}
-use Rattle.spl_follow.specs.Simulating.{Surroundings, Performs}
+use Rattle.spl_covered.specs.spl_tree.declared.names_and_places.At.{At}
+use Rattle.spl_covered.specs.spl_meaning.Elements.{with_one}
+use Rattle.spl_covered.specs.spl_meaning.Laws.{IsFront}
+use Rattle.spl_covered.specs.spl_meaning.States.{State, Outcome, step_of, without_code, noted, stopping}
+use Rattle.spl_covered.specs.spl_code.Parts.{Part}
+use Rattle.spl_top_fields.specs.spl_follow.Spots.{on}
+use Rattle.spl_top_fields.specs.spl_follow.Standing.{Stands}
+use Rattle.spl_top_fields.specs.spl_follow.Parts.{Runs}
+use Rattle.spl_top_fields.specs.spl_follow.Simulating.{Surroundings, Performs}
 
 -- what is done with one word
 pub one_same : {A : Type 0} (vs : List ℕ) (s : State) (f g : ℕ → State → Outcome A) → ((v : ℕ) (u : State) → f v u ≡ g v u) → with_one vs s f ≡ with_one vs s g

@@ -1,13 +1,13 @@
 -- Results that are assigned: on the left of := the name of a procedure or a subroutine means the result of the body, or of one around it.
 use Rattle.std.specs.Prelude.{◌≡◌, ℕ, ◌&&◌, Bool, true, false, List, Option, Some, None}
-use Rattle.spl_tree.specs.declared.expressions.Kind.{Kind}
-use Rattle.spl_tree.specs.declared.expressions.Kind.TheVariants as kind
-use Rattle.spl_meaning.specs.Names as n
-use Rattle.spl_meaning.specs.Names.{Sort}
-use Rattle.spl_meaning.specs.Places.{Place}
-use Rattle.spl_meaning.specs.References.{Setting}
-use Rattle.spl_code.specs.Calls.{Scope}
-use Rattle.spl_names.specs.Names.{has_reached}
+use Rattle.spl_covered.specs.spl_tree.declared.expressions.Kind.{Kind}
+use Rattle.spl_covered.specs.spl_tree.declared.expressions.Kind.TheVariants as kind
+use Rattle.spl_covered.specs.spl_meaning.Names as n
+use Rattle.spl_covered.specs.spl_meaning.Names.{Sort}
+use Rattle.spl_covered.specs.spl_meaning.Places.{Place}
+use Rattle.spl_covered.specs.spl_meaning.References.{Setting}
+use Rattle.spl_covered.specs.spl_code.Calls.{Scope}
+use Rattle.spl_covered.specs.spl_names.Names.{has_seen}
 
 -- the kind of the result of what a name stands for
 abbrev pub result_kind : Option Sort → Option Kind
@@ -23,9 +23,9 @@ same_kind kind.Byte kind.Byte = true
 same_kind kind.Double kind.Double = true
 same_kind t u = false
 
--- such a name, by the kind of its result: that of the result which it means in the body, at a place that is reached
+-- such a name, by the kind of its result: that of the result which it means in the body, at a place that is seen
 abbrev pub is_result : Setting → ℕ → Option Kind → Option (Kind × Place) → Option Place → Bool
-is_result st k (Some t) (Some r) place = same_kind t r.0 && has_reached st k place
+is_result st k (Some t) (Some r) place = same_kind t r.0 && has_seen st k place
 is_result st k o r place = false
 
 -- Where a body's statements are made with the places of this scope, a name that means a result has that result's place.

@@ -1,6 +1,6 @@
-//! Targets: assignments in a tree to what the words of names lead to.
+//! Targets: assignments of one word in a tree.
 #![tactic(auto)]
 
 mod laws;
 
-pub use laws::led_targets_perform;
+pub use laws::words_are_assigned;

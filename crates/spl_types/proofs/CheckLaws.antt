@@ -5,14 +5,14 @@ use Rattle.std.proofs.Math.Seq.{take-suc}
 use Rattle.std.proofs.lemmas.List.{drop_all, take_all, map_push, take-map, drop-map, length-map}
 use Rattle.spl_tree.specs.declared.units.SplUnit.{SplUnit}
 use Rattle.spl_tree.specs.DeclarationTrees.{Heading}
-use Rattle.spl_meaning.specs.Names.{profile_of}
-use Rattle.spl_meaning.specs.Tables.{Source}
-use Rattle.spl_meaning.specs.Bodies.{all_routines}
-use Rattle.spl_meaning.specs.Faults.{Fault}
-use Rattle.spl_meaning.specs.Sound.{IsSound, first_broken}
-use Rattle.spl_meaning.proofs.FirstFaults.{sound_is}
-use Rattle.spl_found.proofs.FoundUnits.{first_walked}
-use Rattle.spl_found.specs.FoundUnits.{agree, walked_unit, walked_units}
+use Rattle.spl_sound.specs.spl_meaning.Names.{profile_of}
+use Rattle.spl_sound.specs.spl_meaning.Tables.{Source}
+use Rattle.spl_sound.specs.spl_meaning.Bodies.{all_routines}
+use Rattle.spl_sound.specs.spl_meaning.Faults.{Fault}
+use Rattle.spl_sound.specs.spl_meaning.Sound.{IsSound, first_broken}
+use Rattle.spl_sound.proofs.spl_meaning_proofs.FirstFaults.{sound_is}
+use Rattle.spl_uses.proofs.spl_found_proofs.FoundUnits.{first_walked}
+use Rattle.spl_uses.specs.spl_found.FoundUnits.{agree, walked_unit, walked_units}
 use Rattle.spl_sound.specs.Spelled.{source_of}
 use Rattle.spl_types.specs.declared.heads.Bodies.{Bodies}
 use Rattle.spl_types.specs.HeadTables.{Heads, heads_of}

@@ -7,13 +7,13 @@ use Rattle.spl_tree.specs.declared.declarations.Body.{Body}
 use Rattle.spl_tree.specs.DeclarationTrees as decl
 use Rattle.spl_tree.specs.Spells.{declaration, declaration_step, body_step, BodyTree, heading_tree}
 use Rattle.spl_tree.specs.Views.{letters, statement}
-use Rattle.spl_meaning.specs.Names as n
-use Rattle.spl_meaning.specs.Names.{Names, profile_of}
-use Rattle.spl_meaning.specs.Faults.{Fault, first_fault}
-use Rattle.spl_meaning.specs.DeclarationRules.{Around}
-use Rattle.spl_found.specs.OwnNames.{with_name}
-use Rattle.spl_found.specs.FoundDeclarations.{found_procedure, procedure_by}
-use Rattle.spl_found.specs.FoundUnits.{Waits, walked}
+use Rattle.spl_sound.specs.spl_meaning.Names as n
+use Rattle.spl_sound.specs.spl_meaning.Names.{Names, profile_of}
+use Rattle.spl_sound.specs.spl_meaning.Faults.{Fault, first_fault}
+use Rattle.spl_sound.specs.spl_meaning.DeclarationRules.{Around}
+use Rattle.spl_uses.specs.spl_found.OwnNames.{with_name}
+use Rattle.spl_uses.specs.spl_found.FoundDeclarations.{found_procedure, procedure_by}
+use Rattle.spl_uses.specs.spl_found.FoundUnits.{Waits, walked}
 use Rattle.spl_types.specs.HeadTables.{Heads, heads_with, heads_behind}
 
 -- behind a procedure

@@ -2,8 +2,8 @@
 use Rattle.std.proofs.Common.{ℕ, ◌≡◌, ◌<◌, ◌≤◌, ◌+◌, suc, Bool, true, false, List, [], ◌∷◌, map, length, get_or, drop, drop-cons, add-one, refl, sym, ap, ◌∙◌}
 use Rattle.std.specs.Prelude.{◌&&◌}
 use Rattle.std.proofs.lemmas.List.{drop_all, length-map}
-use Rattle.spl_meaning.specs.Names.{Formal}
-use Rattle.spl_meaning.specs.DeclarationRules.{same_formals}
+use Rattle.spl_sound.specs.spl_meaning.Names.{Formal}
+use Rattle.spl_sound.specs.spl_meaning.DeclarationRules.{same_formals}
 use Rattle.spl_sorts.specs.declared.profiles.Formal as own
 use Rattle.spl_sorts.specs.Profiles.{formal_of}
 use Rattle.spl_types.specs.SameFormal.{same_formal}

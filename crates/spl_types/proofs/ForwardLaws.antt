@@ -6,12 +6,12 @@ use Rattle.spl_tree.specs.declared.declarations.Decl.{Decl}
 use Rattle.spl_tree.specs.DeclarationTrees as decl
 use Rattle.spl_tree.specs.DeclarationTrees.{Declaration, Declarations, declarations}
 use Rattle.spl_tree.specs.Spells.{declaration}
-use Rattle.spl_meaning.specs.Names as n
-use Rattle.spl_meaning.specs.Names.{Names, Sort, or_else, same_name, nothing_declared}
-use Rattle.spl_meaning.specs.Faults.{Fault, unless, first_fault}
-use Rattle.spl_meaning.specs.DeclarationRules.{gets_body}
-use Rattle.spl_found.specs.OwnNames.{with_name}
-use Rattle.spl_found.specs.FoundUnits.{found_forward, found_forwards}
+use Rattle.spl_sound.specs.spl_meaning.Names as n
+use Rattle.spl_sound.specs.spl_meaning.Names.{Names, Sort, or_else, same_name, nothing_declared}
+use Rattle.spl_sound.specs.spl_meaning.Faults.{Fault, unless, first_fault}
+use Rattle.spl_sound.specs.spl_meaning.DeclarationRules.{gets_body}
+use Rattle.spl_uses.specs.spl_found.OwnNames.{with_name}
+use Rattle.spl_uses.specs.spl_found.FoundUnits.{found_forward, found_forwards}
 use Rattle.spl_types.specs.Forwards.{bodied, bodies_of, forward_by}
 
 body_more : (o : Option Sort) (b : Bool) → is_some (or_else o (if b then Some n.label else None)) ≡ (if b then true else is_some o)

@@ -4,11 +4,11 @@ use Rattle.std.proofs.lemmas.List.{drop_all}
 use Rattle.spl_tree.specs.declared.declarations.Decl.{Decl}
 use Rattle.spl_tree.specs.DeclarationTrees.{Heading, declarations}
 use Rattle.spl_tree.specs.Spells.{declaration}
-use Rattle.spl_meaning.specs.Names.{Names, nothing_declared}
-use Rattle.spl_meaning.specs.Faults.{Fault}
-use Rattle.spl_meaning.specs.DeclarationRules.{Around}
-use Rattle.spl_found.specs.OwnNames.{behind_declaration, behind_declarations}
-use Rattle.spl_found.specs.FoundUnits.{Waits, waits_behind, walked, walked_list}
+use Rattle.spl_sound.specs.spl_meaning.Names.{Names, nothing_declared}
+use Rattle.spl_sound.specs.spl_meaning.Faults.{Fault}
+use Rattle.spl_sound.specs.spl_meaning.DeclarationRules.{Around}
+use Rattle.spl_uses.specs.spl_found.OwnNames.{behind_declaration, behind_declarations}
+use Rattle.spl_uses.specs.spl_found.FoundUnits.{Waits, waits_behind, walked, walked_list}
 use Rattle.spl_types.proofs.SilentLaws.{front}
 
 -- what is found from a declaration on

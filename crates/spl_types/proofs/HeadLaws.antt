@@ -4,13 +4,13 @@ use Rattle.std.specs.Prelude.{◌&&◌, ◌||◌, if◌then◌else◌}
 use Rattle.std.specs.Cmp.Lexicographic.{same_text}
 use Rattle.spl_tree.specs.DeclarationTrees as decl
 use Rattle.spl_tree.specs.DeclarationTrees.{Heading, Declaration, Declarations}
-use Rattle.spl_meaning.specs.Names as n
-use Rattle.spl_meaning.specs.Names.{Names, Sort, Table, Profile, or_else, same_name, nothing_declared, profile_of}
-use Rattle.spl_meaning.specs.Tables.{Source, Routine, with_declaration, routine_in, routines_among, routines_of}
-use Rattle.spl_meaning.specs.DeclarationRules.{same_profile}
-use Rattle.spl_meaning.specs.Stops.{declaration_stops}
-use Rattle.spl_found.specs.OwnNames.{with_name}
-use Rattle.spl_found.specs.FoundUnits.{agrees_with, agree}
+use Rattle.spl_sound.specs.spl_meaning.Names as n
+use Rattle.spl_sound.specs.spl_meaning.Names.{Names, Sort, Table, Profile, or_else, same_name, nothing_declared, profile_of}
+use Rattle.spl_sound.specs.spl_meaning.Tables.{Source, Routine, with_declaration, routine_in, routines_among, routines_of}
+use Rattle.spl_sound.specs.spl_meaning.DeclarationRules.{same_profile}
+use Rattle.spl_sound.specs.spl_meaning.Stops.{declaration_stops}
+use Rattle.spl_uses.specs.spl_found.OwnNames.{with_name}
+use Rattle.spl_uses.specs.spl_found.FoundUnits.{agrees_with, agree}
 use Rattle.spl_types.specs.HeadTables.{Heads, no_heads, differs, heads_with, heads_behind, heads_list, agreed_by, agreed}
 use Rattle.spl_types.proofs.ProfileLaws.{as_one, both_alike}
 

@@ -6,7 +6,7 @@ use Rattle.std.specs.Cmp.Lexicographic.{same_text}
 use lib.Pointwise.{pointwise}
 use Rattle.arrayvec.specs.ArrayVec.{ArrayVec}
 use Rattle.indexmap.specs.IndexMap.{insert_entry}
-use Rattle.spl_meaning.specs.Names.{find, same_name}
+use Rattle.spl_sound.specs.spl_meaning.Names.{find, same_name}
 use Rattle.spl_sorts.specs.declared.profiles.Profile.{Profile}
 use Rattle.spl_types.specs.WaitingNames.{kept, entry_of, joined}
 

@@ -5,11 +5,11 @@ use Rattle.std.proofs.lemmas.List.{drop_all}
 use Rattle.spl_tree.specs.declared.declarations.Decl.{Decl}
 use Rattle.spl_tree.specs.DeclarationTrees.{declarations}
 use Rattle.spl_tree.specs.Spells.{declaration}
-use Rattle.spl_meaning.specs.Names.{Names, Sort, or_else}
-use Rattle.spl_meaning.specs.Faults.{Fault}
-use Rattle.spl_meaning.specs.ExpressionRules.{Scope}
-use Rattle.spl_found.specs.OwnNames.{over}
-use Rattle.spl_found.specs.FoundDeclarations.{found_inner, found_subroutines}
+use Rattle.spl_sound.specs.spl_meaning.Names.{Names, Sort, or_else}
+use Rattle.spl_sound.specs.spl_meaning.Faults.{Fault}
+use Rattle.spl_sound.specs.spl_meaning.ExpressionRules.{Scope}
+use Rattle.spl_uses.specs.spl_found.OwnNames.{over}
+use Rattle.spl_uses.specs.spl_found.FoundDeclarations.{found_inner, found_subroutines}
 use Rattle.spl_types.proofs.SilentLaws.{front}
 
 -- what is looked up twice

@@ -3,10 +3,10 @@ use Rattle.std.proofs.Common.{ℕ, ◌≡◌, ◌<◌, ◌≤◌, ◌+◌, Bool,
 use Rattle.std.specs.Prelude.{◌&&◌, if◌then◌else◌}
 use Rattle.std.proofs.lemmas.List.{drop_all}
 use Rattle.spl_tree.specs.DeclarationTrees.{Heading}
-use Rattle.spl_meaning.specs.Names.{Profile, profile_of}
-use Rattle.spl_meaning.specs.Tables.{Source, routines_of}
-use Rattle.spl_meaning.specs.Bodies.{all_routines}
-use Rattle.spl_found.specs.FoundUnits.{agree}
+use Rattle.spl_sound.specs.spl_meaning.Names.{Profile, profile_of}
+use Rattle.spl_sound.specs.spl_meaning.Tables.{Source, routines_of}
+use Rattle.spl_sound.specs.spl_meaning.Bodies.{all_routines}
+use Rattle.spl_uses.specs.spl_found.FoundUnits.{agree}
 use Rattle.spl_types.specs.declared.heads.Bodies.{Bodies}
 use Rattle.spl_types.specs.HeadTables.{agreed, heads_of}
 use Rattle.spl_types.specs.OtherUnits.{all_agreed}

@@ -2,8 +2,8 @@
 use Rattle.std.proofs.Common.{ℕ, ◌≡◌, Bool, true, false, List, [], ◌∷◌, map, refl, sym, ap, ◌∙◌}
 use Rattle.std.proofs.lemmas.Bool.{eq-eqb, eqb-true}
 use Rattle.std.specs.Prelude.{◌&&◌, ◌==◌}
-use Rattle.spl_meaning.specs.Names.{Formal, Profile, same_flag}
-use Rattle.spl_meaning.specs.DeclarationRules.{kind_number, same_formals, same_profile}
+use Rattle.spl_sound.specs.spl_meaning.Names.{Formal, Profile, same_flag}
+use Rattle.spl_sound.specs.spl_meaning.DeclarationRules.{kind_number, same_formals, same_profile}
 
 -- what is compared of a parameter
 pub record Shape : Type 0 where

@@ -5,9 +5,9 @@ use Rattle.std.proofs.lemmas.List.{drop_all}
 use Rattle.spl_tree.specs.declared.names_and_places.At.{At}
 use Rattle.spl_tree.specs.declared.statements.Stmt.{Stmt}
 use Rattle.spl_tree.specs.Views as view
-use Rattle.spl_meaning.specs.Faults.{Fault, unless, first_fault}
-use Rattle.spl_meaning.specs.DeclarationRules.{is_empty_statement, statement_place}
-use Rattle.spl_found.specs.FoundDeclarations.{found_silent}
+use Rattle.spl_sound.specs.spl_meaning.Faults.{Fault, unless, first_fault}
+use Rattle.spl_sound.specs.spl_meaning.DeclarationRules.{is_empty_statement, statement_place}
+use Rattle.spl_uses.specs.spl_found.FoundDeclarations.{found_silent}
 
 -- a list from one of its elements on
 pub front : {X : Type 0} (xs : List X) (i : ℕ) (x : X) → i < length xs → x ≡ get_or xs i x → drop i xs ≡ x ∷ drop (i + 1) xs

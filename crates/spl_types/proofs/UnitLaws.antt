@@ -1,8 +1,8 @@
 -- What a main body may use.
 use Rattle.std.proofs.Common.{◌≡◌, true, false, [], Option, Some, None, refl, ap, ◌∙◌}
-use Rattle.spl_meaning.specs.Names.{Names, Sort, Table, find, or_else}
-use Rattle.spl_meaning.specs.ExpressionRules.{Scope}
-use Rattle.spl_found.specs.OwnNames.{over}
+use Rattle.spl_sound.specs.spl_meaning.Names.{Names, Sort, Table, find, or_else}
+use Rattle.spl_sound.specs.spl_meaning.ExpressionRules.{Scope}
+use Rattle.spl_uses.specs.spl_found.OwnNames.{over}
 use Rattle.spl_types.specs.UnitParts.{main_with}
 
 none_outside : (o : Option Sort) → or_else o None ≡ o

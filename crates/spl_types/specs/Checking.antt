@@ -1,9 +1,9 @@
 -- What the checker answers.
 use Rattle.std.specs.Prelude.{◌≡◌, List, Some}
 use Rattle.spl_tree.specs.DeclarationTrees.{declarations}
-use Rattle.spl_meaning.specs.Tables.{Source}
-use Rattle.spl_meaning.specs.Sound.{first_broken}
-use Rattle.spl_meaning.specs.Faults.{fault}
+use Rattle.spl_sound.specs.spl_meaning.Tables.{Source}
+use Rattle.spl_sound.specs.spl_meaning.Sound.{first_broken}
+use Rattle.spl_sound.specs.spl_meaning.Faults.{fault}
 use Rattle.spl_types.specs.declared.check_faults.CheckFault.{CheckFault}
 use Rattle.spl_types.specs.declared.check_faults.CheckFault.TheVariants as why
 use Rattle.spl_types.specs.HeadTables.{Heads, no_heads, heads_list}

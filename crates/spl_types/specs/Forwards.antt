@@ -2,10 +2,10 @@
 use Rattle.std.specs.Prelude.{Option, is_some}
 use Rattle.spl_tree.specs.DeclarationTrees as decl
 use Rattle.spl_tree.specs.DeclarationTrees.{Declaration, Declarations}
-use Rattle.spl_meaning.specs.Names as n
-use Rattle.spl_meaning.specs.Names.{Names, nothing_declared}
-use Rattle.spl_meaning.specs.Faults.{Fault, unless, first_fault}
-use Rattle.spl_found.specs.OwnNames.{with_name}
+use Rattle.spl_sound.specs.spl_meaning.Names as n
+use Rattle.spl_sound.specs.spl_meaning.Names.{Names, nothing_declared}
+use Rattle.spl_sound.specs.spl_meaning.Faults.{Fault, unless, first_fault}
+use Rattle.spl_uses.specs.spl_found.OwnNames.{with_name}
 
 -- the names with bodies among a declaration and those behind it
 abbrev pub bodied : Names → Declaration → Names

@@ -2,11 +2,11 @@
 use Rattle.std.specs.Prelude.{ℕ, not, Bool, true, false, if◌then◌else◌, List, Option, Some, None}
 use Rattle.spl_tree.specs.DeclarationTrees as decl
 use Rattle.spl_tree.specs.DeclarationTrees.{Declaration, Declarations}
-use Rattle.spl_meaning.specs.Names as n
-use Rattle.spl_meaning.specs.Names.{Names, Sort, Profile, find, nothing_declared, profile_of}
-use Rattle.spl_meaning.specs.DeclarationRules.{same_profile}
+use Rattle.spl_sound.specs.spl_meaning.Names as n
+use Rattle.spl_sound.specs.spl_meaning.Names.{Names, Sort, Profile, find, nothing_declared, profile_of}
+use Rattle.spl_sound.specs.spl_meaning.DeclarationRules.{same_profile}
 use Rattle.spl_sorts.specs.Tables.{table_of}
-use Rattle.spl_found.specs.OwnNames.{with_name}
+use Rattle.spl_uses.specs.spl_found.OwnNames.{with_name}
 use Rattle.spl_types.specs.declared.heads.Bodies.{Bodies}
 
 -- the first procedure of each name, and the names of which another differs from it

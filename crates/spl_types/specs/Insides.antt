@@ -1,10 +1,10 @@
 -- What a body with its own list of declarations may use.
 use Rattle.std.specs.Prelude.{true, if◌then◌else◌, [], is_some}
-use Rattle.spl_meaning.specs.Names.{find}
-use Rattle.spl_meaning.specs.ExpressionRules.{Scope}
+use Rattle.spl_sound.specs.spl_meaning.Names.{find}
+use Rattle.spl_sound.specs.spl_meaning.ExpressionRules.{Scope}
 use Rattle.spl_sorts.specs.Tables.{table_of}
 use Rattle.spl_uses.specs.Scopes.{with_result}
-use Rattle.spl_found.specs.OwnNames.{over}
+use Rattle.spl_uses.specs.spl_found.OwnNames.{over}
 use Rattle.spl_types.specs.declared.insides.Inside.{Inside}
 
 -- its names hide those outside; in a main body each counts as its own

@@ -1,7 +1,7 @@
 -- The procedures of the other units.
 use Rattle.std.specs.Prelude.{ℕ, ◌&&◌, Bool, true, false, if◌then◌else◌, List, [], ◌∷◌, map}
 use Rattle.spl_tree.specs.DeclarationTrees.{Heading}
-use Rattle.spl_meaning.specs.Names.{Profile, profile_of}
+use Rattle.spl_sound.specs.spl_meaning.Names.{Profile, profile_of}
 use Rattle.spl_types.specs.declared.others.Others.{Others}
 use Rattle.spl_types.specs.HeadTables.{Heads, agreed, heads_of}
 

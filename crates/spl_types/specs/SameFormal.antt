@@ -1,7 +1,7 @@
 -- Parameters that are alike.
 use Rattle.std.specs.Prelude.{◌==◌, ◌&&◌, Bool}
-use Rattle.spl_meaning.specs.Names.{Formal, same_flag}
-use Rattle.spl_meaning.specs.DeclarationRules.{kind_number}
+use Rattle.spl_sound.specs.spl_meaning.Names.{Formal, same_flag}
+use Rattle.spl_sound.specs.spl_meaning.DeclarationRules.{kind_number}
 
 -- in kind, array or not, and VALUE or not
 abbrev pub same_formal : Formal → Formal → Bool

@@ -1,10 +1,10 @@
 -- What stands around the list of a unit, and what its main body may use.
 use Rattle.std.specs.Prelude.{Bool, true, false, []}
 use Rattle.spl_tree.specs.DeclarationTrees.{Declarations}
-use Rattle.spl_meaning.specs.Names.{Names, nothing_declared}
-use Rattle.spl_meaning.specs.DeclarationRules.{Around}
-use Rattle.spl_meaning.specs.ExpressionRules.{Scope}
-use Rattle.spl_found.specs.OwnNames.{behind_declarations}
+use Rattle.spl_sound.specs.spl_meaning.Names.{Names, nothing_declared}
+use Rattle.spl_sound.specs.spl_meaning.DeclarationRules.{Around}
+use Rattle.spl_sound.specs.spl_meaning.ExpressionRules.{Scope}
+use Rattle.spl_uses.specs.spl_found.OwnNames.{behind_declarations}
 
 -- no names are outside
 abbrev pub unit_around : Bool → Around

@@ -1,7 +1,7 @@
 -- FORWARDs that wait, by name.
 use Rattle.std.specs.Prelude.{ℕ, List, map, Option, Some, None}
 use Rattle.arrayvec.specs.ArrayVec.{ArrayVec}
-use Rattle.spl_meaning.specs.Names as n
+use Rattle.spl_sound.specs.spl_meaning.Names as n
 use Rattle.spl_sorts.specs.declared.profiles.Profile.{Profile}
 use Rattle.spl_sorts.specs.Profiles.{profile_of}
 use Rattle.spl_types.specs.declared.waiting.Waiting.{Waiting}

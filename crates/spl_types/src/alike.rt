@@ -1,7 +1,7 @@
 //! Headings that are alike.
 ghost use Rattle.std.specs.Prelude.{◌≡◌, map};
-ghost use Rattle.spl_meaning.specs.Names.{same_flag};
-ghost use Rattle.spl_meaning.specs.DeclarationRules as rules;
+ghost use Rattle.spl_sound.specs.spl_meaning.Names.{same_flag};
+ghost use Rattle.spl_sound.specs.spl_meaning.DeclarationRules as rules;
 ghost use Rattle.spl_sorts.specs.Profiles.{formal_of, profile_of};
 ghost use Rattle.spl_types.specs.SameFormal.{same_formal};
 

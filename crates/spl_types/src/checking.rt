@@ -2,10 +2,10 @@
 ghost use Rattle.std.specs.Prelude.{◌≡◌, ◌+◌, ◌<◌, ◌≤◌, None, [], drop, length, map, take, option_map, OnOk, IfOk, IfErr};
 ghost use Rattle.spl_tree.specs.DeclarationTrees.{declarations};
 ghost use Rattle.spl_tree.specs.Spells.{declaration};
-ghost use Rattle.spl_meaning.specs.Sound.{IsSound, first_broken};
+ghost use Rattle.spl_sound.specs.spl_meaning.Sound.{IsSound, first_broken};
 ghost use Rattle.spl_sorts.specs.Reports.{fault_of};
 ghost use Rattle.spl_sound.specs.Spelled.{AreSpelled, most_units, source_of};
-ghost use Rattle.spl_found.specs.FoundUnits.{walked_units};
+ghost use Rattle.spl_uses.specs.spl_found.FoundUnits.{walked_units};
 ghost use Rattle.spl_types.specs.HeadTables.{heads_of};
 ghost use Rattle.spl_types.specs.Checking.{unit_heads, Refuses};
 

@@ -3,12 +3,12 @@ ghost use Rattle.std.specs.Prelude.{◌≡◌, if◌then◌else◌, map, option_
 ghost use Rattle.spl_tree.specs.DeclarationTrees.{declarations};
 ghost use Rattle.spl_tree.specs.Spells.{declaration, heading_tree};
 ghost use Rattle.spl_tree.specs.Views.{letters};
-ghost use Rattle.spl_meaning.specs.Names as n;
-ghost use Rattle.spl_meaning.specs.Names.{find, label};
+ghost use Rattle.spl_sound.specs.spl_meaning.Names as n;
+ghost use Rattle.spl_sound.specs.spl_meaning.Names.{find, label};
 ghost use Rattle.spl_sorts.specs.Profiles.{profile_of};
 ghost use Rattle.spl_sorts.specs.Sorts.{sort_of};
 ghost use Rattle.spl_sorts.specs.Tables.{table_of};
-ghost use Rattle.spl_found.specs.OwnNames.{with_name};
+ghost use Rattle.spl_uses.specs.spl_found.OwnNames.{with_name};
 ghost use Rattle.spl_types.specs.HeadTables.{heads_of, heads_with, heads_behind, heads_list, no_heads, agreed, differs};
 
 use crate::alike::same_profile;

@@ -3,12 +3,12 @@ ghost use Rattle.std.specs.Prelude.{◌≡◌, map, OnOk};
 ghost use Rattle.spl_tree.specs.DeclarationTrees.{declarations};
 ghost use Rattle.spl_tree.specs.Spells.{declaration, heading_tree};
 ghost use Rattle.spl_tree.specs.Views as view;
-ghost use Rattle.spl_meaning.specs.Names as n;
-ghost use Rattle.spl_meaning.specs.Names.{find};
-ghost use Rattle.spl_meaning.specs.DeclarationRules.{subroutine_scope};
+ghost use Rattle.spl_sound.specs.spl_meaning.Names as n;
+ghost use Rattle.spl_sound.specs.spl_meaning.Names.{find};
+ghost use Rattle.spl_sound.specs.spl_meaning.DeclarationRules.{subroutine_scope};
 ghost use Rattle.spl_sorts.specs.Tables.{table_of};
 ghost use Rattle.spl_uses.specs.Scopes.{scope_of};
-ghost use Rattle.spl_found.specs.FoundDeclarations.{found_subroutine, found_inner, found_subroutines};
+ghost use Rattle.spl_uses.specs.spl_found.FoundDeclarations.{found_subroutine, found_inner, found_subroutines};
 ghost use Rattle.spl_types.specs.Insides.{inside_of};
 
 use spl_flow::subroutine_body;

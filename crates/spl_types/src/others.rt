@@ -2,7 +2,7 @@
 ghost use Rattle.std.specs.Prelude.{◌≡◌, map};
 ghost use Rattle.spl_tree.specs.Views.{letters};
 ghost use Rattle.spl_tree.specs.Spells.{heading_tree};
-ghost use Rattle.spl_meaning.specs.Names as n;
+ghost use Rattle.spl_sound.specs.spl_meaning.Names as n;
 ghost use Rattle.spl_sorts.specs.Profiles.{profile_of};
 ghost use Rattle.spl_types.specs.HeadTables.{heads_of};
 ghost use Rattle.spl_types.specs.OtherUnits.{all_agreed, agrees_of};

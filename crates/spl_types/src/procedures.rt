@@ -4,12 +4,12 @@ ghost use Rattle.spl_tree.specs.DeclarationTrees.{declarations};
 ghost use Rattle.spl_tree.specs.StatementTrees.{statements};
 ghost use Rattle.spl_tree.specs.Spells.{declaration, heading_tree};
 ghost use Rattle.spl_tree.specs.Views as view;
-ghost use Rattle.spl_meaning.specs.Names as n;
-ghost use Rattle.spl_meaning.specs.Names.{find};
+ghost use Rattle.spl_sound.specs.spl_meaning.Names as n;
+ghost use Rattle.spl_sound.specs.spl_meaning.Names.{find};
 ghost use Rattle.spl_sorts.specs.Tables.{table_of};
-ghost use Rattle.spl_found.specs.FoundStatements.{found_body};
-ghost use Rattle.spl_found.specs.FoundDeclarations as found;
-ghost use Rattle.spl_found.specs.FoundDeclarations.{found_subroutines, found_procedure, procedure_names, around_procedure};
+ghost use Rattle.spl_uses.specs.spl_found.FoundStatements.{found_body};
+ghost use Rattle.spl_uses.specs.spl_found.FoundDeclarations as found;
+ghost use Rattle.spl_uses.specs.spl_found.FoundDeclarations.{found_subroutines, found_procedure, procedure_names, around_procedure};
 ghost use Rattle.spl_types.specs.Insides.{inside_of};
 ghost use Rattle.spl_types.specs.Procedures.{procedure_inside};
 

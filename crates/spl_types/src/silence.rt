@@ -1,8 +1,8 @@
 //! The statements of subprograms.
 ghost use Rattle.std.specs.Prelude.{◌≡◌, map};
 ghost use Rattle.spl_tree.specs.Views as view;
-ghost use Rattle.spl_meaning.specs.DeclarationRules as rules;
-ghost use Rattle.spl_found.specs.FoundDeclarations.{found_silent};
+ghost use Rattle.spl_sound.specs.spl_meaning.DeclarationRules as rules;
+ghost use Rattle.spl_uses.specs.spl_found.FoundDeclarations.{found_silent};
 
 use spl_sorts::Report;
 use spl_tree::{At, Stmt};

@@ -2,7 +2,7 @@
 ghost use Rattle.std.specs.Prelude.{◌≡◌, option_map, OnOk};
 ghost use Rattle.spl_tree.specs.Views.{letters};
 ghost use Rattle.spl_sorts.specs.Profiles.{profile_of};
-ghost use Rattle.spl_found.specs.FoundUnits.{none_waits, waits_with, waits_without};
+ghost use Rattle.spl_uses.specs.spl_found.FoundUnits.{none_waits, waits_with, waits_without};
 ghost use Rattle.spl_types.specs.WaitingNames.{waits_of};
 
 use arrayvec::ArrayVec;

@@ -2,9 +2,9 @@
 ghost use Rattle.std.specs.Prelude.{◌≡◌, map, OnOk};
 ghost use Rattle.spl_tree.specs.DeclarationTrees.{declarations};
 ghost use Rattle.spl_tree.specs.Spells.{declaration};
-ghost use Rattle.spl_meaning.specs.Names.{find};
+ghost use Rattle.spl_sound.specs.spl_meaning.Names.{find};
 ghost use Rattle.spl_sorts.specs.Tables.{table_of};
-ghost use Rattle.spl_found.specs.FoundUnits.{found_forwards};
+ghost use Rattle.spl_uses.specs.spl_found.FoundUnits.{found_forwards};
 ghost use Rattle.spl_types.specs.Forwards.{bodied, forward_by};
 
 use spl_lists::declare;

@@ -6,10 +6,10 @@ use Rattle.std.proofs.lemmas.Option.{slice_get-map, slice_get-get_or}
 use Rattle.spl_tree.specs.declared.names_and_places.Name.{Name}
 use Rattle.spl_tree.specs.declared.units.SplUnit.{SplUnit}
 use Rattle.spl_tree.specs.Views.{letters}
-use Rattle.spl_meaning.specs.Tables.{Source}
-use Rattle.spl_sound.specs.Spelled.{source_of}
+use Rattle.spl_module_code.specs.spl_meaning.Tables.{Source}
+use Rattle.spl_module_code.specs.spl_sound.Spelled.{source_of}
 use Rattle.spl_branch.specs.declared.buffer.Code.{Code}
-use Rattle.spl_modules.specs.Made.{Made, made_of}
+use Rattle.spl_module_code.specs.spl_modules.Made.{Made, made_of}
 use Rattle.spl_unit_codes.specs.declared.growing.Growing.{Growing}
 use Rattle.spl_unit_codes.specs.Begun.{IsBegun, has_main}
 use Rattle.spl_unit_codes.proofs.ListWalks.{pushed_cases, one_longer}

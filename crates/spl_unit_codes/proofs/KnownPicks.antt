@@ -1,6 +1,6 @@
 -- Modules that are picked, worked by hand: the segments of a unit are B and A, with the numbers 0 and 1.
 use Rattle.std.specs.Prelude.{ℕ, List, [], ◌∷◌, Option, Some, None, codes, refl}
-use Rattle.spl_meaning.specs.Names.{find}
+use Rattle.spl_module_code.specs.spl_meaning.Names.{find}
 use Rattle.spl_branch.specs.declared.modules.Module.{Module}
 use Rattle.spl_module_code.specs.Modules.{numbered}
 use Rattle.spl_unit_codes.specs.Slots.{Picked}

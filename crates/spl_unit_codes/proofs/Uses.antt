@@ -6,11 +6,11 @@ use Rattle.std.proofs.lemmas.Option.{slice_get-map, slice_get-get_or, slice_get_
 use Rattle.spl_tree.specs.declared.names_and_places.Name.{Name}
 use Rattle.spl_tree.specs.declared.units.SplUnit.{SplUnit}
 use Rattle.spl_tree.specs.Views.{letters}
-use Rattle.spl_meaning.specs.Names.{Table, find}
-use Rattle.spl_sound.specs.Spelled.{source_of}
-use Rattle.spl_places.specs.declared.name_maps.NameMap.{NameMap}
-use Rattle.spl_places.specs.NameMaps.{entries_of, behind_table}
-use Rattle.spl_places.proofs.NameMapLemmas.{behind_none, behind_nothing}
+use Rattle.spl_module_code.specs.spl_meaning.Names.{Table, find}
+use Rattle.spl_module_code.specs.spl_sound.Spelled.{source_of}
+use Rattle.spl_module_code.specs.spl_places.declared.name_maps.NameMap.{NameMap}
+use Rattle.spl_module_code.specs.spl_places.NameMaps.{entries_of, behind_table}
+use Rattle.spl_module_code.proofs.spl_places_proofs.NameMapLemmas.{behind_none, behind_nothing}
 use Rattle.spl_module_code.specs.Modules.{in_list, named_segment, numbered}
 use Rattle.spl_unit_codes.proofs.ListWalks.{onward, onward_end}
 

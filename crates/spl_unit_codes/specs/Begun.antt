@@ -2,8 +2,8 @@
 use Rattle.std.specs.Prelude.{◌≡◌, ℕ, ◌+◌, Bool, false, not, ◌&&◌, nat_eq, if◌then◌else◌, List, [], length, map, replicate, Some, None}
 use Rattle.std.specs.List.{slice_get}
 use Rattle.spl_tree.specs.Views.{letters}
-use Rattle.spl_meaning.specs.Tables.{Source}
-use Rattle.spl_modules.specs.Made.{Made, made_of}
+use Rattle.spl_module_code.specs.spl_meaning.Tables.{Source}
+use Rattle.spl_module_code.specs.spl_modules.Made.{Made, made_of}
 use Rattle.spl_unit_codes.specs.declared.growing.Growing.{Growing}
 
 -- the code of a segment with this name and these entries: a mark for each, and one for a main body

@@ -1,15 +1,15 @@
 //! The code of a unit in a segment while it grows.
 ghost use Rattle.std.specs.Prelude.{◌≡◌, ◌++◌, ℕ, map, length, OnOk, IfOk};
 ghost use Rattle.spl_tree.specs.Views.{letters};
-ghost use Rattle.spl_sound.specs.Spelled.{source_of};
-ghost use Rattle.spl_modules.specs.Made.{made_of};
-ghost use Rattle.spl_modules.specs.Walks.{walk_of};
+ghost use Rattle.spl_module_code.specs.spl_sound.Spelled.{source_of};
+ghost use Rattle.spl_module_code.specs.spl_modules.Made.{made_of};
+ghost use Rattle.spl_module_code.specs.spl_modules.Walks.{walk_of};
 ghost use Rattle.spl_unit_codes.specs.Begun.{IsBegun, AreBegun};
 ghost use Rattle.spl_branch.specs.Codes.{IsComplete};
 ghost use Rattle.spl_unit_codes.specs.Slots.{AreComplete, IsSlot, AreSlots};
 
 use spl_branch::{Code, Entry, Module};
-use spl_modules::UnitEntries;
+use spl_module_code::spl_modules::UnitEntries;
 use spl_tree::{Name, SplUnit};
 use std::alloc::{AllocError, Global};
 

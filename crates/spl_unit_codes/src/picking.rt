@@ -2,15 +2,15 @@
 ghost use Rattle.std.specs.Prelude.{◌≡◌, ◌++◌, List, map, OnOk, IfOk};
 ghost use Rattle.spl_tree.specs.Spells.{declaration};
 ghost use Rattle.spl_tree.specs.Views.{letters};
-ghost use Rattle.spl_meaning.specs.Names.{find};
-ghost use Rattle.spl_sound.specs.Spelled.{source_of};
-ghost use Rattle.spl_places.specs.NameMaps.{entries_of};
+ghost use Rattle.spl_module_code.specs.spl_meaning.Names.{find};
+ghost use Rattle.spl_module_code.specs.spl_sound.Spelled.{source_of};
+ghost use Rattle.spl_module_code.specs.spl_places.NameMaps.{entries_of};
 ghost use Rattle.spl_branch.specs.declared.modules.Module.{Module};
 ghost use Rattle.spl_module_code.specs.Modules.{named_segment, uses_in, uses_of, program_uses, numbered};
 ghost use Rattle.spl_unit_codes.specs.Slots.{TakenFrom, PickedFrom};
 
 use spl_branch::Module;
-use spl_places::NameMap;
+use spl_module_code::spl_places::NameMap;
 use spl_tree::{Decl, Name, SplUnit};
 use std::alloc::{AllocError, Global};
 

@@ -1,14 +1,14 @@
 -- The codes of a unit behind its main body may be finished.
 use Rattle.std.specs.Prelude.{◌≡◌, ℕ, List, length, Some}
 use Rattle.std.specs.List.{slice_get}
-use Rattle.spl_tree.specs.DeclarationTrees as decl
-use Rattle.spl_tree.specs.DeclarationTrees.{declarations}
-use Rattle.spl_meaning.specs.Tables.{Source}
-use Rattle.spl_rooms.specs.declared.room_type.Room.{Room}
-use Rattle.spl_scopes.specs.Scopes.{Placed}
-use Rattle.spl_modules.specs.Entered.{Walk}
-use Rattle.spl_modules.specs.UnitModules.{IsUnitModules}
-use Rattle.spl_body_scopes.specs.Levels.{unit_level}
+use Rattle.spl_sound_labels.specs.spl_tree.DeclarationTrees as decl
+use Rattle.spl_sound_labels.specs.spl_tree.DeclarationTrees.{declarations}
+use Rattle.spl_sound_labels.specs.spl_meaning.Tables.{Source}
+use Rattle.spl_gen_routines.specs.spl_rooms.declared.room_type.Room.{Room}
+use Rattle.spl_gen_routines.specs.spl_scopes.Scopes.{Placed}
+use Rattle.spl_unit_codes.specs.spl_modules.Entered.{Walk}
+use Rattle.spl_unit_codes.specs.spl_modules.UnitModules.{IsUnitModules}
+use Rattle.spl_gen_routines.specs.spl_body_scopes.Levels.{unit_level}
 use Rattle.spl_gen_routines.specs.Routines.{room_at}
 use Rattle.spl_unit_codes.specs.declared.growing.Growing.{Growing}
 use Rattle.spl_unit_codes.specs.Begun.{AreBegun}

@@ -1,25 +1,25 @@
 -- What a unit has left of its declarations behind one of them, in a form whose parts are seen.
 use Rattle.std.proofs.Common.{ℕ, suc, ◌≡◌, ◌+◌, add-zero, add_assoc, true, false, None, List, [], ◌∷◌, ◌++◌, map, drop, refl, sym, ap, subst, ◌∙◌}
-use Rattle.spl_tree.specs.DeclarationTrees as decl
-use Rattle.spl_tree.specs.DeclarationTrees.{Heading, Declaration, Declarations, declarations}
-use Rattle.spl_tree.specs.StatementTrees as stat
-use Rattle.spl_meaning.specs.Stops.{declaration_stops}
-use Rattle.spl_meaning.specs.Names.{Names, Sort, Table, find, nothing_declared}
-use Rattle.spl_meaning.specs.Tables.{Source, Routine, routines_of, routines_among, routine_table, with_declaration}
-use Rattle.spl_meaning.specs.Places.{item_words, list_words, list_array_words}
-use Rattle.spl_meaning.specs.Bodies.{reached_behind, own_table, all_routines, named_bodies, procedure_body}
-use Rattle.spl_found.specs.OwnNames.{behind_declaration}
-use Rattle.spl_found.proofs.OwnNames.{find_declaration}
-use Rattle.spl_places.specs.ListedData.{Datum}
-use Rattle.spl_places.specs.Counters.{total_words}
-use Rattle.spl_places.specs.Programs.{Each, NewInUnit, NewInRoutine, routine_items, unit_items}
-use Rattle.spl_places.proofs.ProgramLaws.{unit_held, routine_held, item_words_held}
-use Rattle.spl_areas.specs.Gathered.{items_under, items_in}
-use Rattle.spl_scopes.specs.Entries.{routines_behind}
-use Rattle.spl_scopes.specs.Scopes.{Placed, first_reached, placed_units, global_places, routine_bodies}
-use Rattle.spl_body_scopes.specs.Walks.{State, behind, routines_own, Left, first_state}
-use Rattle.spl_body_scopes.specs.Units.{UnitsLeft}
-use Rattle.spl_body_scopes.proofs.ScopeLaws.{drop_more, each_second, made}
+use Rattle.spl_sound_labels.specs.spl_tree.DeclarationTrees as decl
+use Rattle.spl_sound_labels.specs.spl_tree.DeclarationTrees.{Heading, Declaration, Declarations, declarations}
+use Rattle.spl_sound_labels.specs.spl_tree.StatementTrees as stat
+use Rattle.spl_sound_labels.specs.spl_meaning.Stops.{declaration_stops}
+use Rattle.spl_sound_labels.specs.spl_meaning.Names.{Names, Sort, Table, find, nothing_declared}
+use Rattle.spl_sound_labels.specs.spl_meaning.Tables.{Source, Routine, routines_of, routines_among, routine_table, with_declaration}
+use Rattle.spl_sound_labels.specs.spl_meaning.Places.{item_words, list_words, list_array_words}
+use Rattle.spl_sound_labels.specs.spl_meaning.Bodies.{reached_behind, own_table, all_routines, named_bodies, procedure_body}
+use Rattle.spl_gen_routines.specs.spl_found.OwnNames.{behind_declaration}
+use Rattle.spl_gen_routines.proofs.spl_found_proofs.OwnNames.{find_declaration}
+use Rattle.spl_sound_labels.specs.spl_places.ListedData.{Datum}
+use Rattle.spl_sound_labels.specs.spl_places.Counters.{total_words}
+use Rattle.spl_sound_labels.specs.spl_places.Programs.{Each, NewInUnit, NewInRoutine, routine_items, unit_items}
+use Rattle.spl_sound_labels.proofs.spl_places_proofs.ProgramLaws.{unit_held, routine_held, item_words_held}
+use Rattle.spl_gen_routines.specs.spl_areas.Gathered.{items_under, items_in}
+use Rattle.spl_gen_routines.specs.spl_scopes.Entries.{routines_behind}
+use Rattle.spl_gen_routines.specs.spl_scopes.Scopes.{Placed, first_reached, placed_units, global_places, routine_bodies}
+use Rattle.spl_gen_routines.specs.spl_body_scopes.Walks.{State, behind, routines_own, Left, first_state}
+use Rattle.spl_gen_routines.specs.spl_body_scopes.Units.{UnitsLeft}
+use Rattle.spl_gen_routines.proofs.spl_body_scopes_proofs.ScopeLaws.{drop_more, each_second, made}
 
 -- the names behind a declaration
 pub names_behind : (names : Names) (t : Table Sort) (d : Declaration) → names ≡ find t

@@ -13,3 +13,7 @@ pub mod UnitMade
 pub mod Completes
 pub mod OnceLaws
 pub mod Modules
+-- Passed on from the crates below.
+pub use Rattle.spl_gen_routines.proofs as spl_gen_routines_proofs
+pub use Rattle.spl_sound_labels.proofs.spl_lists_proofs
+pub use Rattle.spl_sound_labels.proofs.spl_places_proofs

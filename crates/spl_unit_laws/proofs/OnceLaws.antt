@@ -1,13 +1,13 @@
 -- Where no label stands twice in the bodies of units, none does in those of a unit's declarations.
 use Rattle.std.proofs.Common.{◌≡◌, ℕ, ◌+◌, List, [], ◌∷◌, ◌++◌}
-use Rattle.spl_tree.specs.DeclarationTrees as decl
-use Rattle.spl_tree.specs.DeclarationTrees.{Declaration, Declarations, declarations}
-use Rattle.spl_meaning.specs.Stops.{declaration_stops}
-use Rattle.spl_meaning.specs.Names.{Sort, Table, nothing_declared}
-use Rattle.spl_meaning.specs.Tables.{Source, routine_in, routines_among, routines_of, subroutine_in, subroutines_among, with_declaration}
-use Rattle.spl_meaning.specs.Bodies.{all_routines}
-use Rattle.spl_places.specs.Programs.{Each}
-use Rattle.spl_body_scopes.proofs.ScopeLaws.{each_second}
+use Rattle.spl_sound_labels.specs.spl_tree.DeclarationTrees as decl
+use Rattle.spl_sound_labels.specs.spl_tree.DeclarationTrees.{Declaration, Declarations, declarations}
+use Rattle.spl_sound_labels.specs.spl_meaning.Stops.{declaration_stops}
+use Rattle.spl_sound_labels.specs.spl_meaning.Names.{Sort, Table, nothing_declared}
+use Rattle.spl_sound_labels.specs.spl_meaning.Tables.{Source, routine_in, routines_among, routines_of, subroutine_in, subroutines_among, with_declaration}
+use Rattle.spl_sound_labels.specs.spl_meaning.Bodies.{all_routines}
+use Rattle.spl_sound_labels.specs.spl_places.Programs.{Each}
+use Rattle.spl_gen_routines.proofs.spl_body_scopes_proofs.ScopeLaws.{each_second}
 use Rattle.spl_sound_labels.specs.Labels.{LabelsOnceInSubroutine, LabelsOnceInRoutine, LabelsOnceInUnit, LabelsOnceInAll}
 use Rattle.spl_gen_routines.specs.Routines.{OnceIn, OnceAmong}
 use Rattle.spl_unit_laws.specs.Steps.{OnceInUnit, OnceInAll}

@@ -4,12 +4,12 @@ use Rattle.std.specs.List.{slice_get}
 use Rattle.std.proofs.lemmas.Bool.{and_parts, eqb-true, eqb-false, ne_eqb}
 use Rattle.std.proofs.lemmas.Option.{slice_get_within, slice_get-get_or}
 use Rattle.std.proofs.lemmas.List.{length-set}
-use Rattle.spl_meaning.specs.Names.{find, same_name}
-use Rattle.spl_branch.specs.declared.buffer.Code.{Code}
-use Rattle.spl_branch.specs.declared.modules.Module.{Module}
-use Rattle.spl_scopes.specs.Scopes.{Placed}
-use Rattle.spl_module_code.specs.Modules.{uses, is_taken, next_number, numbered, IsCodeOf, IsModuleOf, AreOfUnit}
-use Rattle.spl_module_code.specs.Modules.{AreOfUnit as o}
+use Rattle.spl_sound_labels.specs.spl_meaning.Names.{find, same_name}
+use Rattle.spl_gen_routines.specs.spl_branch.declared.buffer.Code.{Code}
+use Rattle.spl_gen_routines.specs.spl_branch.declared.modules.Module.{Module}
+use Rattle.spl_gen_routines.specs.spl_scopes.Scopes.{Placed}
+use Rattle.spl_unit_codes.specs.spl_module_code.Modules.{uses, is_taken, next_number, numbered, IsCodeOf, IsModuleOf, AreOfUnit}
+use Rattle.spl_unit_codes.specs.spl_module_code.Modules.{AreOfUnit as o}
 use Rattle.spl_unit_codes.specs.declared.growing.Growing.{Growing}
 use Rattle.spl_unit_codes.specs.Slots.{is_used, IsFinish, IsSlot, AreSlots, TakenAt, Taken, Picked}
 use Rattle.spl_unit_codes.specs.Slots.{TakenAt as t}

@@ -4,17 +4,17 @@ use Rattle.std.proofs.Common.{◌≡◌, ℕ, zero, suc, ◌+◌, Bool, true, fa
 use Rattle.std.specs.Prelude.{if◌then◌else◌, unwrap_or}
 use Rattle.std.specs.List.{slice_get}
 use Rattle.std.proofs.lemmas.List.{length-append, length-map, map-append}
-use Rattle.spl_tree.specs.DeclarationTrees as decl
-use Rattle.spl_tree.specs.DeclarationTrees.{Heading, Declaration, Declarations, declarations}
-use Rattle.spl_meaning.specs.Stops.{declaration_stops}
-use Rattle.spl_meaning.specs.Names.{Names, Sort, Table, find, nothing_declared}
-use Rattle.spl_meaning.specs.Tables.{Source, Routine, Subroutine, routine_in, routines_among, routines_of, routine_names, routine_subroutines, subroutine_in, subroutines_among, unit_subroutines, unit_table, with_declaration}
-use Rattle.spl_meaning.specs.Limits.{joined}
-use Rattle.spl_meaning.specs.Bodies.{Body, subroutine_body}
-use Rattle.spl_rooms.specs.declared.room_type.Room.{Room}
-use Rattle.spl_rooms.specs.Rooms.{room_within, routine_room, main_room, rooms_in}
-use Rattle.spl_rooms.specs.Rooms as r
-use Rattle.spl_body_scopes.proofs.ScopeLaws.{drop_more, first_at}
+use Rattle.spl_sound_labels.specs.spl_tree.DeclarationTrees as decl
+use Rattle.spl_sound_labels.specs.spl_tree.DeclarationTrees.{Heading, Declaration, Declarations, declarations}
+use Rattle.spl_sound_labels.specs.spl_meaning.Stops.{declaration_stops}
+use Rattle.spl_sound_labels.specs.spl_meaning.Names.{Names, Sort, Table, find, nothing_declared}
+use Rattle.spl_sound_labels.specs.spl_meaning.Tables.{Source, Routine, Subroutine, routine_in, routines_among, routines_of, routine_names, routine_subroutines, subroutine_in, subroutines_among, unit_subroutines, unit_table, with_declaration}
+use Rattle.spl_sound_labels.specs.spl_meaning.Limits.{joined}
+use Rattle.spl_sound_labels.specs.spl_meaning.Bodies.{Body, subroutine_body}
+use Rattle.spl_gen_routines.specs.spl_rooms.declared.room_type.Room.{Room}
+use Rattle.spl_gen_routines.specs.spl_rooms.Rooms.{room_within, routine_room, main_room, rooms_in}
+use Rattle.spl_gen_routines.specs.spl_rooms.Rooms as r
+use Rattle.spl_gen_routines.proofs.spl_body_scopes_proofs.ScopeLaws.{drop_more, first_at}
 use Rattle.spl_gen_routines.specs.Routines.{inner_count, inners_among, room_at}
 use Rattle.spl_unit_laws.specs.Units.{routine_rooms, rooms_among, main_rooms}
 use Rattle.spl_unit_laws.proofs.InnerParts.{AllRoomy}

@@ -1,26 +1,26 @@
 -- A procedure that was appended behind its subroutines, and a main body, are those of their unit.
 use Rattle.std.proofs.Common.{◌≡◌, ℕ, suc, ◌+◌, List, None, refl, sym, ap, subst, ◌∙◌, add-one}
-use Rattle.spl_tree.specs.DeclarationTrees.{Heading, Declarations}
-use Rattle.spl_tree.specs.StatementTrees.{Statement, statements}
-use Rattle.spl_meaning.specs.Names.{Names, Table, formals_of}
-use Rattle.spl_meaning.specs.Pending.{formals_words}
-use Rattle.spl_meaning.specs.Places.{Place}
-use Rattle.spl_meaning.specs.Tables.{subroutines_among}
-use Rattle.spl_meaning.specs.Bodies.{Body, Named, procedure_body}
-use Rattle.spl_places.specs.Programs.{Each}
-use Rattle.spl_rooms.specs.declared.room_type.Room.{Room}
-use Rattle.spl_branch.specs.declared.buffer.Code.{Code}
-use Rattle.spl_code.specs.Parts.{Part}
-use Rattle.spl_code.specs.Calls.{Scope}
-use Rattle.spl_body_code.specs.Bodies.{Frame, frame_of, procedure_code}
-use Rattle.spl_scopes.specs.Entries.{Owner, main, routine, Entry}
-use Rattle.spl_body_scopes.specs.Levels.{Level}
-use Rattle.spl_body_scopes.specs.Results.{result_of, results_through}
-use Rattle.spl_body_scopes.specs.Found.{Calls}
-use Rattle.spl_statement_scopes.specs.Levels.{no_names, with_results}
-use Rattle.spl_statement_scopes.specs.Scopes.{StatesRoutine, StatesMain}
-use Rattle.spl_landings.specs.Bodies.{statements_part}
-use Rattle.spl_module_code.specs.Bodies.{statements_scope, body_statements, subroutine_parts, routine_part, main_part}
+use Rattle.spl_sound_labels.specs.spl_tree.DeclarationTrees.{Heading, Declarations}
+use Rattle.spl_sound_labels.specs.spl_tree.StatementTrees.{Statement, statements}
+use Rattle.spl_sound_labels.specs.spl_meaning.Names.{Names, Table, formals_of}
+use Rattle.spl_sound_labels.specs.spl_meaning.Pending.{formals_words}
+use Rattle.spl_sound_labels.specs.spl_meaning.Places.{Place}
+use Rattle.spl_sound_labels.specs.spl_meaning.Tables.{subroutines_among}
+use Rattle.spl_sound_labels.specs.spl_meaning.Bodies.{Body, Named, procedure_body}
+use Rattle.spl_sound_labels.specs.spl_places.Programs.{Each}
+use Rattle.spl_gen_routines.specs.spl_rooms.declared.room_type.Room.{Room}
+use Rattle.spl_gen_routines.specs.spl_branch.declared.buffer.Code.{Code}
+use Rattle.spl_gen_routines.specs.spl_code.Parts.{Part}
+use Rattle.spl_gen_routines.specs.spl_code.Calls.{Scope}
+use Rattle.spl_gen_routines.specs.spl_body_code.Bodies.{Frame, frame_of, procedure_code}
+use Rattle.spl_gen_routines.specs.spl_scopes.Entries.{Owner, main, routine, Entry}
+use Rattle.spl_gen_routines.specs.spl_body_scopes.Levels.{Level}
+use Rattle.spl_gen_routines.specs.spl_body_scopes.Results.{result_of, results_through}
+use Rattle.spl_gen_routines.specs.spl_body_scopes.Found.{Calls}
+use Rattle.spl_gen_routines.specs.spl_statement_scopes.Levels.{no_names, with_results}
+use Rattle.spl_gen_routines.specs.spl_statement_scopes.Scopes.{StatesRoutine, StatesMain}
+use Rattle.spl_gen_routines.specs.spl_landings.Bodies.{statements_part}
+use Rattle.spl_unit_codes.specs.spl_module_code.Bodies.{statements_scope, body_statements, subroutine_parts, routine_part, main_part}
 use Rattle.spl_gen_routines.specs.Generates.{Generates, GeneratesFrom}
 use Rattle.spl_gen_routines.specs.Scoped.{procedure_with, main_with}
 use Rattle.spl_gen_routines.specs.Routines.{Around, inners_among, room_at, FrameFits, ProcedureStands, RoutineStands, MainBodyStands}

@@ -5,25 +5,25 @@ use Rattle.std.specs.Prelude.{is_some}
 use Rattle.std.proofs.lemmas.Bool.{eqb-true, lt-ltb}
 use Rattle.std.proofs.lemmas.Option.{slice_get_within, slice_get-get_or}
 use Rattle.std.proofs.lemmas.List.{length-append, length-map, length-replicate, replicate-append-replicate}
-use Rattle.spl_tree.specs.DeclarationTrees as decl
-use Rattle.spl_tree.specs.DeclarationTrees.{declarations}
-use Rattle.spl_tree.specs.StatementTrees.{Statement}
-use Rattle.spl_meaning.specs.Tables.{Source}
-use Rattle.spl_meaning.specs.Bodies.{Body, main_body}
-use Rattle.spl_rooms.specs.declared.room_type.Room.{Room}
-use Rattle.spl_rooms.specs.Rooms.{main_room}
-use Rattle.spl_branch.specs.declared.buffer.Code.{Code}
-use Rattle.spl_code.specs.Parts.{Part, Written, nothing, wants_of}
-use Rattle.spl_code.specs.Appends as appended
-use Rattle.spl_scopes.specs.Entries.{Entry, main, module_entries, in_segment, entries_among}
-use Rattle.spl_scopes.specs.Scopes.{Placed, outer_body, global_places}
-use Rattle.spl_modules.specs.Made.{made_of, made_from}
-use Rattle.spl_modules.specs.Entered.{Walk}
-use Rattle.spl_modules.specs.UnitModules.{IsUnitModules}
-use Rattle.spl_body_scopes.specs.Walks.{State}
-use Rattle.spl_body_scopes.proofs.ScopeLaws.{main_there}
-use Rattle.spl_module_code.specs.Bodies.{main_part}
-use Rattle.spl_module_code.specs.Modules.{holds_main, main_at, module_part, module_written, marks_before, main_mark, IsCodeOf, uses}
+use Rattle.spl_sound_labels.specs.spl_tree.DeclarationTrees as decl
+use Rattle.spl_sound_labels.specs.spl_tree.DeclarationTrees.{declarations}
+use Rattle.spl_sound_labels.specs.spl_tree.StatementTrees.{Statement}
+use Rattle.spl_sound_labels.specs.spl_meaning.Tables.{Source}
+use Rattle.spl_sound_labels.specs.spl_meaning.Bodies.{Body, main_body}
+use Rattle.spl_gen_routines.specs.spl_rooms.declared.room_type.Room.{Room}
+use Rattle.spl_gen_routines.specs.spl_rooms.Rooms.{main_room}
+use Rattle.spl_gen_routines.specs.spl_branch.declared.buffer.Code.{Code}
+use Rattle.spl_gen_routines.specs.spl_code.Parts.{Part, Written, nothing, wants_of}
+use Rattle.spl_gen_routines.specs.spl_code.Appends as appended
+use Rattle.spl_gen_routines.specs.spl_scopes.Entries.{Entry, main, module_entries, in_segment, entries_among}
+use Rattle.spl_gen_routines.specs.spl_scopes.Scopes.{Placed, outer_body, global_places}
+use Rattle.spl_unit_codes.specs.spl_modules.Made.{made_of, made_from}
+use Rattle.spl_unit_codes.specs.spl_modules.Entered.{Walk}
+use Rattle.spl_unit_codes.specs.spl_modules.UnitModules.{IsUnitModules}
+use Rattle.spl_gen_routines.specs.spl_body_scopes.Walks.{State}
+use Rattle.spl_gen_routines.proofs.spl_body_scopes_proofs.ScopeLaws.{main_there}
+use Rattle.spl_unit_codes.specs.spl_module_code.Bodies.{main_part}
+use Rattle.spl_unit_codes.specs.spl_module_code.Modules.{holds_main, main_at, module_part, module_written, marks_before, main_mark, IsCodeOf, uses}
 use Rattle.spl_gen_routines.specs.Generates.{Generates, GeneratesFrom}
 use Rattle.spl_gen_routines.specs.Routines.{room_at}
 use Rattle.spl_gen_routines.proofs.OpenMarks.{one_generated}

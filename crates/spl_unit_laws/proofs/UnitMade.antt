@@ -1,28 +1,28 @@
 -- The modules of a unit, and of units in order.
 use Rattle.std.proofs.Common.{◌≡◌, ℕ, suc, ◌+◌, Bool, true, false, List, [], ◌∷◌, ◌++◌, map, drop, length, Some, refl, sym, ap, subst, ◌∙◌}
 use Rattle.std.specs.List.{slice_get}
-use Rattle.spl_tree.specs.DeclarationTrees as decl
-use Rattle.spl_tree.specs.DeclarationTrees.{declarations}
-use Rattle.spl_meaning.specs.Names.{find}
-use Rattle.spl_meaning.specs.Tables.{Source, routines_of, unit_table, unit_subroutines}
-use Rattle.spl_meaning.specs.Places.{item_words}
-use Rattle.spl_meaning.specs.Limits.{joined}
-use Rattle.spl_places.specs.Counters.{total_words}
-use Rattle.spl_places.specs.Programs.{Each, NewInUnit, NewInRoutine, unit_items}
-use Rattle.spl_meaning.specs.Bodies.{all_routines, reached_behind}
-use Rattle.spl_rooms.specs.declared.room_type.Room.{Room}
-use Rattle.spl_rooms.specs.Rooms.{room_within, main_room, rooms_in}
-use Rattle.spl_branch.specs.declared.modules.Module.{Module}
-use Rattle.spl_scopes.specs.Scopes.{Placed, unit_at, placed_units}
-use Rattle.spl_modules.specs.Entered.{Walk}
-use Rattle.spl_modules.specs.UnitModules.{IsUnitModules}
-use Rattle.spl_body_scopes.specs.Walks.{State, Left, first_state}
-use Rattle.spl_body_scopes.specs.Levels.{unit_level}
-use Rattle.spl_body_scopes.specs.Units.{UnitsLeft}
-use Rattle.spl_body_scopes.proofs.UnitLaws.{units_enter}
+use Rattle.spl_sound_labels.specs.spl_tree.DeclarationTrees as decl
+use Rattle.spl_sound_labels.specs.spl_tree.DeclarationTrees.{declarations}
+use Rattle.spl_sound_labels.specs.spl_meaning.Names.{find}
+use Rattle.spl_sound_labels.specs.spl_meaning.Tables.{Source, routines_of, unit_table, unit_subroutines}
+use Rattle.spl_sound_labels.specs.spl_meaning.Places.{item_words}
+use Rattle.spl_sound_labels.specs.spl_meaning.Limits.{joined}
+use Rattle.spl_sound_labels.specs.spl_places.Counters.{total_words}
+use Rattle.spl_sound_labels.specs.spl_places.Programs.{Each, NewInUnit, NewInRoutine, unit_items}
+use Rattle.spl_sound_labels.specs.spl_meaning.Bodies.{all_routines, reached_behind}
+use Rattle.spl_gen_routines.specs.spl_rooms.declared.room_type.Room.{Room}
+use Rattle.spl_gen_routines.specs.spl_rooms.Rooms.{room_within, main_room, rooms_in}
+use Rattle.spl_gen_routines.specs.spl_branch.declared.modules.Module.{Module}
+use Rattle.spl_gen_routines.specs.spl_scopes.Scopes.{Placed, unit_at, placed_units}
+use Rattle.spl_unit_codes.specs.spl_modules.Entered.{Walk}
+use Rattle.spl_unit_codes.specs.spl_modules.UnitModules.{IsUnitModules}
+use Rattle.spl_gen_routines.specs.spl_body_scopes.Walks.{State, Left, first_state}
+use Rattle.spl_gen_routines.specs.spl_body_scopes.Levels.{unit_level}
+use Rattle.spl_gen_routines.specs.spl_body_scopes.Units.{UnitsLeft}
+use Rattle.spl_gen_routines.proofs.spl_body_scopes_proofs.UnitLaws.{units_enter}
 use Rattle.spl_unit_laws.proofs.LeftSteps.{left_first, units_behind, first_of}
-use Rattle.spl_module_code.specs.Modules.{numbered, AreOfUnit, AreOf}
-use Rattle.spl_module_code.specs.Modules.{AreOf as o}
+use Rattle.spl_unit_codes.specs.spl_module_code.Modules.{numbered, AreOfUnit, AreOf}
+use Rattle.spl_unit_codes.specs.spl_module_code.Modules.{AreOf as o}
 use Rattle.spl_gen_routines.specs.Routines.{room_at}
 use Rattle.spl_unit_codes.specs.declared.growing.Growing.{Growing}
 use Rattle.spl_unit_codes.specs.Begun.{AreBegun}

@@ -4,30 +4,30 @@ use Rattle.std.specs.List.{slice_get}
 use Rattle.std.specs.Prelude.{unwrap_or}
 use Rattle.std.proofs.lemmas.Bool.{eqb-true}
 use Rattle.std.proofs.lemmas.Option.{slice_get_within, slice_get-get_or}
-use Rattle.spl_tree.specs.DeclarationTrees as decl
-use Rattle.spl_tree.specs.DeclarationTrees.{Heading, Declaration, Declarations, declarations}
-use Rattle.spl_tree.specs.StatementTrees as stat
-use Rattle.spl_meaning.specs.Stops.{declaration_stops}
-use Rattle.spl_meaning.specs.Names.{Names, Sort, Table, find, nothing_declared}
-use Rattle.spl_meaning.specs.Tables.{Routine, Subroutine, routines_among, routines_of, routine_table, routine_subroutines, subroutines_among, unit_subroutines, unit_table, with_declaration}
-use Rattle.spl_meaning.specs.Places.{list_array_words, sum}
-use Rattle.spl_meaning.specs.Limits.{joined}
-use Rattle.spl_meaning.specs.Bodies.{Body, Named, main_body}
-use Rattle.spl_places.specs.Counters.{total_words}
-use Rattle.spl_areas.specs.Gathered.{items_in}
-use Rattle.spl_rooms.specs.declared.room_type.Room.{Room}
-use Rattle.spl_rooms.specs.Rooms as r
-use Rattle.spl_rooms.specs.Rooms.{room_within, routine_room}
-use Rattle.spl_code.specs.Parts.{Part, nothing}
-use Rattle.spl_scopes.specs.Entries as callee
-use Rattle.spl_scopes.specs.Entries.{Owner, main, routine, Entry, module_entries, in_segment, inner_entry, inner_entries, declared_entries, entries_among, routines_behind}
-use Rattle.spl_scopes.specs.Scopes.{Placed, outer_body, global_places, routine_bodies}
-use Rattle.spl_modules.specs.Entered.{Walk}
-use Rattle.spl_modules.specs.UnitModules.{IsUnitModules}
-use Rattle.spl_body_scopes.specs.Walks.{State, Left, behind, globals_in}
-use Rattle.spl_body_scopes.proofs.ScopeLaws.{goes_on, made, body_next, body_left, drop_more, first_at, main_there}
-use Rattle.spl_module_code.specs.Bodies.{routine_part, subroutine_part}
-use Rattle.spl_module_code.specs.Modules.{declared_part, routine_at, inner_at, inner_with, inner_behind}
+use Rattle.spl_sound_labels.specs.spl_tree.DeclarationTrees as decl
+use Rattle.spl_sound_labels.specs.spl_tree.DeclarationTrees.{Heading, Declaration, Declarations, declarations}
+use Rattle.spl_sound_labels.specs.spl_tree.StatementTrees as stat
+use Rattle.spl_sound_labels.specs.spl_meaning.Stops.{declaration_stops}
+use Rattle.spl_sound_labels.specs.spl_meaning.Names.{Names, Sort, Table, find, nothing_declared}
+use Rattle.spl_sound_labels.specs.spl_meaning.Tables.{Routine, Subroutine, routines_among, routines_of, routine_table, routine_subroutines, subroutines_among, unit_subroutines, unit_table, with_declaration}
+use Rattle.spl_sound_labels.specs.spl_meaning.Places.{list_array_words, sum}
+use Rattle.spl_sound_labels.specs.spl_meaning.Limits.{joined}
+use Rattle.spl_sound_labels.specs.spl_meaning.Bodies.{Body, Named, main_body}
+use Rattle.spl_sound_labels.specs.spl_places.Counters.{total_words}
+use Rattle.spl_gen_routines.specs.spl_areas.Gathered.{items_in}
+use Rattle.spl_gen_routines.specs.spl_rooms.declared.room_type.Room.{Room}
+use Rattle.spl_gen_routines.specs.spl_rooms.Rooms as r
+use Rattle.spl_gen_routines.specs.spl_rooms.Rooms.{room_within, routine_room}
+use Rattle.spl_gen_routines.specs.spl_code.Parts.{Part, nothing}
+use Rattle.spl_gen_routines.specs.spl_scopes.Entries as callee
+use Rattle.spl_gen_routines.specs.spl_scopes.Entries.{Owner, main, routine, Entry, module_entries, in_segment, inner_entry, inner_entries, declared_entries, entries_among, routines_behind}
+use Rattle.spl_gen_routines.specs.spl_scopes.Scopes.{Placed, outer_body, global_places, routine_bodies}
+use Rattle.spl_unit_codes.specs.spl_modules.Entered.{Walk}
+use Rattle.spl_unit_codes.specs.spl_modules.UnitModules.{IsUnitModules}
+use Rattle.spl_gen_routines.specs.spl_body_scopes.Walks.{State, Left, behind, globals_in}
+use Rattle.spl_gen_routines.proofs.spl_body_scopes_proofs.ScopeLaws.{goes_on, made, body_next, body_left, drop_more, first_at, main_there}
+use Rattle.spl_unit_codes.specs.spl_module_code.Bodies.{routine_part, subroutine_part}
+use Rattle.spl_unit_codes.specs.spl_module_code.Modules.{declared_part, routine_at, inner_at, inner_with, inner_behind}
 use Rattle.spl_gen_routines.specs.Generates.{GeneratesFrom}
 use Rattle.spl_gen_routines.specs.Routines.{inner_count, inners_among, room_at}
 use Rattle.spl_gen_routines.proofs.OpenMarks.{one_generated, none_generated}

@@ -3,31 +3,31 @@ use Rattle.std.proofs.Common.{◌≡◌, ◌<◌, ℕ, zero, suc, ◌+◌, Bool,
 use Rattle.std.specs.List.{slice_get}
 use Rattle.std.specs.Prelude.{unwrap_or}
 use Rattle.std.proofs.lemmas.Option.{slice_get_within, slice_get-get_or}
-use Rattle.spl_tree.specs.DeclarationTrees as decl
-use Rattle.spl_tree.specs.DeclarationTrees.{Heading, Declaration, Declarations, declarations}
-use Rattle.spl_tree.specs.StatementTrees as stat
-use Rattle.spl_meaning.specs.Stops.{declaration_stops}
-use Rattle.spl_meaning.specs.Names.{Names, find, nothing_declared}
-use Rattle.spl_meaning.specs.Tables.{Routine, Subroutine, routines_among, routines_of, routine_table, subroutines_among, unit_subroutines, unit_table, with_declaration}
-use Rattle.spl_meaning.specs.Places.{array_words, list_array_words}
-use Rattle.spl_meaning.specs.Limits.{joined}
-use Rattle.spl_found.specs.OwnNames.{behind_declarations}
-use Rattle.spl_places.specs.Counters.{total_words}
-use Rattle.spl_places.specs.Programs.{routine_items}
-use Rattle.spl_places.proofs.ProgramLaws.{routine_held, array_words_held}
-use Rattle.spl_areas.specs.Gathered.{items_under}
-use Rattle.spl_rooms.specs.declared.room_type.Room.{Room}
-use Rattle.spl_rooms.specs.Rooms as r
-use Rattle.spl_rooms.specs.Rooms.{room_within}
-use Rattle.spl_code.specs.Parts.{nothing}
-use Rattle.spl_scopes.specs.Entries.{in_segment, declared_entries, routines_behind}
-use Rattle.spl_scopes.specs.Scopes.{Placed}
-use Rattle.spl_modules.specs.Entered.{Walk}
-use Rattle.spl_modules.specs.UnitModules.{IsUnitModules}
-use Rattle.spl_body_scopes.specs.Walks.{State, Left, behind, globals_in}
-use Rattle.spl_body_scopes.proofs.ScopeLaws.{goes_on, made, body_names, drop_more}
+use Rattle.spl_sound_labels.specs.spl_tree.DeclarationTrees as decl
+use Rattle.spl_sound_labels.specs.spl_tree.DeclarationTrees.{Heading, Declaration, Declarations, declarations}
+use Rattle.spl_sound_labels.specs.spl_tree.StatementTrees as stat
+use Rattle.spl_sound_labels.specs.spl_meaning.Stops.{declaration_stops}
+use Rattle.spl_sound_labels.specs.spl_meaning.Names.{Names, find, nothing_declared}
+use Rattle.spl_sound_labels.specs.spl_meaning.Tables.{Routine, Subroutine, routines_among, routines_of, routine_table, subroutines_among, unit_subroutines, unit_table, with_declaration}
+use Rattle.spl_sound_labels.specs.spl_meaning.Places.{array_words, list_array_words}
+use Rattle.spl_sound_labels.specs.spl_meaning.Limits.{joined}
+use Rattle.spl_gen_routines.specs.spl_found.OwnNames.{behind_declarations}
+use Rattle.spl_sound_labels.specs.spl_places.Counters.{total_words}
+use Rattle.spl_sound_labels.specs.spl_places.Programs.{routine_items}
+use Rattle.spl_sound_labels.proofs.spl_places_proofs.ProgramLaws.{routine_held, array_words_held}
+use Rattle.spl_gen_routines.specs.spl_areas.Gathered.{items_under}
+use Rattle.spl_gen_routines.specs.spl_rooms.declared.room_type.Room.{Room}
+use Rattle.spl_gen_routines.specs.spl_rooms.Rooms as r
+use Rattle.spl_gen_routines.specs.spl_rooms.Rooms.{room_within}
+use Rattle.spl_gen_routines.specs.spl_code.Parts.{nothing}
+use Rattle.spl_gen_routines.specs.spl_scopes.Entries.{in_segment, declared_entries, routines_behind}
+use Rattle.spl_gen_routines.specs.spl_scopes.Scopes.{Placed}
+use Rattle.spl_unit_codes.specs.spl_modules.Entered.{Walk}
+use Rattle.spl_unit_codes.specs.spl_modules.UnitModules.{IsUnitModules}
+use Rattle.spl_gen_routines.specs.spl_body_scopes.Walks.{State, Left, behind, globals_in}
+use Rattle.spl_gen_routines.proofs.spl_body_scopes_proofs.ScopeLaws.{goes_on, made, body_names, drop_more}
 use Rattle.spl_unit_laws.proofs.LeftSteps.{left_plain, left_routine}
-use Rattle.spl_module_code.specs.Modules.{declared_part, inner_behind}
+use Rattle.spl_unit_codes.specs.spl_module_code.Modules.{declared_part, inner_behind}
 use Rattle.spl_gen_routines.specs.Routines.{inners_among}
 use Rattle.spl_unit_codes.specs.declared.growing.Growing.{Growing}
 use Rattle.spl_unit_laws.specs.declared.cursors.Cursor.{Cursor}

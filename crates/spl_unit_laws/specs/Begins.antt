@@ -1,12 +1,12 @@
 -- Where the units of a program that breaks no rule begin: their data and their rooms.
 use Rattle.std.specs.Prelude.{◌≡◌, ℕ, ◌++◌, true, List, [], drop}
-use Rattle.spl_meaning.specs.Tables.{Source, routines_of, unit_subroutines}
-use Rattle.spl_meaning.specs.Limits.{joined}
-use Rattle.spl_meaning.specs.Bodies.{Reached}
-use Rattle.spl_places.specs.Programs.{Each, NewInUnit, NewInRoutine}
-use Rattle.spl_rooms.specs.declared.room_type.Room.{Room}
-use Rattle.spl_rooms.specs.Rooms.{rooms_in}
-use Rattle.spl_body_scopes.specs.Units.{UnitsLeft}
+use Rattle.spl_sound_labels.specs.spl_meaning.Tables.{Source, routines_of, unit_subroutines}
+use Rattle.spl_sound_labels.specs.spl_meaning.Limits.{joined}
+use Rattle.spl_sound_labels.specs.spl_meaning.Bodies.{Reached}
+use Rattle.spl_sound_labels.specs.spl_places.Programs.{Each, NewInUnit, NewInRoutine}
+use Rattle.spl_gen_routines.specs.spl_rooms.declared.room_type.Room.{Room}
+use Rattle.spl_gen_routines.specs.spl_rooms.Rooms.{rooms_in}
+use Rattle.spl_gen_routines.specs.spl_body_scopes.Units.{UnitsLeft}
 use Rattle.spl_unit_laws.specs.declared.cursors.Start.{Start}
 
 -- no subprogram has a subroutine

@@ -1,17 +1,17 @@
 -- What a declaration adds to the code of a unit.
 use Rattle.std.specs.Prelude.{◌≡◌, ℕ, suc, ◌+◌, Bool, true, false, nat_eq, if◌then◌else◌, List, [], ◌∷◌, ◌++◌, length, replicate, Option, Some, None}
 use Rattle.std.specs.List.{slice_get}
-use Rattle.spl_tree.specs.DeclarationTrees as decl
-use Rattle.spl_tree.specs.DeclarationTrees.{Heading, Declaration, Declarations}
-use Rattle.spl_tree.specs.StatementTrees.{Statement, statements}
-use Rattle.spl_meaning.specs.Names.{Names, nothing_declared}
-use Rattle.spl_meaning.specs.Places.{item_words, array_words}
-use Rattle.spl_meaning.specs.StatementRules.{label_faults}
-use Rattle.spl_found.specs.OwnNames.{behind_declaration}
-use Rattle.spl_places.specs.Counters.{total_words}
-use Rattle.spl_areas.specs.Gathered.{items_under}
-use Rattle.spl_body_scopes.specs.Levels.{Level, routine_level}
-use Rattle.spl_body_scopes.specs.Results.{routine_result}
+use Rattle.spl_sound_labels.specs.spl_tree.DeclarationTrees as decl
+use Rattle.spl_sound_labels.specs.spl_tree.DeclarationTrees.{Heading, Declaration, Declarations}
+use Rattle.spl_sound_labels.specs.spl_tree.StatementTrees.{Statement, statements}
+use Rattle.spl_sound_labels.specs.spl_meaning.Names.{Names, nothing_declared}
+use Rattle.spl_sound_labels.specs.spl_meaning.Places.{item_words, array_words}
+use Rattle.spl_sound_labels.specs.spl_meaning.StatementRules.{label_faults}
+use Rattle.spl_gen_routines.specs.spl_found.OwnNames.{behind_declaration}
+use Rattle.spl_sound_labels.specs.spl_places.Counters.{total_words}
+use Rattle.spl_gen_routines.specs.spl_areas.Gathered.{items_under}
+use Rattle.spl_gen_routines.specs.spl_body_scopes.Levels.{Level, routine_level}
+use Rattle.spl_gen_routines.specs.spl_body_scopes.Results.{routine_result}
 use Rattle.spl_gen_routines.specs.Generates.{AreOpen}
 use Rattle.spl_gen_routines.specs.Routines.{Around, OnceIn, OnceAmong, inners_among, room_at, InnerStands, RoutineStands}
 use Rattle.spl_unit_codes.specs.declared.growing.Growing.{Growing}

@@ -1,26 +1,26 @@
 -- The code of a unit from its beginning to its modules.
 use Rattle.std.specs.Prelude.{◌≡◌, ℕ, ◌+◌, ◌≤◌, ◌<◌, Bool, true, false, not, ◌&&◌, ◌||◌, nat_eq, nat_lt, if◌then◌else◌, List, [], ◌∷◌, ◌++◌, length, map, replicate, Option, Some, None, unwrap_or, is_some, slice_set}
 use Rattle.std.specs.List.{slice_get}
-use Rattle.spl_tree.specs.Views.{letters}
-use Rattle.spl_tree.specs.DeclarationTrees as decl
-use Rattle.spl_tree.specs.DeclarationTrees.{Declaration, Declarations, declarations}
-use Rattle.spl_tree.specs.StatementTrees.{Statement, statements}
-use Rattle.spl_meaning.specs.Names.{find, nothing_declared}
-use Rattle.spl_meaning.specs.Tables.{Source}
-use Rattle.spl_meaning.specs.Places.{item_words}
-use Rattle.spl_meaning.specs.StatementRules.{label_faults}
-use Rattle.spl_found.specs.OwnNames.{behind_declarations}
-use Rattle.spl_places.specs.Counters.{total_words}
-use Rattle.spl_places.specs.Programs.{unit_items}
-use Rattle.spl_rooms.specs.declared.room_type.Room.{Room}
-use Rattle.spl_branch.specs.declared.buffer.Code.{Code}
-use Rattle.spl_branch.specs.declared.modules.Module.{Module}
-use Rattle.spl_branch.specs.Modules.{Finished, Oversized}
-use Rattle.spl_modules.specs.Made.{Made, made_of}
-use Rattle.spl_modules.specs.Entered.{Walk, Indexes}
-use Rattle.spl_modules.specs.UnitModules.{IsUnitModules}
-use Rattle.spl_module_code.specs.Modules.{numbered}
-use Rattle.spl_body_scopes.specs.Levels.{Level, unit_level}
+use Rattle.spl_sound_labels.specs.spl_tree.Views.{letters}
+use Rattle.spl_sound_labels.specs.spl_tree.DeclarationTrees as decl
+use Rattle.spl_sound_labels.specs.spl_tree.DeclarationTrees.{Declaration, Declarations, declarations}
+use Rattle.spl_sound_labels.specs.spl_tree.StatementTrees.{Statement, statements}
+use Rattle.spl_sound_labels.specs.spl_meaning.Names.{find, nothing_declared}
+use Rattle.spl_sound_labels.specs.spl_meaning.Tables.{Source}
+use Rattle.spl_sound_labels.specs.spl_meaning.Places.{item_words}
+use Rattle.spl_sound_labels.specs.spl_meaning.StatementRules.{label_faults}
+use Rattle.spl_gen_routines.specs.spl_found.OwnNames.{behind_declarations}
+use Rattle.spl_sound_labels.specs.spl_places.Counters.{total_words}
+use Rattle.spl_sound_labels.specs.spl_places.Programs.{unit_items}
+use Rattle.spl_gen_routines.specs.spl_rooms.declared.room_type.Room.{Room}
+use Rattle.spl_gen_routines.specs.spl_branch.declared.buffer.Code.{Code}
+use Rattle.spl_gen_routines.specs.spl_branch.declared.modules.Module.{Module}
+use Rattle.spl_gen_routines.specs.spl_branch.Modules.{Finished, Oversized}
+use Rattle.spl_unit_codes.specs.spl_modules.Made.{Made, made_of}
+use Rattle.spl_unit_codes.specs.spl_modules.Entered.{Walk, Indexes}
+use Rattle.spl_unit_codes.specs.spl_modules.UnitModules.{IsUnitModules}
+use Rattle.spl_unit_codes.specs.spl_module_code.Modules.{numbered}
+use Rattle.spl_gen_routines.specs.spl_body_scopes.Levels.{Level, unit_level}
 use Rattle.spl_gen_routines.specs.Routines.{inners_among, room_at, MainBodyStands}
 use Rattle.spl_unit_codes.specs.declared.growing.Growing.{Growing}
 use Rattle.spl_unit_codes.specs.Begun.{AreBegun}

@@ -4,4 +4,5 @@
 mod declarations;
 mod units;
 
+pub use spl_statements;
 pub use units::{UnitParts, unit};

@@ -1,7 +1,7 @@
 -- The number of expressions in a list is its length.
 use Rattle.std.proofs.Common.{◌≡◌, ℕ, ◌+◌, List, [], ◌∷◌, map, length, refl, arith}
 use Rattle.spl_tree.specs.Trees.{Tree, trees}
-use Rattle.spl_meaning.specs.ExpressionRules.{count}
+use Rattle.spl_sorts.specs.spl_meaning.ExpressionRules.{count}
 
 pub count_trees : {A : Type 0} (f : A → Tree) (es : List A) → count (trees (map f es)) ≡ length es
 count_trees f [] = refl

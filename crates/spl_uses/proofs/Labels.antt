@@ -2,10 +2,10 @@
 use Rattle.std.proofs.Common.{◌≡◌, true, false, Option, Some, None, refl, sym}
 use Rattle.spl_tree.specs.Trees as tree
 use Rattle.spl_tree.specs.Trees.{Tree}
-use Rattle.spl_meaning.specs.Names as n
-use Rattle.spl_meaning.specs.Names.{Names, Sort}
-use Rattle.spl_meaning.specs.Kinds.{Operand, unknown, kind_of, named_operand}
-use Rattle.spl_meaning.specs.ExpressionRules.{is_label, is_label_name}
+use Rattle.spl_sorts.specs.spl_meaning.Names as n
+use Rattle.spl_sorts.specs.spl_meaning.Names.{Names, Sort}
+use Rattle.spl_sorts.specs.spl_meaning.Kinds.{Operand, unknown, kind_of, named_operand}
+use Rattle.spl_sorts.specs.spl_meaning.ExpressionRules.{is_label, is_label_name}
 
 unkinded : (s : Option Sort) → is_label s ≡ true → named_operand s ≡ unknown
 unkinded (Some n.label) h = refl

@@ -3,3 +3,5 @@ pub mod Labels
 pub mod Named
 pub mod Texts
 pub mod Walks
+-- Passed on from the crates below.
+pub use Rattle.spl_found.proofs as spl_found_proofs

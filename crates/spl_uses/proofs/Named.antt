@@ -9,9 +9,9 @@ use Rattle.spl_tree.specs.declared.expressions.Expr.TheFolds.{fold-roll-Expr}
 use Rattle.spl_tree.specs.Trees as tree
 use Rattle.spl_tree.specs.Trees.{Tree, Trees, trees}
 use Rattle.spl_tree.specs.Views.{letters, expression, expression_step, reference_step}
-use Rattle.spl_meaning.specs.Faults.{Fault, first_fault}
-use Rattle.spl_meaning.specs.Kinds.{callable}
-use Rattle.spl_meaning.specs.ExpressionRules.{Scope, count, name_by}
+use Rattle.spl_sorts.specs.spl_meaning.Faults.{Fault, first_fault}
+use Rattle.spl_sorts.specs.spl_meaning.Kinds.{callable}
+use Rattle.spl_sorts.specs.spl_meaning.ExpressionRules.{Scope, count, name_by}
 use Rattle.spl_found.specs.FoundExpressions.{found, found_behind}
 use Rattle.spl_uses.proofs.Counts.{count_trees}
 

@@ -2,8 +2,8 @@
 use Rattle.std.proofs.Common.{◌≡◌, ℕ, Bool, true, false, ◌&&◌, if◌then◌else◌, nat_lt, nat_le, refl}
 use Rattle.spl_tree.specs.declared.expressions.Kind.TheVariants as kind
 use Rattle.spl_tree.specs.Trees.{Tree}
-use Rattle.spl_meaning.specs.Names.{Names}
-use Rattle.spl_meaning.specs.Kinds.{Operand, of, is_byte, is_long_text, reference_kind, compares_text, kind_of, binary_operand, class_operand, class_of}
+use Rattle.spl_sorts.specs.spl_meaning.Names.{Names}
+use Rattle.spl_sorts.specs.spl_meaning.Kinds.{Operand, of, is_byte, is_long_text, reference_kind, compares_text, kind_of, binary_operand, class_operand, class_of}
 
 by_relation : (low high byte long : Bool) (x : Operand) → (low && high && byte && long) ≡ true → of kind.Logical ≡ (if high then of kind.Logical else x)
 by_relation low true byte long x h = refl

@@ -6,10 +6,10 @@ use Rattle.spl_tree.specs.declared.names_and_places.At.{At}
 use Rattle.spl_tree.specs.declared.expressions.Expr.{Expr}
 use Rattle.spl_tree.specs.Views as view
 use Rattle.spl_tree.specs.Trees.{Tree, Trees, trees, and}
-use Rattle.spl_meaning.specs.Faults.{Fault, first_fault}
-use Rattle.spl_meaning.specs.Names.{Formal}
-use Rattle.spl_meaning.specs.Pending.{first_formal, other_formals}
-use Rattle.spl_meaning.specs.ExpressionRules.{Scope, single_faults, argument_faults}
+use Rattle.spl_sorts.specs.spl_meaning.Faults.{Fault, first_fault}
+use Rattle.spl_sorts.specs.spl_meaning.Names.{Formal}
+use Rattle.spl_sorts.specs.spl_meaning.Pending.{first_formal, other_formals}
+use Rattle.spl_sorts.specs.spl_meaning.ExpressionRules.{Scope, single_faults, argument_faults}
 use Rattle.spl_found.specs.FoundExpressions.{found, found_own, found_indices, found_arguments}
 
 -- a list from one of its elements on

@@ -3,8 +3,8 @@ use Rattle.std.specs.Prelude.{ℕ, Bool, true, if◌then◌else◌, List, [], �
 use Rattle.std.specs.Borrow.{Bor}
 use Rattle.spl_tree.specs.declared.names_and_places.Name.{Name}
 use Rattle.spl_tree.specs.Views.{letters}
-use Rattle.spl_meaning.specs.Names as n
-use Rattle.spl_meaning.specs.ExpressionRules as rules
+use Rattle.spl_sorts.specs.spl_meaning.Names as n
+use Rattle.spl_sorts.specs.spl_meaning.ExpressionRules as rules
 use Rattle.spl_sorts.specs.Tables.{table_of, names_of}
 use Rattle.spl_uses.specs.declared.scopes.Scope.{Scope}
 

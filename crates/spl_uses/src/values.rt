@@ -1,10 +1,10 @@
 //! The rules of values for a place, where it is known what the value is.
 ghost use Rattle.std.specs.Prelude.{◌≡◌, option_map};
 ghost use Rattle.spl_tree.specs.Views as view;
-ghost use Rattle.spl_meaning.specs.Faults.{first_fault};
-ghost use Rattle.spl_meaning.specs.Kinds as kinds;
-ghost use Rattle.spl_meaning.specs.Kinds.{kind_of};
-ghost use Rattle.spl_meaning.specs.ExpressionRules as rules;
+ghost use Rattle.spl_sorts.specs.spl_meaning.Faults.{first_fault};
+ghost use Rattle.spl_sorts.specs.spl_meaning.Kinds as kinds;
+ghost use Rattle.spl_sorts.specs.spl_meaning.Kinds.{kind_of};
+ghost use Rattle.spl_sorts.specs.spl_meaning.ExpressionRules as rules;
 ghost use Rattle.spl_sorts.specs.Sorts.{operand_of};
 ghost use Rattle.spl_sorts.specs.Profiles.{formal_of};
 ghost use Rattle.spl_sorts.specs.Tables.{names_of};

@@ -3,24 +3,24 @@ use Rattle.std.proofs.Common.{◌≡◌, ℕ, ◌+◌, ◌-◌, ◌*◌, ◌/◌
 use Rattle.std.specs.Prelude.{◌^◌, nat_lt, if◌then◌else◌, bit_or}
 use Rattle.std.proofs.lemmas.Bool.{ltb-true}
 use Rattle.std.proofs.lemmas.Nat.{or_shifted}
-use Rattle.hp_word.specs.Bits.{shifted}
-use Rattle.hp_word.proofs.ShiftLemmas.{shifted-Lsl}
-use Rattle.hp_instr.specs.declared.instruction.Instr.TheVariants as i
-use Rattle.hp_session.specs.State.{Machine, word}
-use Rattle.hp_word_rows.specs.WordRows.{minus, shift_of, shifting, immediate_row}
-use Rattle.hp_flat.specs.Step.{at_left}
+use Rattle.hp_yields.specs.hp_word.Bits.{shifted}
+use Rattle.hp_yields.proofs.hp_word_proofs.ShiftLemmas.{shifted-Lsl}
+use Rattle.hp_yields.specs.hp_instr.declared.instruction.Instr.TheVariants as i
+use Rattle.hp_yields.specs.hp_session.State.{Machine, word}
+use Rattle.hp_yields.specs.hp_word_rows.WordRows.{minus, shift_of, shifting, immediate_row}
+use Rattle.hp_yields.specs.hp_flat.Step.{at_left}
 use Rattle.hp_yields.proofs.WordYields as rows
-use Rattle.spl_meaning.specs.References.{Setting}
-use Rattle.spl_meaning.specs.States.{Data, State, done}
-use Rattle.spl_code.specs.Code.{as_value}
-use Rattle.spl_code.specs.Instructions.{LDI, LDNI, LSL, ORI}
-use Rattle.spl_code.specs.Parts.{pieces}
-use Rattle.spl_follow.specs.Spots.{Spot, on}
-use Rattle.spl_follow.specs.Matching.{IsValue}
-use Rattle.spl_follow.specs.Doing.{doing}
-use Rattle.spl_follow.specs.Yielding.{Yields}
-use Rattle.spl_follow.specs.Simulating.{Simulates}
-use Rattle.spl_follow.proofs.KeepLemmas.{value_word}
+use Rattle.hp_yields.specs.spl_meaning.References.{Setting}
+use Rattle.hp_yields.specs.spl_meaning.States.{Data, State, done}
+use Rattle.hp_yields.specs.spl_code.Code.{as_value}
+use Rattle.hp_yields.specs.spl_code.Instructions.{LDI, LDNI, LSL, ORI}
+use Rattle.hp_yields.specs.spl_code.Parts.{pieces}
+use Rattle.hp_yields.specs.spl_follow.Spots.{Spot, on}
+use Rattle.hp_yields.specs.spl_follow.Matching.{IsValue}
+use Rattle.hp_yields.specs.spl_follow.Doing.{doing}
+use Rattle.hp_yields.specs.spl_follow.Yielding.{Yields}
+use Rattle.hp_yields.specs.spl_follow.Simulating.{Simulates}
+use Rattle.hp_yields.proofs.spl_follow_proofs.KeepLemmas.{value_word}
 use Rattle.spl_values.specs.Laws.{ConstantsSimulate}
 use Rattle.spl_values.proofs.GiveLemmas.{last_leads, ready_room, row_gives, row_behind}
 

@@ -1,22 +1,22 @@
 -- What a row that leaves one word gives: where a part is ready, and behind words that wait on top.
 use Rattle.std.proofs.Common.{◌≡◌, ℕ, ◌+◌, ◌-◌, ◌<◌, ◌≤◌, List, [], ◌∷◌, length, refl, ap, subst, arith}
-use Rattle.hp_instr.specs.declared.instruction.Instr.{Instr}
-use Rattle.hp_session.specs.State.{Machine, Outcome as Row}
-use Rattle.spl_branch.specs.declared.pieces.Piece.TheVariants.{Do}
-use Rattle.spl_meaning.specs.References.{Setting}
-use Rattle.spl_meaning.specs.States.{Data, State, Begun, done}
-use Rattle.spl_code.specs.Code.{as_value}
-use Rattle.spl_follow.specs.Spots.{Spot, pos, Point, on, Ground}
-use Rattle.spl_follow.specs.Leading.{Leads}
-use Rattle.spl_follow.specs.Matching.{Outer, Matched, IsValue}
-use Rattle.spl_follow.specs.Following.{Rate, tally, tally_with, Follows, NoExit}
-use Rattle.spl_follow.specs.Doing.{going, doing}
-use Rattle.spl_follow.specs.Standing.{Sites, Stands}
-use Rattle.spl_follow.specs.Yielding.{Yields}
-use Rattle.spl_follow.specs.Parts.{Ready, Gives}
-use Rattle.spl_follow.proofs.FollowLemmas.{widen, then_follows}
-use Rattle.spl_follow.proofs.KeepLemmas.{kept_same}
-use Rattle.spl_follow.proofs.RowLemmas.{row_value}
+use Rattle.hp_yields.specs.hp_instr.declared.instruction.Instr.{Instr}
+use Rattle.hp_yields.specs.hp_session.State.{Machine, Outcome as Row}
+use Rattle.hp_yields.specs.spl_branch.declared.pieces.Piece.TheVariants.{Do}
+use Rattle.hp_yields.specs.spl_meaning.References.{Setting}
+use Rattle.hp_yields.specs.spl_meaning.States.{Data, State, Begun, done}
+use Rattle.hp_yields.specs.spl_code.Code.{as_value}
+use Rattle.hp_yields.specs.spl_follow.Spots.{Spot, pos, Point, on, Ground}
+use Rattle.hp_yields.specs.spl_follow.Leading.{Leads}
+use Rattle.hp_yields.specs.spl_follow.Matching.{Outer, Matched, IsValue}
+use Rattle.hp_yields.specs.spl_follow.Following.{Rate, tally, tally_with, Follows, NoExit}
+use Rattle.hp_yields.specs.spl_follow.Doing.{going, doing}
+use Rattle.hp_yields.specs.spl_follow.Standing.{Sites, Stands}
+use Rattle.hp_yields.specs.spl_follow.Yielding.{Yields}
+use Rattle.hp_yields.specs.spl_follow.Parts.{Ready, Gives}
+use Rattle.hp_yields.proofs.spl_follow_proofs.FollowLemmas.{widen, then_follows}
+use Rattle.hp_yields.proofs.spl_follow_proofs.KeepLemmas.{kept_same}
+use Rattle.hp_yields.proofs.spl_follow_proofs.RowLemmas.{row_value}
 
 -- the last instruction leads to the end
 pub last_leads : (g : Ground) (sites : Sites) (p : Point) (by : Instr) (q : Spot) → Stands g sites p (Do by ∷ []) q

@@ -4,37 +4,37 @@ use Rattle.std.specs.Prelude.{◌==◌, ◌||◌, if◌then◌else◌}
 use Rattle.std.proofs.lemmas.Bool.{eqb-true, false≢true}
 use Rattle.std.proofs.lemmas.List.{append_assoc}
 use Rattle.std.proofs.Math.Logic.{⊎_elim}
-use Rattle.hp_word.specs.declared.arithmetic.Arith.{Arith}
-use Rattle.hp_word.specs.declared.endings.Trap.TheVariants.{IntegerOverflow}
-use Rattle.hp_word.specs.Words.{added, subtracted, logically_added, logically_subtracted, word_result}
-use Rattle.hp_word.proofs.WordLaws.{word_of-below}
-use Rattle.hp_instr.specs.declared.instruction.Instr.TheVariants as i
-use Rattle.hp_instr.specs.Instructions.{op}
-use Rattle.hp_session.specs.State.{Machine, word}
-use Rattle.hp_stack_rows.specs.StackRows.{operated}
+use Rattle.hp_yields.specs.hp_word.declared.arithmetic.Arith.{Arith}
+use Rattle.hp_yields.specs.hp_word.declared.endings.Trap.TheVariants.{IntegerOverflow}
+use Rattle.hp_yields.specs.hp_word.Words.{added, subtracted, logically_added, logically_subtracted, word_result}
+use Rattle.hp_yields.proofs.hp_word_proofs.WordLaws.{word_of-below}
+use Rattle.hp_yields.specs.hp_instr.declared.instruction.Instr.TheVariants as i
+use Rattle.hp_yields.specs.hp_instr.Instructions.{op}
+use Rattle.hp_yields.specs.hp_session.State.{Machine, word}
+use Rattle.hp_yields.specs.hp_stack_rows.StackRows.{operated}
 use Rattle.hp_yields.specs.Rows.{Settles}
 use Rattle.hp_yields.proofs.StackYields as rows
-use Rattle.spl_branch.specs.declared.pieces.Piece.TheVariants.{Do}
-use Rattle.spl_meaning.specs.Kinds.{Class, integers, logicals, doubles, mixed, plus, minus}
-use Rattle.spl_meaning.specs.Laws.{IsFront}
-use Rattle.spl_meaning.specs.Operations.{word_done, by_class}
-use Rattle.spl_meaning.specs.References.{Setting}
-use Rattle.spl_meaning.specs.States.{Data, State, Begun, Outcome, done, ends, trapped, then_go}
-use Rattle.spl_code.specs.Code.{as_value}
-use Rattle.spl_code.specs.Operators.{class_operator}
-use Rattle.spl_code.specs.Parts.{Part, Wanted, pieces, ◌⨟◌}
-use Rattle.spl_follow.specs.Spots.{Spot, pos, Point, on, Ground}
-use Rattle.spl_follow.specs.Leading.{Leads}
-use Rattle.spl_follow.specs.Matching.{IsValue}
-use Rattle.spl_follow.specs.Following.{Rate, tally, tally_with, Follows, NoExit}
-use Rattle.spl_follow.specs.Doing.{doing}
-use Rattle.spl_follow.specs.Yielding.{Yields}
-use Rattle.spl_follow.specs.Parts.{Gives}
-use Rattle.spl_follow.specs.Simulating.{Surroundings, Simulates}
-use Rattle.spl_follow.proofs.FollowLemmas.{bind_follows}
-use Rattle.spl_follow.proofs.StandLemmas.{closed_last}
-use Rattle.spl_follow.proofs.KeepLemmas.{values_join, value_word, value_ready}
-use Rattle.spl_follow.proofs.PartLemmas.{stand_in_order, rows_trap}
+use Rattle.hp_yields.specs.spl_branch.declared.pieces.Piece.TheVariants.{Do}
+use Rattle.hp_yields.specs.spl_meaning.Kinds.{Class, integers, logicals, doubles, mixed, plus, minus}
+use Rattle.hp_yields.specs.spl_meaning.Laws.{IsFront}
+use Rattle.hp_yields.specs.spl_meaning.Operations.{word_done, by_class}
+use Rattle.hp_yields.specs.spl_meaning.References.{Setting}
+use Rattle.hp_yields.specs.spl_meaning.States.{Data, State, Begun, Outcome, done, ends, trapped, then_go}
+use Rattle.hp_yields.specs.spl_code.Code.{as_value}
+use Rattle.hp_yields.specs.spl_code.Operators.{class_operator}
+use Rattle.hp_yields.specs.spl_code.Parts.{Part, Wanted, pieces, ◌⨟◌}
+use Rattle.hp_yields.specs.spl_follow.Spots.{Spot, pos, Point, on, Ground}
+use Rattle.hp_yields.specs.spl_follow.Leading.{Leads}
+use Rattle.hp_yields.specs.spl_follow.Matching.{IsValue}
+use Rattle.hp_yields.specs.spl_follow.Following.{Rate, tally, tally_with, Follows, NoExit}
+use Rattle.hp_yields.specs.spl_follow.Doing.{doing}
+use Rattle.hp_yields.specs.spl_follow.Yielding.{Yields}
+use Rattle.hp_yields.specs.spl_follow.Parts.{Gives}
+use Rattle.hp_yields.specs.spl_follow.Simulating.{Surroundings, Simulates}
+use Rattle.hp_yields.proofs.spl_follow_proofs.FollowLemmas.{bind_follows}
+use Rattle.hp_yields.proofs.spl_follow_proofs.StandLemmas.{closed_last}
+use Rattle.hp_yields.proofs.spl_follow_proofs.KeepLemmas.{values_join, value_word, value_ready}
+use Rattle.hp_yields.proofs.spl_follow_proofs.PartLemmas.{stand_in_order, rows_trap}
 use Rattle.spl_values.specs.Reached.{is_sum, is_word_class, IsWhole}
 use Rattle.spl_values.specs.Laws.{SumsSimulate}
 use Rattle.spl_values.proofs.GiveLemmas.{last_leads, value_row}

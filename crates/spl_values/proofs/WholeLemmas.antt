@@ -1,16 +1,16 @@
 -- Parts of code: whole ones, put together; and parts that simulate what others do.
 use Rattle.std.proofs.Common.{◌≡◌, ℕ, suc, ◌+◌, true, List, [], ◌∷◌, ◌++◌, refl, sym, ap, subst, ◌∙◌}
 use Rattle.std.proofs.lemmas.List.{append-nil}
-use Rattle.spl_branch.specs.declared.pieces.Piece.{Piece}
-use Rattle.spl_branch.specs.declared.pieces.Piece.TheVariants.{Mark}
-use Rattle.spl_meaning.specs.Laws.{IsFront}
-use Rattle.spl_meaning.specs.States.{State, Outcome, done, leaves, spent, ends, strays, then_go}
-use Rattle.spl_code.specs.Parts.{Part, pieces, piece, nothing, ◌⨟◌, with_fresh}
-use Rattle.spl_code.specs.Code.{Aim}
-use Rattle.spl_follow.specs.Standing.{Stands, IsClosed, due_after}
-use Rattle.spl_follow.specs.Parts.{Gives}
-use Rattle.spl_follow.specs.Simulating.{Surroundings, Simulates}
-use Rattle.spl_follow.proofs.StandLemmas.{closed_last, due_add}
+use Rattle.hp_yields.specs.spl_branch.declared.pieces.Piece.{Piece}
+use Rattle.hp_yields.specs.spl_branch.declared.pieces.Piece.TheVariants.{Mark}
+use Rattle.hp_yields.specs.spl_meaning.Laws.{IsFront}
+use Rattle.hp_yields.specs.spl_meaning.States.{State, Outcome, done, leaves, spent, ends, strays, then_go}
+use Rattle.hp_yields.specs.spl_code.Parts.{Part, pieces, piece, nothing, ◌⨟◌, with_fresh}
+use Rattle.hp_yields.specs.spl_code.Code.{Aim}
+use Rattle.hp_yields.specs.spl_follow.Standing.{Stands, IsClosed, due_after}
+use Rattle.hp_yields.specs.spl_follow.Parts.{Gives}
+use Rattle.hp_yields.specs.spl_follow.Simulating.{Surroundings, Simulates}
+use Rattle.hp_yields.proofs.spl_follow_proofs.StandLemmas.{closed_last, due_add}
 use Rattle.spl_values.specs.Reached.{IsWhole}
 use Rattle.spl_values.proofs.SumLemmas.{front_on}
 

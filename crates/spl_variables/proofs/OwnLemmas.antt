@@ -1,33 +1,33 @@
 -- Variables by their own words: where their operands are, and what is read and stored there.
-use Rattle.std.proofs.Common.{◌≡◌, ℕ, ◌+◌, ◌*◌, ◌-◌, ◌%◌, ◌<◌, ◌≤◌, Bool, true, false, List, [], ◌∷◌, refl, sym, ap, subst, ◌∙◌, arith}
-use Rattle.std.specs.Prelude.{Some, None, not, nat_lt, nat_le}
-use Rattle.std.proofs.lemmas.Bool.{ltb-true, leb-true, false≢true}
-use Rattle.hp_instr.specs.declared.instruction.Mode.{Mode}
-use Rattle.hp_session.specs.State.{Machine}
-use Rattle.hp_session.specs.declared.places.Place.{Place as Operand}
-use Rattle.hp_session.specs.declared.places.Place.TheVariants.{Db, Stack}
-use Rattle.hp_session.specs.Places.{address, base, moved, first_byte, operand, byte_operand}
-use Rattle.hp_yields.specs.Rows.{Sided}
-use Rattle.spl_tree.specs.declared.names_and_places.At.{At}
-use Rattle.spl_tree.specs.declared.expressions.Kind.{Kind}
-use Rattle.spl_tree.specs.declared.expressions.Kind.TheVariants as kind
-use Rattle.spl_branch.specs.declared.pieces.Piece.{Piece}
-use Rattle.spl_branch.specs.declared.pieces.Piece.TheVariants.{Do, Begin}
-use Rattle.spl_meaning.specs.Kinds.{width}
-use Rattle.spl_meaning.specs.Operations.{kept}
-use Rattle.spl_meaning.specs.Places.{Place, data_word, above_base, below_base, below_return}
-use Rattle.spl_meaning.specs.References.{Setting, its_own, address_of, variable_address, variable_located, own_located, read, store}
-use Rattle.spl_meaning.specs.States.{Data, State, Outcome, then_go, stopping}
-use Rattle.spl_code.specs.Code.{as_value}
-use Rattle.spl_code.specs.Operands.{mode_of, loaded}
-use Rattle.spl_code.specs.Stores.{from_top, own_stored}
-use Rattle.spl_code.specs.Parts.{Part, pieces, piece, nothing, ◌⨟◌}
-use Rattle.spl_follow.specs.Matching.{Matched}
-use Rattle.spl_follow.specs.Simulating.{Surroundings, Simulates, Performs}
-use Rattle.spl_values.specs.Reached.{is_reached, IsWhole}
-use Rattle.spl_values.proofs.VariableLemmas.{both}
+use Rattle.std.proofs.Common.{◌≡◌, ℕ, ◌+◌, ◌*◌, ◌%◌, ◌<◌, ◌≤◌, Bool, true, false, List, [], ◌∷◌, refl, sym, subst, ◌∙◌, arith}
+use Rattle.std.specs.Prelude.{Some, None, not, nat_lt}
+use Rattle.std.proofs.lemmas.Bool.{ltb-true, false≢true}
+use Rattle.spl_operands.specs.hp_instr.declared.instruction.Mode.{Mode}
+use Rattle.spl_operands.specs.hp_session.State.{Machine}
+use Rattle.spl_operands.specs.hp_session.declared.places.Place.{Place as Operand}
+use Rattle.spl_operands.specs.hp_session.declared.places.Place.TheVariants.{Db, Stack}
+use Rattle.spl_operands.specs.hp_session.Places.{address, base, moved, first_byte, operand, byte_operand}
+use Rattle.spl_operands.specs.hp_yields.Rows.{Sided}
+use Rattle.spl_operands.specs.spl_tree.declared.expressions.Kind.{Kind}
+use Rattle.spl_operands.specs.spl_tree.declared.expressions.Kind.TheVariants as kind
+use Rattle.spl_operands.specs.spl_branch.declared.pieces.Piece.{Piece}
+use Rattle.spl_operands.specs.spl_branch.declared.pieces.Piece.TheVariants.{Do, Begin}
+use Rattle.spl_operands.specs.spl_meaning.Kinds.{width}
+use Rattle.spl_operands.specs.spl_meaning.Operations.{kept}
+use Rattle.spl_operands.specs.spl_meaning.Places.{Place, data_word, above_base, below_base, below_return}
+use Rattle.spl_operands.specs.spl_meaning.References.{Setting, its_own, address_of, variable_address, variable_located, own_located, read, store}
+use Rattle.spl_operands.specs.spl_meaning.States.{Data, State, Outcome, then_go, stopping}
+use Rattle.spl_operands.specs.spl_code.Code.{as_value}
+use Rattle.spl_operands.specs.spl_code.Operands.{mode_of, loaded}
+use Rattle.spl_operands.specs.spl_code.Stores.{from_top, own_stored}
+use Rattle.spl_operands.specs.spl_code.Parts.{pieces, piece, nothing, ◌⨟◌}
+use Rattle.spl_operands.specs.spl_follow.Matching.{Matched}
+use Rattle.spl_operands.specs.spl_follow.Simulating.{Simulates, Performs}
+use Rattle.spl_operands.specs.spl_values.Reached.{is_reached, is_seen}
+use Rattle.spl_operands.proofs.spl_values_proofs.VariableLemmas.{both}
 use Rattle.spl_operands.specs.Operands.{Based, Finds, Refers}
 use Rattle.spl_operands.proofs.OperandLemmas.{place_based, moved_address, moved_side}
+use Rattle.spl_operands.proofs.SeenLemmas.{below_is, below_low, seen_based}
 use Rattle.spl_operands.proofs.LoadLemmas.{loading}
 use Rattle.spl_operands.proofs.ReadLemmas.{reference_gives}
 use Rattle.spl_operands.proofs.StoreLemmas.{storing}
@@ -54,6 +54,13 @@ place_low st d k j (below_base n) m e x =
     let least = x.lies.least in
     omega (arith, live, within, least)
 place_low st d k j (below_return n) m e x = absurd (false≢true e)
+
+-- and so it is of one that is seen
+pub seen_low : (st : Setting) (d : Data) (k : ℕ) (place : Place) (m : Machine) → is_seen st k place ≡ true → Matched st d m k → address_of place d < 32768
+seen_low st d k (data_word a) m e x = place_low st d k k (data_word a) m e x
+seen_low st d k (above_base n) m e x = place_low st d k k (above_base n) m e x
+seen_low st d k (below_base n) m e x = place_low st d k k (below_base n) m e x
+seen_low st d k (below_return n) m e x = let low = below_low st d k k n m (below_is st k n e) x in omega (arith, low)
 
 -- the first byte of a word
 byte_address : (place : Operand) → address (first_byte place) ≡ 2 * address place % 65536
@@ -100,6 +107,12 @@ pub own_refers : (st : Setting) (t : Kind) (k j : ℕ) (place : Place) (s : Stat
 own_refers st t k j place s m reached matches =
     (refl, refl, own_finds t (mode_of k place) (address_of place s.now) m (place_based st s.now k j place m reached matches) (place_low st s.now k j place m reached matches))
 
+-- So it is where a place is seen, while exactly those words wait.
+pub seen_own_refers : (st : Setting) (t : Kind) (k : ℕ) (place : Place) (s : State) (m : Machine) → is_seen st k place ≡ true → Matched st s.now m k
+    → s.now.top + k ≤ s.now.stack → Refers t (mode_of k place) false false s m (own_located t (Some place) None s)
+seen_own_refers st t k place s m seen matches room =
+    (refl, refl, own_finds t (mode_of k place) (address_of place s.now) m (seen_based st s.now k place m seen matches room) (seen_low st s.now k place m seen matches))
+
 -- ---- reads
 
 -- the load of a kind is its instruction
@@ -110,9 +123,9 @@ own_load kind.Byte mode = refl
 own_load kind.Double mode = refl
 
 pub own_words_give : OwnWordsSimulate
-own_words_give z d k need t place reached enough =
+own_words_give z d k need t place seen enough =
     subst (λ (ps : List Piece). Simulates z d as_value (width t) k need (pieces ps) (λ s. read (variable_located t (address_of place s.now)) s)) (own_load t (mode_of k place))
-    (reference_gives z d k need t (mode_of k place) false (λ s. own_located t (Some place) None s) enough (λ s m matches room. own_refers z.setting t k k place s m reached matches))
+    (reference_gives z d k need t (mode_of k place) false (λ s. own_located t (Some place) None s) enough (λ s m matches room. seen_own_refers z.setting t k place s m seen matches room))
 
 -- ---- stores
 

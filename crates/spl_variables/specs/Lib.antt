@@ -1,2 +1,17 @@
 -- In reading order.
 pub mod Laws
+-- Passed on from the crates below.
+pub use Rattle.spl_operands.specs.hp_flat
+pub use Rattle.spl_operands.specs.hp_instr
+pub use Rattle.spl_operands.specs.hp_memory_rows
+pub use Rattle.spl_operands.specs.hp_session
+pub use Rattle.spl_operands.specs.hp_word
+pub use Rattle.spl_operands.specs.hp_word_rows
+pub use Rattle.spl_operands.specs.spl_branch
+pub use Rattle.spl_operands.specs.spl_code
+pub use Rattle.spl_operands.specs.spl_follow
+pub use Rattle.spl_operands.specs.spl_frames
+pub use Rattle.spl_operands.specs.spl_meaning
+pub use Rattle.spl_operands.specs as spl_operands
+pub use Rattle.spl_operands.specs.spl_tree
+pub use Rattle.spl_operands.specs.spl_values

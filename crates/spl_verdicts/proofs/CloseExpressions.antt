@@ -1,15 +1,15 @@
 -- Behind an expression or a condition that is spelled no token is refused: it is read there, or reading goes on.
 use Rattle.std.proofs.Common.{ℕ, suc, ◌+◌, ◌/◌, ◌≡◌, ◌==◌, ◌&&◌, not, ◌<◌, ◌≤◌, Bool, true, false, List, [], ◌∷◌, length, Option, Some, None, if◌then◌else◌, refl, arith, ap, inr}
 use Rattle.std.proofs.lemmas.Bool.Decides.{nat_tests}
-use Rattle.spl_tree.specs.declared.names_and_places.At.{At}
-use Rattle.spl_tree.specs.declared.symbols.Symbol.{Symbol}
-use Rattle.spl_tree.specs.declared.symbols.Symbol.TheVariants as s
-use Rattle.spl_tree.specs.Symbols.{Lexeme, Is}
-use Rattle.spl_tree.specs.Operators.{Form, comparison, other, compared, bytes_of, binds, is_sign, sign_number, is_number, shift_of}
-use Rattle.spl_tree.specs.Expressions as g
-use Rattle.spl_tree.specs.Trees as tree
-use Rattle.spl_reading.specs.Readers.{Got, pure, same_symbol, symbol_number}
-use Rattle.spl_reading.specs.ReadExpressions.{Found, is, is_comparison, operator_of, counted, signed_by_next, first, join, shifted, bytes, turn, turn_by, level, unary, expression, condition, whole}
+use Rattle.spl_grammar.specs.spl_tree.declared.names_and_places.At.{At}
+use Rattle.spl_grammar.specs.spl_tree.declared.symbols.Symbol.{Symbol}
+use Rattle.spl_grammar.specs.spl_tree.declared.symbols.Symbol.TheVariants as s
+use Rattle.spl_grammar.specs.spl_tree.Symbols.{Lexeme, Is}
+use Rattle.spl_grammar.specs.spl_tree.Operators.{Form, comparison, other, compared, bytes_of, binds, is_sign, sign_number, is_number, shift_of}
+use Rattle.spl_grammar.specs.spl_tree.Expressions as g
+use Rattle.spl_grammar.specs.spl_tree.Trees as tree
+use Rattle.spl_grammar.specs.spl_reading.Readers.{Got, pure, same_symbol, symbol_number}
+use Rattle.spl_grammar.specs.spl_reading.ReadExpressions.{Found, is, is_comparison, operator_of, counted, signed_by_next, first, join, shifted, bytes, turn, turn_by, level, unary, expression, condition, whole}
 use Rattle.spl_grammar.proofs.LocalReaders.{IsLocal, Taking, local_pure, locals, local_repeat}
 use Rattle.spl_grammar.proofs.LocalExpressions.{local_constant, local_opening, local_level, local_turn, takes_turn, local_unary}
 use Rattle.spl_grammar.proofs.NearReaders.{near_to, near_then, near_pure, near_take, near_place, near_symbol, near_if, near_else, near_expect, near_allowed, near_numbered}

@@ -1,16 +1,16 @@
 -- Behind an operand that is spelled no token is refused: it is read there, or reading goes on.
 use Rattle.std.proofs.Common.{ℕ, zero, suc, ◌≡◌, ◌<◌, Bool, true, false, List, [], ◌∷◌, length, Option, Some, None, if◌then◌else◌, refl, arith, ap, nat_lt}
 use Rattle.std.proofs.lemmas.Bool.Decides.{nat_tests}
-use Rattle.spl_tree.specs.declared.names_and_places.At.{At}
-use Rattle.spl_tree.specs.declared.expressions.Kind.{Kind}
-use Rattle.spl_tree.specs.declared.symbols.Symbol.{Symbol}
-use Rattle.spl_tree.specs.declared.symbols.Symbol.TheVariants as s
-use Rattle.spl_tree.specs.Symbols.{Lexeme, Is}
-use Rattle.spl_tree.specs.Operators.{Form, reference, other, form_of_call}
-use Rattle.spl_tree.specs.Expressions as g
-use Rattle.spl_tree.specs.Trees as tree
-use Rattle.spl_reading.specs.Readers.{Got, Parser, by_symbol, expect, followed, pure, same_symbol, symbol_number}
-use Rattle.spl_reading.specs.ReadExpressions.{Found, plain, is, bits, field, negative_by, opening, enter, enclosed, arguments, named, addressed, primary_by, inverse, primary, unary_step, unary, within}
+use Rattle.spl_grammar.specs.spl_tree.declared.names_and_places.At.{At}
+use Rattle.spl_grammar.specs.spl_tree.declared.expressions.Kind.{Kind}
+use Rattle.spl_grammar.specs.spl_tree.declared.symbols.Symbol.{Symbol}
+use Rattle.spl_grammar.specs.spl_tree.declared.symbols.Symbol.TheVariants as s
+use Rattle.spl_grammar.specs.spl_tree.Symbols.{Lexeme, Is}
+use Rattle.spl_grammar.specs.spl_tree.Operators.{Form, reference, other, form_of_call}
+use Rattle.spl_grammar.specs.spl_tree.Expressions as g
+use Rattle.spl_grammar.specs.spl_tree.Trees as tree
+use Rattle.spl_grammar.specs.spl_reading.Readers.{Got, Parser, by_symbol, expect, followed, pure, same_symbol, symbol_number}
+use Rattle.spl_grammar.specs.spl_reading.ReadExpressions.{Found, plain, is, bits, field, negative_by, opening, enter, enclosed, arguments, named, addressed, primary_by, inverse, primary, unary_step, unary, within}
 use Rattle.spl_grammar.proofs.LocalReaders.{IsLocal, local_refuse, local_pure, local_then, local_repeat, locals}
 use Rattle.spl_grammar.proofs.LocalExpressions.{local_constant, local_field, local_more, local_within, local_unary, takes_more}
 use Rattle.spl_grammar.proofs.NearReaders.{Near, near_from, near_then, near_pure, near_take, near_place, near_symbol, near_head, near_if, near_else, near_expect, same_self}

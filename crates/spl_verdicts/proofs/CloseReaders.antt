@@ -2,9 +2,9 @@
 -- not
 -- refused.
 use Rattle.std.proofs.Common.{ℕ, zero, suc, ◌≡◌, ◌<◌, ◌≤◌, Bool, true, false, List, ◌∷◌, length, if◌then◌else◌, refl, arith, ap, ◌⊎◌, inl, inr}
-use Rattle.spl_tree.specs.declared.symbols.Symbol.{Symbol}
-use Rattle.spl_tree.specs.Symbols.{Lexeme, Is}
-use Rattle.spl_reading.specs.Readers.{Outcome, Got, Bad, Deep, Parser, and_then, followed, pure, by_symbol, take, allowed, turns, repeat}
+use Rattle.spl_grammar.specs.spl_tree.declared.symbols.Symbol.{Symbol}
+use Rattle.spl_grammar.specs.spl_tree.Symbols.{Lexeme, Is}
+use Rattle.spl_grammar.specs.spl_reading.Readers.{Outcome, Got, Bad, Deep, Parser, and_then, followed, pure, by_symbol, take, allowed, turns, repeat}
 use Rattle.spl_grammar.proofs.LocalReaders.{IsLocal, end_of, Taking, turns_enough, local_refuse, local_pure, local_then, local_if}
 use Rattle.spl_grammar.proofs.NearReaders.{DeepBefore, deep, Near}
 

@@ -1,11 +1,11 @@
 -- Chains of an expression or a condition, and what is left of a list.
 use Rattle.std.proofs.Common.{ℕ, ◌≡◌, ◌<◌, ◌≤◌, Bool, true, false, List, [], ◌∷◌, ◌++◌, length, refl, arith, ap, nat_lt}
 use Rattle.std.proofs.lemmas.Bool.Decides.{nat_tests}
-use Rattle.spl_tree.specs.declared.symbols.Symbol.TheVariants as s
-use Rattle.spl_tree.specs.Symbols.{Lexeme, Is}
-use Rattle.spl_tree.specs.OpenExpressions as op
-use Rattle.spl_tree.specs.OpenExpressions.{Part, Opens, OpensAt}
-use Rattle.spl_tree.specs.Trees.{Tree}
+use Rattle.spl_grammar.specs.spl_tree.declared.symbols.Symbol.TheVariants as s
+use Rattle.spl_grammar.specs.spl_tree.Symbols.{Lexeme, Is}
+use Rattle.spl_grammar.specs.spl_tree.OpenExpressions as op
+use Rattle.spl_grammar.specs.spl_tree.OpenExpressions.{Part, Opens, OpensAt}
+use Rattle.spl_grammar.specs.spl_tree.Trees.{Tree}
 use Rattle.spl_grammar.specs.Answers.{Agrees, here, there}
 use Rattle.spl_grammar.specs.Ends.{is_stop, Ended, last, before}
 use Rattle.spl_grammar.proofs.LocalReaders.{Left, entire, cut}

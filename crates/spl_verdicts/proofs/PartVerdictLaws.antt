@@ -5,11 +5,11 @@
 -- 3. of two verdicts neither place is before the other                (one_verdict)
 -- 4. each answer is a verdict                      (verdict_by)
 use Rattle.std.proofs.Common.{ℕ, ◌≡◌, ◌+◌, ◌<◌, ◌≤◌, Bool, true, false, List, [], ◌∷◌, length, refl, arith, ap, sym, ◌∙◌, ◌⊎◌, inl, inr}
-use Rattle.spl_tree.specs.declared.symbols.Symbol.TheVariants as s
-use Rattle.spl_tree.specs.Symbols.{Lexeme}
-use Rattle.spl_tree.specs.OpenExpressions.{OpensAt, limit, nesting}
-use Rattle.spl_tree.specs.Trees.{Tree}
-use Rattle.spl_reading.specs.Readers.{Outcome, Got, Bad, Deep}
+use Rattle.spl_grammar.specs.spl_tree.declared.symbols.Symbol.TheVariants as s
+use Rattle.spl_grammar.specs.spl_tree.Symbols.{Lexeme}
+use Rattle.spl_grammar.specs.spl_tree.OpenExpressions.{OpensAt, limit, nesting}
+use Rattle.spl_grammar.specs.spl_tree.Trees.{Tree}
+use Rattle.spl_grammar.specs.spl_reading.Readers.{Outcome, Got, Bad, Deep}
 use Rattle.spl_grammar.specs.Answers as an
 use Rattle.spl_grammar.specs.Answers.{Explains, Spelled, SpelledCondition, ChainsReach, Reaches, Agrees}
 use Rattle.spl_grammar.specs.Ends.{Ended}

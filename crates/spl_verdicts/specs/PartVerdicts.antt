@@ -2,13 +2,13 @@
 -- none
 -- goes on with; or a first one at which more is open than may be.
 use Rattle.std.specs.Prelude.{ℕ, ◌≡◌, ◌↔◌, ◌+◌, ◌<◌, ◌≤◌, ◌++◌, Bool, true, false, List, [], ◌∷◌, length, None}
-use Rattle.spl_tree.specs.Symbols.{Lexeme}
-use Rattle.spl_tree.specs.Operators.{Form}
-use Rattle.spl_tree.specs.Expressions as g
-use Rattle.spl_tree.specs.Trees.{Tree}
-use Rattle.spl_tree.specs.OpenExpressions.{Part, level, Opens, OpensAt, limit, nesting}
-use Rattle.spl_reading.specs.Readers.{Outcome, Got, Bad, Deep, Parser}
-use Rattle.spl_reading.specs.ReadExpressions.{expression, condition}
+use Rattle.spl_grammar.specs.spl_tree.Symbols.{Lexeme}
+use Rattle.spl_grammar.specs.spl_tree.Operators.{Form}
+use Rattle.spl_grammar.specs.spl_tree.Expressions as g
+use Rattle.spl_grammar.specs.spl_tree.Trees.{Tree}
+use Rattle.spl_grammar.specs.spl_tree.OpenExpressions.{Part, level, Opens, OpensAt, limit, nesting}
+use Rattle.spl_grammar.specs.spl_reading.Readers.{Outcome, Got, Bad, Deep, Parser}
+use Rattle.spl_grammar.specs.spl_reading.ReadExpressions.{expression, condition}
 use Rattle.spl_grammar.specs.Answers.{Agrees}
 use Rattle.spl_grammar.specs.Ends.{Ended}
 

@@ -1,18 +1,18 @@
 -- The names that the code of bodies wants: those of its statements, and of a main body what ends the program.
 use Rattle.std.proofs.Common.{ℕ, suc, ◌+◌, List, [], ◌∷◌, codes, refl, arith}
-use Rattle.spl_tree.specs.DeclarationTrees as decl
-use Rattle.spl_tree.specs.DeclarationTrees.{Declarations}
-use Rattle.spl_meaning.specs.Stops.{declaration_stops}
-use Rattle.spl_meaning.specs.Names.{Table}
-use Rattle.spl_meaning.specs.Tables.{Subroutine, subroutines_among}
-use Rattle.spl_meaning.specs.Pending.{formals_words}
-use Rattle.spl_meaning.specs.Bodies.{Body, subroutine_body}
-use Rattle.spl_branch.specs.declared.pieces.Piece.TheVariants.{Mark}
-use Rattle.spl_code.specs.Parts.{Part}
-use Rattle.spl_statement_code.specs.Landings.{Landing}
-use Rattle.spl_body_code.specs.Frames.{granted}
-use Rattle.spl_body_code.specs.Bodies.{frame_of, procedure_entered, procedure_left, procedure_code, subroutine_left, subroutine_code, main_code}
-use Rattle.spl_scopes.specs.Entries.{Owner, Entry}
+use Rattle.spl_module_code.specs.spl_tree.DeclarationTrees as decl
+use Rattle.spl_module_code.specs.spl_tree.DeclarationTrees.{Declarations}
+use Rattle.spl_module_code.specs.spl_meaning.Stops.{declaration_stops}
+use Rattle.spl_module_code.specs.spl_meaning.Names.{Table}
+use Rattle.spl_module_code.specs.spl_meaning.Tables.{Subroutine, subroutines_among}
+use Rattle.spl_module_code.specs.spl_meaning.Pending.{formals_words}
+use Rattle.spl_module_code.specs.spl_meaning.Bodies.{Body, subroutine_body}
+use Rattle.spl_module_code.specs.spl_branch.declared.pieces.Piece.TheVariants.{Mark}
+use Rattle.spl_module_code.specs.spl_code.Parts.{Part}
+use Rattle.spl_module_code.specs.spl_statement_code.Landings.{Landing}
+use Rattle.spl_module_code.specs.spl_body_code.Frames.{granted}
+use Rattle.spl_module_code.specs.spl_body_code.Bodies.{frame_of, procedure_entered, procedure_left, procedure_code, subroutine_left, subroutine_code, main_code}
+use Rattle.spl_module_code.specs.spl_scopes.Entries.{Owner, Entry}
 use Rattle.spl_module_code.specs.LabelsOfBodies.{Label, labels_among, with_landings}
 use Rattle.spl_module_code.specs.Bodies.{context_of, body_statements, subroutine_part, subroutine_parts}
 use Rattle.spl_few_calls.specs.Calls.{calls_in, calls_within}

@@ -4,15 +4,15 @@
 use Rattle.std.proofs.Common.{◌≡◌, ℕ, nat_eq, ℤ, Bool, true, false, if◌then◌else◌, List, [], ◌∷◌, Option, Some, None, refl, sym, ap, subst, ◌∙◌}
 use Rattle.std.specs.Prelude.{unwrap_or, is_some}
 use Rattle.std.proofs.lemmas.Bool.{and_parts, eqb-true}
-use Rattle.hp_word.specs.declared.intrinsics.Intrinsic.{Intrinsic}
-use Rattle.spl_tree.specs.declared.expressions.Kind.{Kind}
-use Rattle.spl_tree.specs.DeclarationTrees as decl
-use Rattle.spl_tree.specs.DeclarationTrees.{Placed, Item, Equal, Heading, Declaration, Declarations, declarations}
-use Rattle.spl_meaning.specs.Names as n
-use Rattle.spl_meaning.specs.Names.{Names, Sort, Table, Formal, find, or_else, same_name, within, nothing_declared, parameters, sort_by, formals_of, profile_of, intrinsic_named, kept_value, sum_value}
-use Rattle.spl_meaning.specs.Tables.{Source, Routine, Subroutine, shaped, intrinsic_sort, with_declaration, with_declarations, unit_table, outer_names, routine_table, routine_names, subroutine_names}
-use Rattle.spl_found.specs.OwnNames.{over, with_name, behind_items, behind_equates, behind_intrinsics, behind_labels, behind_declaration, behind_declarations}
-use Rattle.spl_found.proofs.OwnNames.{find_declaration, find_declarations}
+use Rattle.spl_module_code.specs.hp_word.declared.intrinsics.Intrinsic.{Intrinsic}
+use Rattle.spl_module_code.specs.spl_tree.declared.expressions.Kind.{Kind}
+use Rattle.spl_module_code.specs.spl_tree.DeclarationTrees as decl
+use Rattle.spl_module_code.specs.spl_tree.DeclarationTrees.{Placed, Item, Equal, Heading, Declaration, Declarations, declarations}
+use Rattle.spl_module_code.specs.spl_meaning.Names as n
+use Rattle.spl_module_code.specs.spl_meaning.Names.{Names, Sort, Table, Formal, find, or_else, same_name, within, nothing_declared, parameters, sort_by, formals_of, profile_of, intrinsic_named, kept_value, sum_value}
+use Rattle.spl_module_code.specs.spl_meaning.Tables.{Source, Routine, Subroutine, shaped, intrinsic_sort, with_declaration, with_declarations, unit_table, outer_names, routine_table, routine_names, subroutine_names}
+use Rattle.spl_module_code.specs.spl_found.OwnNames.{over, with_name, behind_items, behind_equates, behind_intrinsics, behind_labels, behind_declaration, behind_declarations}
+use Rattle.spl_module_code.proofs.spl_found_proofs.OwnNames.{find_declaration, find_declarations}
 
 -- each name that stands for an intrinsic is one's
 abbrev pub Known : Names → Type 0

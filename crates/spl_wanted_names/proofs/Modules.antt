@@ -2,18 +2,18 @@
 use Rattle.std.proofs.Common.{◌≡◌, ◌≤◌, ℕ, zero, suc, ◌+◌, ◌&&◌, nat_eq, not, Bool, true, false, if◌then◌else◌, List, [], ◌∷◌, drop, length, Option, Some, None, refl, sym, ap, subst, ◌∙◌, arith}
 use Rattle.std.specs.List.{list_all, slice_get}
 use Rattle.std.proofs.lemmas.List.{length-map}
-use Rattle.spl_tree.specs.DeclarationTrees as decl
-use Rattle.spl_tree.specs.DeclarationTrees.{Declaration, Declarations, declarations}
-use Rattle.spl_tree.specs.StatementTrees as stat
-use Rattle.spl_tree.specs.StatementTrees.{statements}
-use Rattle.spl_meaning.specs.Stops.{declaration_stops}
-use Rattle.spl_meaning.specs.Names.{Sort, Table, find, nothing_declared}
-use Rattle.spl_meaning.specs.Places.{Place, list_words, list_array_words}
-use Rattle.spl_meaning.specs.Tables.{Routine, Subroutine, with_declaration, routines_among, routine_table, subroutines_among, unit_subroutines}
-use Rattle.spl_meaning.specs.Bodies.{Body, Named, procedure_body, named_bodies, main_body}
-use Rattle.spl_code.specs.Parts.{Part, nothing, wanted_of}
-use Rattle.spl_scopes.specs.Entries.{main, routine, Entry, module_entries, routines_behind}
-use Rattle.spl_scopes.specs.Scopes.{Placed, global_places, routine_bodies}
+use Rattle.spl_module_code.specs.spl_tree.DeclarationTrees as decl
+use Rattle.spl_module_code.specs.spl_tree.DeclarationTrees.{Declaration, Declarations, declarations}
+use Rattle.spl_module_code.specs.spl_tree.StatementTrees as stat
+use Rattle.spl_module_code.specs.spl_tree.StatementTrees.{statements}
+use Rattle.spl_module_code.specs.spl_meaning.Stops.{declaration_stops}
+use Rattle.spl_module_code.specs.spl_meaning.Names.{Sort, Table, find, nothing_declared}
+use Rattle.spl_module_code.specs.spl_meaning.Places.{Place, list_words, list_array_words}
+use Rattle.spl_module_code.specs.spl_meaning.Tables.{Routine, Subroutine, with_declaration, routines_among, routine_table, subroutines_among, unit_subroutines}
+use Rattle.spl_module_code.specs.spl_meaning.Bodies.{Body, Named, procedure_body, named_bodies, main_body}
+use Rattle.spl_module_code.specs.spl_code.Parts.{Part, nothing, wanted_of}
+use Rattle.spl_module_code.specs.spl_scopes.Entries.{main, routine, Entry, module_entries, routines_behind}
+use Rattle.spl_module_code.specs.spl_scopes.Scopes.{Placed, global_places, routine_bodies}
 use Rattle.spl_module_code.specs.Bodies.{body_statements, routine_part}
 use Rattle.spl_module_code.specs.Modules.{inner_behind, routine_at, inner_with, inner_at, entries_behind, declared_part, declared_parts, main_at, marks_before, module_written}
 use Rattle.spl_few_calls.specs.Calls.{calls_in, calls_within}

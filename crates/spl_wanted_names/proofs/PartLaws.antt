@@ -3,9 +3,9 @@ use Rattle.std.proofs.Common.{◌≡◌, ◌≤◌, ℕ, suc, ◌+◌, Bool, tru
 use Rattle.std.specs.List.{list_all}
 use Rattle.std.proofs.lemmas.Bool.{and_from}
 use Rattle.std.proofs.lemmas.List.Folds.{list_all-append}
-use Rattle.spl_branch.specs.declared.pieces.Piece.{Piece}
-use Rattle.spl_meaning.specs.Names.{intrinsic_named}
-use Rattle.spl_code.specs.Parts.{Part, Wanted, is_wanted, pieces, ◌⨟◌, with_fresh, call_wanted}
+use Rattle.spl_module_code.specs.spl_branch.declared.pieces.Piece.{Piece}
+use Rattle.spl_module_code.specs.spl_meaning.Names.{intrinsic_named}
+use Rattle.spl_module_code.specs.spl_code.Parts.{Part, Wanted, is_wanted, pieces, ◌⨟◌, with_fresh, call_wanted}
 use Rattle.spl_wanted_names.specs.Wants.{names_gate, IsWanting}
 
 same_or_more : (a n : ℕ) → a ≤ a + n

@@ -1,24 +1,24 @@
 -- The names that the code of statements wants, along the tree.
 use Rattle.std.proofs.Common.{ℕ, suc, ◌+◌, ◌-◌, ◌%◌, Bool, true, false, List, [], ◌∷◌, Option, Some, None, arith}
-use Rattle.spl_tree.specs.declared.names_and_places.At.{At}
-use Rattle.spl_tree.specs.Trees as tree
-use Rattle.spl_tree.specs.Trees.{Tree, Trees}
-use Rattle.spl_tree.specs.StatementTrees as stat
-use Rattle.spl_tree.specs.StatementTrees.{Statement, Statements, Target, Source, Effect, Test}
-use Rattle.spl_meaning.specs.Kinds.{callable}
-use Rattle.spl_meaning.specs.Pending.{waiting, behind_first, behind_second}
-use Rattle.spl_branch.specs.declared.pieces.Piece.TheVariants.{Mark, Begin}
-use Rattle.spl_code.specs.Instructions.{LDI, DEL, BR, BCC}
-use Rattle.spl_code.specs.Operators.{failing_codes}
-use Rattle.spl_code.specs.Parts.{Part}
-use Rattle.spl_code.specs.Constants.{constant}
-use Rattle.spl_code.specs.Calls.{Scope}
-use Rattle.spl_code.specs.Code.{as_value, as_test}
-use Rattle.spl_statement_code.specs.Instructions.{TEST, LSUB, SUBS, TBA, MTBA}
-use Rattle.spl_statement_code.specs.Landings.{Landing, Context, dropped, jump, gone_to, landed}
-use Rattle.spl_statement_code.specs.Assignments.{index_kept, reference_index, target_index, target_stored, assigned}
-use Rattle.spl_statement_code.specs.Effects.{kept_first, told, text_scaled, text_count, move_of, scan_of, leads_to_bytes, source_moved, effect}
-use Rattle.spl_statement_code.specs.Statements.{tested, counter, step_value, turns, arm, result_dropped, result_of, call_dropped, statement, listed, arms}
+use Rattle.spl_module_code.specs.spl_tree.declared.names_and_places.At.{At}
+use Rattle.spl_module_code.specs.spl_tree.Trees as tree
+use Rattle.spl_module_code.specs.spl_tree.Trees.{Tree, Trees}
+use Rattle.spl_module_code.specs.spl_tree.StatementTrees as stat
+use Rattle.spl_module_code.specs.spl_tree.StatementTrees.{Statement, Statements, Target, Source, Effect, Test}
+use Rattle.spl_module_code.specs.spl_meaning.Kinds.{callable}
+use Rattle.spl_module_code.specs.spl_meaning.Pending.{waiting, behind_first, behind_second}
+use Rattle.spl_module_code.specs.spl_branch.declared.pieces.Piece.TheVariants.{Mark, Begin}
+use Rattle.spl_module_code.specs.spl_code.Instructions.{LDI, DEL, BR, BCC}
+use Rattle.spl_module_code.specs.spl_code.Operators.{failing_codes}
+use Rattle.spl_module_code.specs.spl_code.Parts.{Part}
+use Rattle.spl_module_code.specs.spl_code.Constants.{constant}
+use Rattle.spl_module_code.specs.spl_code.Calls.{Scope}
+use Rattle.spl_module_code.specs.spl_code.Code.{as_value, as_test}
+use Rattle.spl_module_code.specs.spl_statement_code.Instructions.{TEST, LSUB, SUBS, TBA, MTBA}
+use Rattle.spl_module_code.specs.spl_statement_code.Landings.{Landing, Context, dropped, jump, gone_to, landed}
+use Rattle.spl_module_code.specs.spl_statement_code.Assignments.{index_kept, reference_index, target_index, target_stored, assigned}
+use Rattle.spl_module_code.specs.spl_statement_code.Effects.{kept_first, told, text_scaled, text_count, move_of, scan_of, leads_to_bytes, source_moved, effect}
+use Rattle.spl_module_code.specs.spl_statement_code.Statements.{tested, counter, step_value, turns, arm, result_dropped, result_of, call_dropped, statement, listed, arms}
 use Rattle.spl_few_calls.specs.Calls.{calls, calls_among, target_calls, source_calls, effect_calls, test_calls, calls_in, calls_within}
 use Rattle.spl_wanted_names.specs.Wants.{IsWanting}
 use Rattle.spl_wanted_names.proofs.PartLaws.{wanting_less, wanting_pieces, wanting_then, wanting_behind, wanting_before, wanting_fresh}

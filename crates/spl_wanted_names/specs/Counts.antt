@@ -1,9 +1,9 @@
 -- How many entries a unit has in a segment, and how often the bodies there call at most.
 use Rattle.std.specs.Prelude.{ℕ, suc, ◌+◌, nat_eq, if◌then◌else◌}
-use Rattle.spl_tree.specs.DeclarationTrees as decl
-use Rattle.spl_tree.specs.DeclarationTrees.{Declaration, Declarations, declarations}
-use Rattle.spl_tree.specs.StatementTrees.{statements}
-use Rattle.spl_meaning.specs.Tables.{Source}
+use Rattle.spl_module_code.specs.spl_tree.DeclarationTrees as decl
+use Rattle.spl_module_code.specs.spl_tree.DeclarationTrees.{Declaration, Declarations, declarations}
+use Rattle.spl_module_code.specs.spl_tree.StatementTrees.{statements}
+use Rattle.spl_module_code.specs.spl_meaning.Tables.{Source}
 use Rattle.spl_few_calls.specs.Calls.{calls_in, calls_within}
 
 -- ---- subroutines

@@ -1,10 +1,10 @@
 -- The names that modules want are few, and those of the system are intrinsics.
 use Rattle.std.specs.Prelude.{◌≡◌, ◌≤◌, ℕ, true, List, length}
 use Rattle.std.specs.List.{list_all}
-use Rattle.spl_branch.specs.declared.buffer.Code.{Code}
-use Rattle.spl_scopes.specs.Scopes.{Placed}
+use Rattle.spl_module_code.specs.spl_branch.declared.buffer.Code.{Code}
+use Rattle.spl_module_code.specs.spl_scopes.Scopes.{Placed}
 use Rattle.spl_module_code.specs.Modules.{module_part, IsCodeOf}
-use Rattle.spl_code.specs.Parts.{wants_of}
+use Rattle.spl_module_code.specs.spl_code.Parts.{wants_of}
 use Rattle.spl_wanted_names.specs.Wants.{names_gate, IsWanting}
 use Rattle.spl_wanted_names.specs.Counts.{module_calls}
 

@@ -1,8 +1,8 @@
 -- The names that a part of code wants: how many more than before it, and which of the system.
 use Rattle.std.specs.Prelude.{◌≡◌, ℕ, ◌+◌, ◌≤◌, Bool, true, if◌then◌else◌, List, length, is_some}
 use Rattle.std.specs.List.{list_all}
-use Rattle.spl_meaning.specs.Names.{intrinsic_named}
-use Rattle.spl_code.specs.Parts.{Part, Wanted}
+use Rattle.spl_module_code.specs.spl_meaning.Names.{intrinsic_named}
+use Rattle.spl_module_code.specs.spl_code.Parts.{Part, Wanted}
 
 -- a name that is wanted of the system is an intrinsic's
 abbrev pub names_gate : Wanted → Bool

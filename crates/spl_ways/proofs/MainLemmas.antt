@@ -2,27 +2,27 @@
 use Rattle.std.proofs.Common.{◌≡◌, ℕ, ◌+◌, ◌-◌, ◌*◌, ◌<◌, ◌≤◌, Bool, List, [], ◌∷◌, ◌++◌, map, length, get_or, Option, Some, None, refl, sym, ap, ◌∙◌, arith, zero-add, add-zero}
 use Rattle.std.specs.Prelude.{slice_get, unwrap_or, if◌then◌else◌, is_some}
 use Rattle.std.proofs.lemmas.List.{length-append, length-map, get_or-map, get_or_append_left, get_or-append-add}
-use Rattle.hp_instr.specs.declared.labels.Label.{Label}
-use Rattle.hp_instr.specs.declared.labels.Label.TheVariants.{Local}
-use Rattle.hp_instr.specs.Labels.{label_bits}
-use Rattle.hp_program.specs.Programs.{words_of}
-use Rattle.hp_program.specs.Valid.{label_of}
-use Rattle.spl_branch.specs.declared.modules.Define.{Define}
-use Rattle.spl_branch.specs.declared.modules.Module.{Module}
-use Rattle.mpe_segmenter.specs.Names.{Part}
-use Rattle.mpe_segmenter.specs.Entries.{Own, own_of, main_of, owns, own_count, owned, Table, table_of}
-use Rattle.mpe_segmenter.specs.Segments.{own_label, wanted_label, labels_of}
-use Rattle.mpe_segmenter.specs.Counts.{entries_in, sizes}
-use Rattle.mpe_segmenter.specs.Programs.{tables_of, label_words, part_words, program_words}
-use Rattle.mpe_segmenter.specs.Sites.{no_entry, IsModule}
-use Rattle.mpe_segmenter.specs.Whole.{IsWhole}
-use Rattle.mpe_segmenter.proofs.EntryLemmas.{length-owns}
-use Rattle.mpe_segmenter.proofs.FitLemmas.{Fits, fits_at}
-use Rattle.mpe_segmenter.proofs.LayLemmas.{label_count}
-use Rattle.mpe_segmenter.proofs.SegmentLaws.{label_in}
-use Rattle.mpe_segmenter.proofs.SiteLaws.{owned_append}
-use Rattle.mpe_segmenter.proofs.ValidLemmas.{got_map}
-use Rattle.mpe_segmenter.proofs.WholeLemmas.{body_of}
+use Rattle.spl_sites.specs.hp_instr.declared.labels.Label.{Label}
+use Rattle.spl_sites.specs.hp_instr.declared.labels.Label.TheVariants.{Local}
+use Rattle.spl_sites.specs.hp_instr.Labels.{label_bits}
+use Rattle.spl_sites.specs.hp_program.Programs.{words_of}
+use Rattle.spl_sites.specs.hp_program.Valid.{label_of}
+use Rattle.spl_sites.specs.spl_branch.declared.modules.Define.{Define}
+use Rattle.spl_sites.specs.spl_branch.declared.modules.Module.{Module}
+use Rattle.spl_sites.specs.mpe_segmenter.Names.{Part}
+use Rattle.spl_sites.specs.mpe_segmenter.Entries.{Own, own_of, main_of, owns, own_count, owned, Table, table_of}
+use Rattle.spl_sites.specs.mpe_segmenter.Segments.{own_label, wanted_label, labels_of}
+use Rattle.spl_sites.specs.mpe_segmenter.Counts.{entries_in, sizes}
+use Rattle.spl_sites.specs.mpe_segmenter.Programs.{tables_of, label_words, part_words, program_words}
+use Rattle.spl_sites.specs.mpe_segmenter.Sites.{no_entry, IsModule}
+use Rattle.spl_sites.specs.mpe_segmenter.Whole.{IsWhole}
+use Rattle.spl_sites.proofs.mpe_segmenter_proofs.EntryLemmas.{length-owns}
+use Rattle.spl_sites.proofs.mpe_segmenter_proofs.FitLemmas.{Fits, fits_at}
+use Rattle.spl_sites.proofs.mpe_segmenter_proofs.LayLemmas.{label_count}
+use Rattle.spl_sites.proofs.mpe_segmenter_proofs.SegmentLaws.{label_in}
+use Rattle.spl_sites.proofs.mpe_segmenter_proofs.SiteLaws.{owned_append}
+use Rattle.spl_sites.proofs.mpe_segmenter_proofs.ValidLemmas.{got_map}
+use Rattle.spl_sites.proofs.mpe_segmenter_proofs.WholeLemmas.{body_of}
 use Rattle.spl_ways.specs.Laws.{MainEntriesStart}
 
 main_length : (o : Option ℕ) (base : ℕ) → length (main_of base o) ≡ (if is_some o then 1 else 0)

@@ -7,38 +7,38 @@ use Rattle.std.specs.Prelude.{◌&&◌, ◌||◌, not, if◌then◌else◌, unwr
 use Rattle.std.specs.List.{list_all}
 use Rattle.std.proofs.lemmas.List.{length-append, length-map, get_or-map, get_or_append_left, get_or-append-add}
 use Rattle.std.proofs.lemmas.Bool.{and_parts, ltb-true, lt-ltb, le-ltb, ne_eqb, eqb-true}
-use Rattle.hp_instr.specs.declared.instruction.Instr.{Instr}
-use Rattle.hp_instr.specs.declared.instruction.Instr.TheVariants as i
-use Rattle.hp_instr.specs.declared.labels.Label.{Label}
-use Rattle.hp_instr.specs.declared.labels.Label.TheVariants.{Local, External, Bad}
-use Rattle.hp_instr.specs.Labels.{label, is_label}
-use Rattle.hp_program.specs.Programs.{words_of}
-use Rattle.hp_program.specs.Valid.{entries_of, label_of}
-use Rattle.spl_branch.specs.declared.pieces.Piece.{Piece}
-use Rattle.spl_branch.specs.declared.pieces.Piece.TheVariants.{Do, Literal, Place, Branch, Mark, Call, Begin}
-use Rattle.spl_branch.specs.declared.modules.Define.{Define}
-use Rattle.spl_branch.specs.declared.modules.Want.{Want}
-use Rattle.spl_branch.specs.declared.modules.Module.{Module}
-use Rattle.spl_branch.specs.Pieces.{is_indexed}
-use Rattle.spl_branch.specs.Modules.{sites}
-use Rattle.mpe_segmenter.specs.Names.{Part}
-use Rattle.mpe_segmenter.specs.Entries.{Own, own_of, owns, called_at, Wanted, wanted_of, is_wanted, is_met, all_wants, want_at, Table, table_of, entry_of, entry_count, owned, home_from, gate_of}
-use Rattle.mpe_segmenter.specs.Segments.{own_label, wanted_label, home_label, labels_of}
-use Rattle.mpe_segmenter.specs.Counts.{entries_in, sizes}
-use Rattle.mpe_segmenter.specs.Programs.{tables_of, part_words, program_words}
-use Rattle.mpe_segmenter.specs.Homes.{home_at}
-use Rattle.mpe_segmenter.specs.Whole.{is_resolved, IsWhole}
-use Rattle.mpe_segmenter.specs.Sites.{Site, Gate, label_at, local_site, label_site, site_of, no_entry, IsModule, module_entries, Links}
-use Rattle.mpe_segmenter.proofs.EntryLemmas.{length-owns}
-use Rattle.mpe_segmenter.proofs.HomeLemmas.{called_within}
-use Rattle.mpe_segmenter.proofs.FitLemmas.{fits_at}
-use Rattle.mpe_segmenter.proofs.WholeLemmas.{words_count, own_local}
-use Rattle.mpe_segmenter.proofs.ValidLemmas.{got, got_map}
-use Rattle.mpe_segmenter.proofs.SiteLaws as site_laws
-use Rattle.mpe_segmenter.proofs.SiteLaws.{found_wanted, at_place, index_map, got_within, want_in, owned_append, own_in}
-use Rattle.hp_leads.specs.Words.{way_of, entry_way, local_way, subroutine_way}
-use Rattle.spl_follow.specs.Doing.{Way, gate, body}
-use Rattle.spl_stands.specs.Fitting.{CallLeads}
+use Rattle.spl_sites.specs.hp_instr.declared.instruction.Instr.{Instr}
+use Rattle.spl_sites.specs.hp_instr.declared.instruction.Instr.TheVariants as i
+use Rattle.spl_sites.specs.hp_instr.declared.labels.Label.{Label}
+use Rattle.spl_sites.specs.hp_instr.declared.labels.Label.TheVariants.{Local, External, Bad}
+use Rattle.spl_sites.specs.hp_instr.Labels.{label, is_label}
+use Rattle.spl_sites.specs.hp_program.Programs.{words_of}
+use Rattle.spl_sites.specs.hp_program.Valid.{entries_of, label_of}
+use Rattle.spl_sites.specs.spl_branch.declared.pieces.Piece.{Piece}
+use Rattle.spl_sites.specs.spl_branch.declared.pieces.Piece.TheVariants.{Do, Literal, Place, Branch, Mark, Call, Begin}
+use Rattle.spl_sites.specs.spl_branch.declared.modules.Define.{Define}
+use Rattle.spl_sites.specs.spl_branch.declared.modules.Want.{Want}
+use Rattle.spl_sites.specs.spl_branch.declared.modules.Module.{Module}
+use Rattle.spl_sites.specs.spl_branch.Pieces.{is_indexed}
+use Rattle.spl_sites.specs.spl_branch.Modules.{sites}
+use Rattle.spl_sites.specs.mpe_segmenter.Names.{Part}
+use Rattle.spl_sites.specs.mpe_segmenter.Entries.{Own, own_of, owns, called_at, Wanted, wanted_of, is_wanted, is_met, all_wants, want_at, Table, table_of, entry_of, entry_count, owned, home_from, gate_of}
+use Rattle.spl_sites.specs.mpe_segmenter.Segments.{own_label, wanted_label, home_label, labels_of}
+use Rattle.spl_sites.specs.mpe_segmenter.Counts.{entries_in, sizes}
+use Rattle.spl_sites.specs.mpe_segmenter.Programs.{tables_of, part_words, program_words}
+use Rattle.spl_sites.specs.mpe_segmenter.Homes.{home_at}
+use Rattle.spl_sites.specs.mpe_segmenter.Whole.{is_resolved, IsWhole}
+use Rattle.spl_sites.specs.mpe_segmenter.Sites.{Site, Gate, label_at, local_site, label_site, site_of, no_entry, IsModule, module_entries, Links}
+use Rattle.spl_sites.proofs.mpe_segmenter_proofs.EntryLemmas.{length-owns}
+use Rattle.spl_sites.proofs.mpe_segmenter_proofs.HomeLemmas.{called_within}
+use Rattle.spl_sites.proofs.mpe_segmenter_proofs.FitLemmas.{fits_at}
+use Rattle.spl_sites.proofs.mpe_segmenter_proofs.WholeLemmas.{words_count, own_local}
+use Rattle.spl_sites.proofs.mpe_segmenter_proofs.ValidLemmas.{got, got_map}
+use Rattle.spl_sites.proofs.mpe_segmenter_proofs.SiteLaws as site_laws
+use Rattle.spl_sites.proofs.mpe_segmenter_proofs.SiteLaws.{found_wanted, at_place, index_map, got_within, want_in, owned_append, own_in}
+use Rattle.spl_sites.specs.hp_leads.Words.{way_of, entry_way, local_way, subroutine_way}
+use Rattle.spl_sites.specs.spl_follow.Doing.{Way, gate, body}
+use Rattle.spl_sites.specs.spl_stands.Fitting.{CallLeads}
 use Rattle.spl_sites.specs.Beginnings.{is_of_kind, is_call_of}
 use Rattle.spl_sites.specs.Grounds.{LeadsIfCall, AllCallsLead}
 use Rattle.spl_ways.specs.Ways.{word_of, way_of_entry, module_sites}

@@ -1,22 +1,22 @@
 -- The laws of this crate.
 use Rattle.std.specs.Prelude.{◌≡◌, ◌+◌, ℕ, Bool, true, false, List, length, Some, slice_get}
 use Rattle.std.specs.List.{list_all}
-use Rattle.spl_branch.specs.declared.pieces.Piece.{Piece}
-use Rattle.hp_program.specs.Programs.{words_of}
-use Rattle.hp_program.specs.Valid.{label_of}
-use Rattle.spl_branch.specs.declared.modules.Define.{Define}
-use Rattle.spl_branch.specs.declared.modules.Want.{Want}
-use Rattle.spl_branch.specs.declared.modules.Module.{Module}
-use Rattle.spl_branch.specs.Pieces.{is_indexed}
-use Rattle.spl_branch.specs.Modules.{sites}
-use Rattle.mpe_segmenter.specs.Names.{Part}
-use Rattle.mpe_segmenter.specs.Entries.{owned, gate_of}
-use Rattle.mpe_segmenter.specs.Counts.{sizes}
-use Rattle.mpe_segmenter.specs.Programs.{program_words}
-use Rattle.mpe_segmenter.specs.Whole.{IsWhole}
-use Rattle.mpe_segmenter.specs.Sites.{IsModule, module_entries}
-use Rattle.hp_leads.specs.Words.{entry_way, subroutine_way}
-use Rattle.spl_follow.specs.Doing.{gate, body}
+use Rattle.spl_sites.specs.spl_branch.declared.pieces.Piece.{Piece}
+use Rattle.spl_sites.specs.hp_program.Programs.{words_of}
+use Rattle.spl_sites.specs.hp_program.Valid.{label_of}
+use Rattle.spl_sites.specs.spl_branch.declared.modules.Define.{Define}
+use Rattle.spl_sites.specs.spl_branch.declared.modules.Want.{Want}
+use Rattle.spl_sites.specs.spl_branch.declared.modules.Module.{Module}
+use Rattle.spl_sites.specs.spl_branch.Pieces.{is_indexed}
+use Rattle.spl_sites.specs.spl_branch.Modules.{sites}
+use Rattle.spl_sites.specs.mpe_segmenter.Names.{Part}
+use Rattle.spl_sites.specs.mpe_segmenter.Entries.{owned, gate_of}
+use Rattle.spl_sites.specs.mpe_segmenter.Counts.{sizes}
+use Rattle.spl_sites.specs.mpe_segmenter.Programs.{program_words}
+use Rattle.spl_sites.specs.mpe_segmenter.Whole.{IsWhole}
+use Rattle.spl_sites.specs.mpe_segmenter.Sites.{IsModule, module_entries}
+use Rattle.spl_sites.specs.hp_leads.Words.{entry_way, subroutine_way}
+use Rattle.spl_sites.specs.spl_follow.Doing.{gate, body}
 use Rattle.spl_sites.specs.Beginnings.{is_of_kind}
 use Rattle.spl_sites.specs.Grounds.{AllCallsLead}
 use Rattle.spl_ways.specs.Ways.{word_of, module_sites}

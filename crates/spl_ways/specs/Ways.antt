@@ -1,9 +1,9 @@
 -- Where the calls of a module lead, by the tables of its program.
 use Rattle.std.specs.Prelude.{ℕ, ◌+◌, Bool, false, List, unwrap_or}
-use Rattle.spl_follow.specs.Spots.{Spot}
-use Rattle.spl_follow.specs.Doing.{Way, gate, body}
-use Rattle.spl_follow.specs.Standing.{Sites}
-use Rattle.hp_leads.specs.Words.{entry_way}
+use Rattle.spl_sites.specs.spl_follow.Spots.{Spot}
+use Rattle.spl_sites.specs.spl_follow.Doing.{Way, gate, body}
+use Rattle.spl_sites.specs.spl_follow.Standing.{Sites}
+use Rattle.spl_sites.specs.hp_leads.Words.{entry_way}
 
 -- a word of a segment
 abbrev pub word_of : ℕ → ℕ → Spot

@@ -3,35 +3,35 @@ use Rattle.std.proofs.Common.{◌≡◌, ℕ, ◌+◌, ◌≤◌, true, false, L
 use Rattle.std.specs.Prelude.{◌==◌, ◌||◌}
 use Rattle.std.proofs.lemmas.Bool.{false≢true}
 use Rattle.std.proofs.Math.Logic.{⊎_elim}
-use Rattle.hp_word.specs.Bytes.{high_word, low_word}
-use Rattle.spl_tree.specs.declared.expressions.Kind.{Kind}
-use Rattle.spl_tree.specs.declared.expressions.Kind.TheVariants as kind
-use Rattle.spl_tree.specs.declared.names_and_places.At.{At}
-use Rattle.spl_tree.specs.Trees as tree
-use Rattle.spl_tree.specs.Trees.{Tree}
-use Rattle.spl_meaning.specs.Kinds.{Operand, of, const, unknown, Class, doubles, plus, minus, positive, negative, unary_operand, kind_of, operand_width, class_of, class_operand}
-use Rattle.spl_meaning.specs.Names.{Names}
-use Rattle.spl_meaning.specs.Operations.{by_class}
-use Rattle.spl_meaning.specs.Pending.{most}
-use Rattle.spl_meaning.specs.References.{Here}
-use Rattle.spl_meaning.specs.States.{State, Outcome, then_go}
-use Rattle.spl_meaning.specs.Values.{Callee, value}
-use Rattle.spl_code.specs.Calls.{Scope}
-use Rattle.spl_code.specs.Code as made
-use Rattle.spl_code.specs.Code.{Aim, as_value, code}
-use Rattle.spl_code.specs.Instructions.{BCC}
-use Rattle.spl_code.specs.Constants.{constant, double_constant}
-use Rattle.spl_code.specs.Operators.{class_operator, comparison, failing_codes, sign_operator, transfer}
-use Rattle.spl_code.specs.Parts.{Part, pieces, nothing, ◌⨟◌}
-use Rattle.spl_follow.specs.Standing.{IsClosed}
-use Rattle.spl_follow.proofs.StandLemmas.{closed_last}
-use Rattle.spl_values.specs.Reached.{is_sum, IsWhole}
-use Rattle.spl_values.proofs.SumLemmas.{sum_cases}
-use Rattle.spl_values.proofs.WholeLemmas.{whole_last, whole_behind}
-use Rattle.spl_conditions.proofs.ConditionLemmas.{condition_whole}
+use Rattle.spl_doubles.specs.hp_word.Bytes.{high_word, low_word}
+use Rattle.spl_doubles.specs.spl_tree.declared.expressions.Kind.{Kind}
+use Rattle.spl_doubles.specs.spl_tree.declared.expressions.Kind.TheVariants as kind
+use Rattle.spl_doubles.specs.spl_tree.declared.names_and_places.At.{At}
+use Rattle.spl_doubles.specs.spl_tree.Trees as tree
+use Rattle.spl_doubles.specs.spl_tree.Trees.{Tree}
+use Rattle.spl_doubles.specs.spl_meaning.Kinds.{Operand, of, const, unknown, Class, doubles, plus, minus, positive, negative, unary_operand, kind_of, operand_width, class_of, class_operand}
+use Rattle.spl_doubles.specs.spl_meaning.Names.{Names}
+use Rattle.spl_doubles.specs.spl_meaning.Operations.{by_class}
+use Rattle.spl_doubles.specs.spl_meaning.Pending.{most}
+use Rattle.spl_doubles.specs.spl_meaning.References.{Here}
+use Rattle.spl_doubles.specs.spl_meaning.States.{State, Outcome, then_go}
+use Rattle.spl_doubles.specs.spl_meaning.Values.{Callee, value}
+use Rattle.spl_doubles.specs.spl_code.Calls.{Scope}
+use Rattle.spl_doubles.specs.spl_code.Code as made
+use Rattle.spl_doubles.specs.spl_code.Code.{Aim, as_value, code}
+use Rattle.spl_doubles.specs.spl_code.Instructions.{BCC}
+use Rattle.spl_doubles.specs.spl_code.Constants.{constant, double_constant}
+use Rattle.spl_doubles.specs.spl_code.Operators.{class_operator, comparison, failing_codes, sign_operator, transfer}
+use Rattle.spl_doubles.specs.spl_code.Parts.{Part, pieces, nothing, ◌⨟◌}
+use Rattle.spl_doubles.specs.spl_follow.Standing.{IsClosed}
+use Rattle.spl_doubles.proofs.spl_follow_proofs.StandLemmas.{closed_last}
+use Rattle.spl_doubles.specs.spl_values.Reached.{is_sum, IsWhole}
+use Rattle.spl_doubles.proofs.spl_values_proofs.SumLemmas.{sum_cases}
+use Rattle.spl_doubles.proofs.spl_values_proofs.WholeLemmas.{whole_last, whole_behind}
+use Rattle.spl_doubles.proofs.spl_conditions_proofs.ConditionLemmas.{condition_whole}
 use Rattle.spl_doubles.proofs.DoubleLemmas.{constant_closed}
-use Rattle.spl_operators.specs.Laws.{is_word_operand, is_single}
-use Rattle.spl_operators.proofs.SingleLemmas.{sign_cases}
+use Rattle.spl_doubles.specs.spl_operators.Laws.{is_word_operand, is_single}
+use Rattle.spl_doubles.proofs.spl_operators_proofs.SingleLemmas.{sign_cases}
 
 -- ---- kinds
 

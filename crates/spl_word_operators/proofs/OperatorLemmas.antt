@@ -3,26 +3,26 @@ use Rattle.std.proofs.Common.{◌≡◌, ◌⊎◌, inl, inr, ℕ, ◌+◌, ◌�
 use Rattle.std.specs.Prelude.{◌==◌, ◌&&◌, ◌||◌, nat_lt, nat_le, if◌then◌else◌}
 use Rattle.std.proofs.lemmas.Bool.{eqb-true, ltb-true, ltb-false, leb-true, false≢true}
 use Rattle.std.proofs.Math.Logic.{⊎_elim}
-use Rattle.spl_tree.specs.declared.expressions.Kind.TheVariants as kind
-use Rattle.spl_meaning.specs.Kinds.{Operand, of, const, unknown, Class, integers, logicals, doubles, mixed, plus, minus, times, modulo, lor_operator, xor_operator, is_connective, is_relation, relation_number, works_on_bits, gives_logical, class_of, class_operand, binary_operand, operand_width}
-use Rattle.spl_meaning.specs.Operations.{by_class, bits_done, joined}
-use Rattle.spl_meaning.specs.States.{State, Outcome, then_go}
-use Rattle.spl_code.specs.Parts.{Part, pieces, ◌⨟◌}
-use Rattle.spl_code.specs.Operators.{operator, class_operator}
-use Rattle.spl_code.specs.Code as made
-use Rattle.spl_code.specs.Code.{Aim, as_value, as_test, closing}
-use Rattle.spl_code.specs.Instructions.{BRE}
-use Rattle.spl_follow.specs.Standing.{IsClosed}
-use Rattle.spl_follow.specs.Simulating.{Surroundings, Simulates}
-use Rattle.spl_values.specs.Reached.{is_sum, is_word_class, IsWhole}
-use Rattle.spl_values.proofs.SumLemmas.{sum_cases, sums_give}
-use Rattle.spl_values.proofs.VariableLemmas.{both}
-use Rattle.spl_values.proofs.WholeLemmas.{whole_last, whole_then, whole_behind, then_same, same_simulates}
-use Rattle.spl_conditions.proofs.ConditionLemmas.{closed_values}
-use Rattle.spl_conditions.proofs.RelationLemmas.{compared_whole, relations}
-use Rattle.spl_operators.specs.Laws.{is_word_operand, over, is_quotient, is_bitwise, land_operator}
-use Rattle.spl_operators.proofs.OperandLemmas.{products, quotient_cases, quotients}
-use Rattle.spl_operators.proofs.BitLemmas.{bitwise_cases, bitwise}
+use Rattle.spl_doubles.specs.spl_tree.declared.expressions.Kind.TheVariants as kind
+use Rattle.spl_doubles.specs.spl_meaning.Kinds.{Operand, of, const, unknown, Class, integers, logicals, doubles, mixed, plus, minus, times, modulo, lor_operator, xor_operator, is_connective, is_relation, relation_number, works_on_bits, gives_logical, class_of, class_operand, binary_operand, operand_width}
+use Rattle.spl_doubles.specs.spl_meaning.Operations.{by_class, bits_done, joined}
+use Rattle.spl_doubles.specs.spl_meaning.States.{State, Outcome, then_go}
+use Rattle.spl_doubles.specs.spl_code.Parts.{Part, pieces, ◌⨟◌}
+use Rattle.spl_doubles.specs.spl_code.Operators.{operator, class_operator}
+use Rattle.spl_doubles.specs.spl_code.Code as made
+use Rattle.spl_doubles.specs.spl_code.Code.{Aim, as_value, as_test, closing}
+use Rattle.spl_doubles.specs.spl_code.Instructions.{BRE}
+use Rattle.spl_doubles.specs.spl_follow.Standing.{IsClosed}
+use Rattle.spl_doubles.specs.spl_follow.Simulating.{Surroundings, Simulates}
+use Rattle.spl_doubles.specs.spl_values.Reached.{is_sum, is_word_class, IsWhole}
+use Rattle.spl_doubles.proofs.spl_values_proofs.SumLemmas.{sum_cases, sums_give}
+use Rattle.spl_doubles.proofs.spl_values_proofs.VariableLemmas.{both}
+use Rattle.spl_doubles.proofs.spl_values_proofs.WholeLemmas.{whole_last, whole_then, whole_behind, then_same, same_simulates}
+use Rattle.spl_doubles.proofs.spl_conditions_proofs.ConditionLemmas.{closed_values}
+use Rattle.spl_doubles.proofs.spl_conditions_proofs.RelationLemmas.{compared_whole, relations}
+use Rattle.spl_doubles.specs.spl_operators.Laws.{is_word_operand, over, is_quotient, is_bitwise, land_operator}
+use Rattle.spl_doubles.proofs.spl_operators_proofs.OperandLemmas.{products, quotient_cases, quotients}
+use Rattle.spl_doubles.proofs.spl_operators_proofs.BitLemmas.{bitwise_cases, bitwise}
 use Rattle.spl_word_operators.specs.Operators.{is_plain, is_covered_operator}
 
 -- ---- what is wanted

@@ -3,23 +3,23 @@ use Rattle.std.proofs.Common.{◌≡◌, ℕ, ◌+◌, ◌≤◌, ◌<◌, Bool,
 use Rattle.std.specs.Prelude.{◌==◌, ◌&&◌, ◌||◌, nat_le, if◌then◌else◌}
 use Rattle.std.proofs.lemmas.Bool.{eqb-true, false≢true}
 use Rattle.std.proofs.Math.Logic.{⊎_elim}
-use Rattle.spl_tree.specs.declared.expressions.Kind.{Kind}
-use Rattle.spl_tree.specs.declared.expressions.Kind.TheVariants as kind
-use Rattle.spl_meaning.specs.Kinds.{Operand, of, const, unknown, positive, negative, complement, minus_operand, unary_operand}
-use Rattle.spl_meaning.specs.Operations.{signed_done, shift_done, field_done, transferred}
-use Rattle.spl_meaning.specs.States.{State, Outcome, then_go}
-use Rattle.spl_code.specs.Parts.{Part, pieces, ◌⨟◌}
-use Rattle.spl_code.specs.Operators.{minus_operator, sign_operator, shift_operator, field_operator, transfer}
-use Rattle.spl_code.specs.Code.{Aim, as_value, closing}
-use Rattle.spl_code.specs.Instructions.{EXF}
-use Rattle.spl_follow.specs.Standing.{IsClosed}
-use Rattle.spl_follow.specs.Simulating.{Surroundings, Simulates}
-use Rattle.spl_values.specs.Reached.{IsWhole}
-use Rattle.spl_values.proofs.WholeLemmas.{whole_last, whole_behind}
-use Rattle.spl_conditions.proofs.ConditionLemmas.{closed_values}
-use Rattle.spl_conditions.proofs.ComplementLemmas.{complements}
-use Rattle.spl_operators.specs.Laws.{is_word_operand, is_single}
-use Rattle.spl_operators.proofs.SingleLemmas.{sign_cases, signs, shifts, fields, transfers}
+use Rattle.spl_doubles.specs.spl_tree.declared.expressions.Kind.{Kind}
+use Rattle.spl_doubles.specs.spl_tree.declared.expressions.Kind.TheVariants as kind
+use Rattle.spl_doubles.specs.spl_meaning.Kinds.{Operand, of, const, unknown, positive, negative, complement, minus_operand, unary_operand}
+use Rattle.spl_doubles.specs.spl_meaning.Operations.{signed_done, shift_done, field_done, transferred}
+use Rattle.spl_doubles.specs.spl_meaning.States.{State, Outcome, then_go}
+use Rattle.spl_doubles.specs.spl_code.Parts.{Part, pieces, ◌⨟◌}
+use Rattle.spl_doubles.specs.spl_code.Operators.{minus_operator, sign_operator, shift_operator, field_operator, transfer}
+use Rattle.spl_doubles.specs.spl_code.Code.{Aim, as_value, closing}
+use Rattle.spl_doubles.specs.spl_code.Instructions.{EXF}
+use Rattle.spl_doubles.specs.spl_follow.Standing.{IsClosed}
+use Rattle.spl_doubles.specs.spl_follow.Simulating.{Surroundings, Simulates}
+use Rattle.spl_doubles.specs.spl_values.Reached.{IsWhole}
+use Rattle.spl_doubles.proofs.spl_values_proofs.WholeLemmas.{whole_last, whole_behind}
+use Rattle.spl_doubles.proofs.spl_conditions_proofs.ConditionLemmas.{closed_values}
+use Rattle.spl_doubles.proofs.spl_conditions_proofs.ComplementLemmas.{complements}
+use Rattle.spl_doubles.specs.spl_operators.Laws.{is_word_operand, is_single}
+use Rattle.spl_doubles.proofs.spl_operators_proofs.SingleLemmas.{sign_cases, signs, shifts, fields, transfers}
 use Rattle.spl_word_operators.specs.Operators.{is_covered_sign}
 use Rattle.spl_word_operators.proofs.OperatorLemmas.{closing_whole, either}
 

@@ -1,15 +1,15 @@
 -- The laws of this crate: operators over their operands as variables, whatever is wanted of them.
 use Rattle.std.specs.Prelude.{◌≡◌, ℕ, ◌+◌, ◌≤◌, true, List}
-use Rattle.spl_meaning.specs.Kinds.{Operand, Class, class_of}
-use Rattle.spl_meaning.specs.Operations.{joined, signed_done}
-use Rattle.spl_meaning.specs.States.{State, Outcome, then_go}
-use Rattle.spl_code.specs.Parts.{Part, pieces, ◌⨟◌}
-use Rattle.spl_code.specs.Operators.{sign_operator}
-use Rattle.spl_code.specs.Code as made
-use Rattle.spl_code.specs.Code.{Aim, as_value, closing}
-use Rattle.spl_follow.specs.Simulating.{Surroundings, Simulates}
-use Rattle.spl_values.specs.Reached.{is_word_class, IsWhole}
-use Rattle.spl_operators.specs.Laws.{is_word_operand}
+use Rattle.spl_doubles.specs.spl_meaning.Kinds.{Operand, Class, class_of}
+use Rattle.spl_doubles.specs.spl_meaning.Operations.{joined, signed_done}
+use Rattle.spl_doubles.specs.spl_meaning.States.{State, Outcome, then_go}
+use Rattle.spl_doubles.specs.spl_code.Parts.{Part, pieces, ◌⨟◌}
+use Rattle.spl_doubles.specs.spl_code.Operators.{sign_operator}
+use Rattle.spl_doubles.specs.spl_code.Code as made
+use Rattle.spl_doubles.specs.spl_code.Code.{Aim, as_value, closing}
+use Rattle.spl_doubles.specs.spl_follow.Simulating.{Surroundings, Simulates}
+use Rattle.spl_doubles.specs.spl_values.Reached.{is_word_class, IsWhole}
+use Rattle.spl_doubles.specs.spl_operators.Laws.{is_word_operand}
 use Rattle.spl_word_operators.specs.Operators.{is_covered_operator, is_covered_sign}
 
 -- behind whole operands of a class of one word the code of an operator is whole

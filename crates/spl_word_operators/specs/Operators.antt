@@ -1,8 +1,8 @@
 -- Which operators over values of one word are proved. A further one makes it larger.
 use Rattle.std.specs.Prelude.{ℕ, ◌==◌, ◌||◌, Bool}
-use Rattle.spl_meaning.specs.Kinds.{positive, negative, complement, times, is_relation}
-use Rattle.spl_values.specs.Reached.{is_sum}
-use Rattle.spl_operators.specs.Laws.{is_quotient, is_bitwise}
+use Rattle.spl_doubles.specs.spl_meaning.Kinds.{positive, negative, complement, times, is_relation}
+use Rattle.spl_doubles.specs.spl_values.Reached.{is_sum}
+use Rattle.spl_doubles.specs.spl_operators.Laws.{is_quotient, is_bitwise}
 
 -- an operator of two operands by its number, none of AND and OR, and no relation: + - * / MOD, LOR, XOR and LAND
 abbrev pub is_plain : ℕ → Bool

@@ -1,8 +1,8 @@
 //! Places of the parts of statements and declarations, worked by hand.
 
 use super::tokens::numbered;
-use spl_statements::statement;
 use spl_tokens::Tokens;
+use spl_units::spl_statements::statement;
 use spl_units::unit;
 use std::alloc::Global;
 use std::test::Fail;

@@ -1,8 +1,8 @@
 //! Statements worked by hand: how many tokens one takes, and where its first fault is.
 
 use super::tokens::tokens;
-use spl_statements::{statement, statement_list};
 use spl_tokens::{Fault, Tokens};
+use spl_units::spl_statements::{statement, statement_list};
 use std::test::Fail;
 
 /// What a list of tokens begins with: a statement of so many tokens, or a fault at a token, counted from 0.

@@ -1,6 +1,6 @@
 -- What the parts answer is what the bytes come to, as a job to be prepared.
 use Rattle.std.proofs.Common.{ℕ, true, Vec, Global, map, sym, subst}
-use Rattle.job_text.specs.Views.{text_value}
+use Rattle.job_gen.specs.job_text.Views.{text_value}
 use Rattle.hp3000_top.specs.declared.answer.Answer.TheVariants.{Refusal}
 use Rattle.hp3000_top.specs.declared.verbs.Verb.TheVariants as verb
 use Rattle.hp3000_top.specs.Steps.{RefusedAmong, IsAnswered}

@@ -1,6 +1,6 @@
 -- What the parts answer is what the bytes come to, as a job to be run.
 use Rattle.std.proofs.Common.{ℕ, false, Vec, Global, map, refl, sym, subst}
-use Rattle.job_text.specs.Views.{text_value}
+use Rattle.job_gen.specs.job_text.Views.{text_value}
 use Rattle.hp3000_top.specs.declared.answer.Answer.TheVariants.{Refusal}
 use Rattle.hp3000_top.specs.Steps.{RefusedAmong, IsAnswered}
 use Rattle.hp3000_top.proofs.AnswerLemmas.{fits_so, programs_fit_so, run_line_so, run_program_so, run_so}

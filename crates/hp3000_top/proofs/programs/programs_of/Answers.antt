@@ -1,7 +1,7 @@
 -- Text by text.
 use Rattle.std.proofs.Common.{map}
-use Rattle.job_text.specs.Fits.{ProgramFits}
-use Rattle.job_text.specs.Views.{text_value}
+use Rattle.job_gen.specs.job_text.Fits.{ProgramFits}
+use Rattle.job_gen.specs.job_text.Views.{text_value}
 use Rattle.hp3000_top.specs.Steps.{RefusedAmong}
 use Rattle.hp3000_top.proofs.Loops.{handed, each_at, made_none, made_step, refused_step}
 use Rattle.hp3000_top.proofs.programs.programs_of.Goals as goal

@@ -1,6 +1,6 @@
 -- The programs so far are made of the texts so far.
 use Rattle.std.proofs.Common.{map, take}
-use Rattle.job_text.specs.Views.{text_value}
+use Rattle.job_gen.specs.job_text.Views.{text_value}
 use Rattle.hp3000_top.specs.Programs.{AreMade}
 use Rattle.hp3000_top.proofs.programs.programs_of.Given as goal
 

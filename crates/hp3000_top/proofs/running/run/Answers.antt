@@ -1,11 +1,11 @@
 -- The monitor runs copies of the programs that were made.
 use Rattle.std.proofs.Common.{List, map, length, Vec, Global, refl, sym, ap, subst, ◌∙◌, ◌≡◌, None}
 use Rattle.hp_program.specs.declared.program.Program.{Program}
-use Rattle.job_text.specs.declared.job.Text.{Text}
-use Rattle.job_text.specs.Views.{text_value}
+use Rattle.job_gen.specs.job_text.declared.job.Text.{Text}
+use Rattle.job_gen.specs.job_text.Views.{text_value}
 use Rattle.job_runs.specs.Reported.{names_of}
-use Rattle.mpe_turns.specs.Monitors.{world_of}
-use Rattle.mpe_turns.specs.Opening.{refusal}
+use Rattle.job_runs.specs.mpe_turns.Monitors.{world_of}
+use Rattle.job_runs.specs.mpe_turns.Opening.{refusal}
 use Rattle.hp3000_top.specs.Causes.{account_with}
 use Rattle.hp3000_top.specs.Steps.{AreCopies}
 use Rattle.hp3000_top.proofs.Opening.{count_so, few_so, seats_so, opened_so, none_of, refused_of, unopened_so, world_so}

@@ -1,6 +1,6 @@
 use Rattle.std.proofs.Common.{map, get_or, [], sym, ap, ◌∙◌}
 use Rattle.job_text.specs.declared.job.Text.{Text}
-use Rattle.hp_tos.specs.Representation.{seen_of}
+use Rattle.mpe_turns.specs.hp_tos.Representation.{seen_of}
 use Rattle.job_text.specs.Views.{text_value}
 use Rattle.job_runs.specs.Reported.{names_of}
 use Rattle.job_runs.proofs.PointLemmas.{name_at, same_reported}

@@ -1,11 +1,11 @@
 -- Turn by turn.
 use Rattle.std.proofs.Common.{◌≡◌, ◌+◌, ◌-◌, ◌*◌, ◌≤◌, Vec, Global, None, Some, sym, ap, subst, ◌∙◌, arith}
-use Rattle.hp_program.specs.declared.program.Program.{Program}
-use Rattle.mpe_overlay.specs.Codes.{codes_of}
-use Rattle.mpe_worlds.specs.Worlds.{World}
-use Rattle.mpe_worlds.specs.Turns.{turned}
-use Rattle.mpe_worlds.specs.Dispatch.{after, next_of}
-use Rattle.mpe_worlds.specs.Alone.{EachGoesOn}
+use Rattle.job_report.specs.hp_program.declared.program.Program.{Program}
+use Rattle.mpe_turns.specs.mpe_overlay.Codes.{codes_of}
+use Rattle.mpe_turns.specs.mpe_worlds.Worlds.{World}
+use Rattle.mpe_turns.specs.mpe_worlds.Turns.{turned}
+use Rattle.mpe_turns.specs.mpe_worlds.Dispatch.{after, next_of}
+use Rattle.mpe_turns.specs.mpe_worlds.Alone.{EachGoesOn}
 use Rattle.mpe_turns.specs.Monitors.{codes_in, world_of}
 use Rattle.job_runs.proofs.TurnLemmas.{no_turn, no_session, turn_more, turns_go_on, less_to_spend}
 use Rattle.job_runs.proofs.turns.take_turns.Goals as goal

@@ -1,6 +1,6 @@
 -- The turns that are left lead from here to where all led at first.
 use Rattle.std.proofs.Common.{◌≡◌, ◌+◌, ◌*◌, ◌≤◌, ◌^◌}
-use Rattle.mpe_worlds.specs.Dispatch.{after}
+use Rattle.mpe_turns.specs.mpe_worlds.Dispatch.{after}
 use Rattle.mpe_turns.specs.Monitors.{codes_in, world_of}
 use Rattle.job_runs.proofs.turns.take_turns.Given as goal
 

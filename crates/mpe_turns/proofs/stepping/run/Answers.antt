@@ -1,7 +1,7 @@
 -- The steps over one segment after those over another.
 use Rattle.std.proofs.Common.{◌≡◌, ◌≤◌, Bool, true, false, Some, slice_get, ap, subst, ◌∙◌, arith}
 use Rattle.hp_program.specs.declared.program.Program.{Program}
-use Rattle.mpe_regions.specs.Area.{Area}
+use Rattle.mpe_overlay.specs.mpe_regions.Area.{Area}
 use Rattle.mpe_turns.specs.Stands.{IsSessionOf}
 use Rattle.mpe_turns.specs.Steps.{MakesSome, RunsOver, area_of}
 use Rattle.mpe_turns.proofs.LoopLemmas.{all_made, area_seen, none_left, over_twice, runs_over}

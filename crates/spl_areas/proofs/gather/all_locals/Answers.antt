@@ -3,7 +3,7 @@ use Rattle.std.proofs.Common.{List, map, ap, ◌++◌, ◌∙◌}
 use Rattle.spl_tree.specs.declared.declarations.Decl.{Decl}
 use Rattle.spl_tree.specs.DeclarationTrees.{declarations}
 use Rattle.spl_tree.specs.Spells.{declaration}
-use Rattle.spl_meaning.specs.Names.{nothing_declared}
+use Rattle.spl_sound.specs.spl_meaning.Names.{nothing_declared}
 use Rattle.spl_places.specs.ListedData.{datum_of}
 use Rattle.spl_areas.specs.Gathered.{items_among}
 use Rattle.spl_areas.proofs.GatherWalks.{units_more}

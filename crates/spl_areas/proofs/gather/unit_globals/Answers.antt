@@ -4,7 +4,7 @@ use Rattle.std.proofs.lemmas.Result.{on_ok_weaker}
 use Rattle.spl_tree.specs.declared.declarations.Decl.{Decl}
 use Rattle.spl_tree.specs.DeclarationTrees.{declarations}
 use Rattle.spl_tree.specs.Spells.{declaration}
-use Rattle.spl_meaning.specs.Names.{Names, find, nothing_declared}
+use Rattle.spl_sound.specs.spl_meaning.Names.{Names, find, nothing_declared}
 use Rattle.spl_sorts.specs.Tables.{table_of}
 use Rattle.spl_places.specs.ListedData.{Datum, datum_of, list_data}
 use Rattle.spl_areas.proofs.GatherWalks.{globals_are}

@@ -1,7 +1,7 @@
 -- The limits of lists are those of their items.
 use Rattle.std.proofs.Common.{List, map, ap, sym, ◌∙◌}
 use Rattle.std.proofs.lemmas.Result.{on_ok_weaker}
-use Rattle.spl_meaning.specs.Limits.{first_among}
+use Rattle.spl_sound.specs.spl_meaning.Limits.{first_among}
 use Rattle.spl_sound.specs.Spelled.{source_of}
 use Rattle.spl_places.specs.declared.data.Datum as code
 use Rattle.spl_places.specs.ListedData.{Datum, datum_of}

@@ -1,5 +1,5 @@
 -- Along the tree, with as a value or as a test what is wanted.
-use Rattle.spl_code.specs.Code.{as_value, as_test}
+use Rattle.spl_statement_code.specs.spl_code.Code.{as_value, as_test}
 use Rattle.spl_beginnings.proofs.ExpressionLaws.{opens_code, may_reference}
 use Rattle.spl_beginnings.proofs.ValueLaws.{opens_value}
 use Rattle.spl_beginnings.proofs.laws.values_open.Goals as goal

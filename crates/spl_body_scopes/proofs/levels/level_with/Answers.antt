@@ -1,7 +1,7 @@
 -- No names, and the places of all items.
 use Rattle.std.proofs.Common.{map, ◌∙◌}
-use Rattle.spl_meaning.specs.Names.{find, nothing_declared}
-use Rattle.spl_meaning.specs.Places.{places_from, data_word}
+use Rattle.spl_sorts.specs.spl_meaning.Names.{find, nothing_declared}
+use Rattle.spl_sorts.specs.spl_meaning.Places.{places_from, data_word}
 use Rattle.spl_sorts.specs.Tables.{table_of}
 use Rattle.spl_places.specs.ListedData.{datum_of}
 use Rattle.spl_places.specs.NameMaps.{entries_of, shown}

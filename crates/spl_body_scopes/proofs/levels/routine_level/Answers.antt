@@ -2,11 +2,11 @@
 use Rattle.std.proofs.Common.{ℕ, List, ◌+◌, ◌++◌, true, map, ap, ◌∙◌}
 use Rattle.spl_tree.specs.DeclarationTrees.{declarations}
 use Rattle.spl_tree.specs.Spells.{declaration, heading_tree}
-use Rattle.spl_meaning.specs.Names as n
-use Rattle.spl_meaning.specs.Names.{Names, Table, find, parameters, formals_of}
-use Rattle.spl_meaning.specs.Places.{above_base, below_base, item_words, places_from}
-use Rattle.spl_meaning.specs.Bodies.{marker_gap, parameter_places}
-use Rattle.spl_found.specs.OwnNames.{behind_declarations}
+use Rattle.spl_sorts.specs.spl_meaning.Names as n
+use Rattle.spl_sorts.specs.spl_meaning.Names.{Names, Table, find, parameters, formals_of}
+use Rattle.spl_sorts.specs.spl_meaning.Places.{above_base, below_base, item_words, places_from}
+use Rattle.spl_sorts.specs.spl_meaning.Bodies.{marker_gap, parameter_places}
+use Rattle.spl_gen_expr.specs.spl_found.OwnNames.{behind_declarations}
 use Rattle.spl_sorts.specs.declared.profiles.Formal.{Formal}
 use Rattle.spl_sorts.specs.Profiles.{formal_of}
 use Rattle.spl_sorts.specs.Tables.{table_of}

@@ -1,7 +1,7 @@
 -- A loop over items.
 use Rattle.std.proofs.Common.{◌≡◌, map, drop}
-use Rattle.spl_meaning.specs.Names.{find}
-use Rattle.spl_meaning.specs.Places.{places_from}
+use Rattle.spl_sorts.specs.spl_meaning.Names.{find}
+use Rattle.spl_sorts.specs.spl_meaning.Places.{places_from}
 use Rattle.spl_places.specs.ListedData.{datum_of}
 use Rattle.spl_places.specs.NameMaps.{entries_of, shown, behind_table}
 use Rattle.spl_places.specs.Held.{named}

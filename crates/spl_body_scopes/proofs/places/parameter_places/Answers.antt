@@ -1,7 +1,7 @@
 -- Before the first parameter, and one more.
 use Rattle.std.proofs.Common.{◌-◌, map}
-use Rattle.spl_meaning.specs.Names.{find}
-use Rattle.spl_meaning.specs.Bodies.{parameter_places}
+use Rattle.spl_sorts.specs.spl_meaning.Names.{find}
+use Rattle.spl_sorts.specs.spl_meaning.Bodies.{parameter_places}
 use Rattle.spl_sorts.specs.Profiles.{formal_of}
 use Rattle.spl_places.specs.NameMaps.{entries_of}
 use Rattle.spl_places.specs.Spots.{spot_of}

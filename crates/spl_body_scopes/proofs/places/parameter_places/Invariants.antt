@@ -1,8 +1,8 @@
 -- A loop over parameters.
 use Rattle.std.proofs.Common.{◌≡◌, map, drop}
-use Rattle.spl_meaning.specs.Names.{find}
-use Rattle.spl_meaning.specs.Pending.{formals_words}
-use Rattle.spl_meaning.specs.Bodies.{parameter_places}
+use Rattle.spl_sorts.specs.spl_meaning.Names.{find}
+use Rattle.spl_sorts.specs.spl_meaning.Pending.{formals_words}
+use Rattle.spl_sorts.specs.spl_meaning.Bodies.{parameter_places}
 use Rattle.spl_sorts.specs.Profiles.{formal_of}
 use Rattle.spl_places.specs.NameMaps.{entries_of, shown, behind_table}
 use Rattle.spl_places.specs.Spots.{spot_of}

@@ -1,6 +1,5 @@
 -- Call by call.
 use Rattle.spl_calls.proofs.ProcedureLemmas.{call_whole, call_performs}
-use Rattle.spl_calls.proofs.AnswerLemmas.{answers_whole, answers_perform}
 use Rattle.spl_calls.proofs.laws.covered_calls_perform.Goals as goal
 
 pub returns-clause-whole : goal.returns-clause-whole
@@ -8,9 +7,3 @@ returns-clause-whole c = call_whole
 
 pub returns-clause-performs : goal.returns-clause-performs
 returns-clause-performs c = call_performs
-
-pub returns-clause-answers_whole : goal.returns-clause-answers_whole
-returns-clause-answers_whole c = answers_whole
-
-pub returns-clause-answers : goal.returns-clause-answers
-returns-clause-answers c = answers_perform

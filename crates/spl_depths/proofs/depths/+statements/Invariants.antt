@@ -2,7 +2,7 @@
 use Rattle.std.proofs.Common.{◌≡◌, max, map, drop}
 use Rattle.spl_tree.specs.Views as view
 use Rattle.spl_tree.specs.StatementTrees.{statements}
-use Rattle.spl_meaning.specs.Pending as pending
+use Rattle.spl_sorts.specs.spl_meaning.Pending as pending
 use Rattle.spl_sorts.specs.Tables.{names_of}
 use Rattle.spl_depths.proofs.depths.+statements.Given as goal
 

@@ -1,7 +1,7 @@
 -- A loop over parameters.
 use Rattle.std.proofs.Common.{◌≡◌, ◌≤◌, map, drop}
-use Rattle.spl_meaning.specs.Limits.{passing, parameter_sizes, most_parameters}
-use Rattle.spl_meaning.specs.Pending.{result_words}
+use Rattle.spl_sorts.specs.spl_meaning.Limits.{passing, parameter_sizes, most_parameters}
+use Rattle.spl_sorts.specs.spl_meaning.Pending.{result_words}
 use Rattle.spl_sorts.specs.Profiles.{formal_of, profile_of}
 use Rattle.spl_depths.proofs.subroutines.passing_parameter.Given as goal
 

@@ -1,6 +1,6 @@
 -- A loop over items.
 use Rattle.std.proofs.Common.{◌≡◌, ◌++◌, map, drop}
-use Rattle.spl_places.specs.ListedData.{datum_of}
+use Rattle.spl_globals.specs.spl_places.ListedData.{datum_of}
 use Rattle.spl_entries.specs.Entries.{item_entries}
 use Rattle.spl_entries.proofs.items.item_places.Given as goal
 

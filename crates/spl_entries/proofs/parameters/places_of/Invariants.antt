@@ -1,6 +1,6 @@
 -- A loop over parameters.
 use Rattle.std.proofs.Common.{◌≡◌, ◌++◌, map, drop}
-use Rattle.spl_meaning.specs.Pending.{formals_words}
+use Rattle.spl_sorts.specs.spl_meaning.Pending.{formals_words}
 use Rattle.spl_sorts.specs.Profiles.{formal_of}
 use Rattle.spl_entries.specs.Entries.{parameter_entries}
 use Rattle.spl_entries.proofs.parameters.places_of.Given as goal

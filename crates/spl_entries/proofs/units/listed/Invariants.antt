@@ -1,10 +1,10 @@
 -- A loop over items.
 use Rattle.std.proofs.Common.{◌≡◌, ◌++◌, map, drop}
 use Rattle.spl_tree.specs.Spells.{item_tree}
-use Rattle.spl_meaning.specs.Names.{find}
-use Rattle.spl_found.specs.OwnNames.{behind_items}
+use Rattle.spl_sorts.specs.spl_meaning.Names.{find}
+use Rattle.spl_formals.specs.spl_found.OwnNames.{behind_items}
 use Rattle.spl_sorts.specs.Tables.{table_of}
-use Rattle.spl_places.specs.ListedData.{datum_of, items_data}
+use Rattle.spl_globals.specs.spl_places.ListedData.{datum_of, items_data}
 use Rattle.spl_entries.proofs.units.listed.Given as goal
 
 -- the items so far and those from here on are all, and so it is with what names stand for

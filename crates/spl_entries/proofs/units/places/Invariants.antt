@@ -1,6 +1,6 @@
 -- A loop over units.
 use Rattle.std.proofs.Common.{◌≡◌, ◌++◌, map, drop}
-use Rattle.spl_sound.specs.Spelled.{source_of}
+use Rattle.spl_globals.specs.spl_sound.Spelled.{source_of}
 use Rattle.spl_entries.specs.Entries.{entries_of, units_entries}
 use Rattle.spl_entries.proofs.units.places.Given as goal
 

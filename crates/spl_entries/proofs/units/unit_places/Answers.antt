@@ -2,7 +2,7 @@
 use Rattle.std.proofs.Common.{◌++◌, map, ap, ◌∙◌}
 use Rattle.spl_tree.specs.DeclarationTrees.{declarations}
 use Rattle.spl_tree.specs.Spells.{declaration}
-use Rattle.spl_meaning.specs.Names.{Names, find, nothing_declared}
+use Rattle.spl_sorts.specs.spl_meaning.Names.{Names, find, nothing_declared}
 use Rattle.spl_sorts.specs.Tables.{table_of}
 use Rattle.spl_entries.specs.Entries.{entries_among, areas_among}
 use Rattle.spl_entries.proofs.EntryWalks.{places_more, areas_more}

@@ -2,7 +2,7 @@
 use Rattle.std.proofs.Common.{map}
 use Rattle.spl_tree.specs.Views as view
 use Rattle.spl_tree.specs.StatementTrees.{statements}
-use Rattle.spl_meaning.specs.StatementRules as rules
+use Rattle.spl_sorts.specs.spl_meaning.StatementRules as rules
 use Rattle.spl_flow.proofs.LabelLemmas.{seen_from_none}
 use Rattle.spl_flow.proofs.labels.doubled_among.Goals as goal
 

@@ -1,6 +1,6 @@
 -- From a table without labels on.
 use Rattle.spl_tree.specs.Views as view
-use Rattle.spl_meaning.specs.StatementRules as rules
+use Rattle.spl_sorts.specs.spl_meaning.StatementRules as rules
 use Rattle.spl_flow.proofs.LabelLemmas.{seen_from_none}
 use Rattle.spl_flow.proofs.labels.doubled_in.Goals as goal
 

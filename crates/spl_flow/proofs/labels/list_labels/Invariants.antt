@@ -2,7 +2,7 @@
 use Rattle.std.proofs.Common.{◌≡◌, drop, map}
 use Rattle.spl_tree.specs.Views as view
 use Rattle.spl_tree.specs.StatementTrees.{statements}
-use Rattle.spl_meaning.specs.StatementRules as rules
+use Rattle.spl_sorts.specs.spl_meaning.StatementRules as rules
 use Rattle.spl_sorts.specs.Tables.{table_of}
 use Rattle.spl_flow.specs.Labels.{with_labels}
 use Rattle.spl_flow.proofs.labels.list_labels.Given as goal

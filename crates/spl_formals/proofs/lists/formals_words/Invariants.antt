@@ -1,6 +1,6 @@
 -- A loop over parameters.
 use Rattle.std.proofs.Common.{◌≡◌, ◌+◌, map, drop}
-use Rattle.spl_meaning.specs.Pending as pending
+use Rattle.spl_sorts.specs.spl_meaning.Pending as pending
 use Rattle.spl_sorts.specs.Profiles.{formal_of}
 use Rattle.spl_formals.proofs.lists.formals_words.Given as goal
 

@@ -2,13 +2,13 @@
 use Rattle.std.proofs.Common.{List, map, false, ap, subst, ◌∙◌}
 use Rattle.spl_tree.specs.DeclarationTrees.{declarations}
 use Rattle.spl_tree.specs.Spells.{declaration}
-use Rattle.spl_meaning.specs.Names.{Names, Formal, find, parameters}
+use Rattle.spl_sorts.specs.spl_meaning.Names.{Names, Formal, find, parameters}
 use Rattle.spl_sorts.specs.declared.profiles.Formal as code
 use Rattle.spl_sorts.specs.Profiles.{formal_of}
 use Rattle.spl_sorts.specs.Tables.{table_of}
 use Rattle.spl_initials.specs.Cells.{found_in, initials_by}
-use Rattle.spl_code.specs.Parts.{pieces}
-use Rattle.spl_code.specs.Appends.{Appends}
+use Rattle.spl_body_code.specs.spl_code.Parts.{pieces}
+use Rattle.spl_body_code.specs.spl_code.Appends.{Appends}
 use Rattle.spl_operations.proofs.PutLemmas.{ok_then}
 use Rattle.spl_body_code.specs.Cells.{initials_set}
 use Rattle.spl_gen_body.proofs.bodies.set_values.Goals as goal

@@ -3,8 +3,8 @@ use Rattle.std.proofs.Common.{List, map, ap, sym, ◌∙◌}
 use Rattle.spl_tree.specs.declared.declarations.Decl.{Decl}
 use Rattle.spl_tree.specs.declared.declarations.Item.{Item}
 use Rattle.spl_tree.specs.Spells.{item_tree, declaration}
-use Rattle.spl_meaning.specs.Names.{find}
-use Rattle.spl_found.specs.OwnNames.{behind_items, behind_declaration}
+use Rattle.spl_sorts.specs.spl_meaning.Names.{find}
+use Rattle.spl_gen_expr.specs.spl_found.OwnNames.{behind_items, behind_declaration}
 use Rattle.spl_sorts.specs.Tables.{table_of}
 use Rattle.spl_operations.proofs.PutLemmas.{ok_then}
 use Rattle.spl_gen_body.proofs.InitialLemmas.{data_tree}

@@ -3,11 +3,11 @@ use Rattle.std.proofs.Common.{rules, ◌≡◌, [], ◌∷◌, List, ap, subst, 
 use Rattle.std.proofs.lemmas.Int.{ints}
 use Rattle.std.specs.Prelude.{ℤ}
 use mir.Val.{SFits}
-use Rattle.spl_places.specs.Spots.{spot_of}
+use Rattle.spl_initials.specs.spl_places.Spots.{spot_of}
 use Rattle.spl_sorts.specs.Tables.{names_of}
 use Rattle.spl_branch.specs.declared.pieces.Piece.{Piece}
-use Rattle.spl_code.specs.Parts.{pieces}
-use Rattle.spl_code.specs.Appends.{Appends}
+use Rattle.spl_body_code.specs.spl_code.Parts.{pieces}
+use Rattle.spl_body_code.specs.spl_code.Appends.{Appends}
 use Rattle.spl_operations.proofs.PutLemmas.{ok_then}
 use Rattle.spl_body_code.specs.Cells.{first_set}
 use Rattle.spl_gen_body.proofs.InitialLemmas.{first_is}

@@ -2,13 +2,13 @@
 use Rattle.std.proofs.Common.{◌≡◌, false, map, drop}
 use Rattle.spl_tree.specs.DeclarationTrees as decl
 use Rattle.spl_tree.specs.Spells.{declaration}
-use Rattle.spl_meaning.specs.Names.{find}
-use Rattle.spl_found.specs.OwnNames.{behind_declarations}
+use Rattle.spl_sorts.specs.spl_meaning.Names.{find}
+use Rattle.spl_gen_expr.specs.spl_found.OwnNames.{behind_declarations}
 use Rattle.spl_sorts.specs.Tables.{table_of}
 use Rattle.spl_initials.specs.Cells.{found_in, initials_by}
 use Rattle.spl_branch.specs.declared.buffer.Code.{Code}
-use Rattle.spl_code.specs.Parts.{pieces}
-use Rattle.spl_code.specs.Appends.{Appends}
+use Rattle.spl_body_code.specs.spl_code.Parts.{pieces}
+use Rattle.spl_body_code.specs.spl_code.Appends.{Appends}
 use Rattle.spl_body_code.specs.Cells.{initials_set}
 use Rattle.spl_gen_body.proofs.initials.set_initials.Given as goal
 

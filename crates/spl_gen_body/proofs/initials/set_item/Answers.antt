@@ -2,14 +2,14 @@
 use Rattle.std.proofs.Common.{List, map, option_map, Option, ap, subst, ◌∙◌}
 use Rattle.spl_tree.specs.declared.expressions.Const.{Const}
 use Rattle.spl_tree.specs.Views.{letters, constant}
-use Rattle.spl_meaning.specs.Names.{Names, find, constant_or_zero}
-use Rattle.spl_meaning.specs.Places.{Place, Array, Initial, start_of, initial_at}
-use Rattle.spl_found.specs.OwnNames.{over}
+use Rattle.spl_sorts.specs.spl_meaning.Names.{Names, find, constant_or_zero}
+use Rattle.spl_sorts.specs.spl_meaning.Places.{Place, Array, Initial, start_of, initial_at}
+use Rattle.spl_gen_expr.specs.spl_found.OwnNames.{over}
 use Rattle.spl_sorts.specs.Tables.{table_of, names_of}
-use Rattle.spl_places.specs.Spots.{array_of}
+use Rattle.spl_initials.specs.spl_places.Spots.{array_of}
 use Rattle.spl_initials.specs.Cells.{found_in}
-use Rattle.spl_code.specs.Parts.{pieces}
-use Rattle.spl_code.specs.Appends.{Appends}
+use Rattle.spl_body_code.specs.spl_code.Parts.{pieces}
+use Rattle.spl_body_code.specs.spl_code.Appends.{Appends}
 use Rattle.spl_operations.proofs.PutLemmas.{ok_then}
 use Rattle.spl_body_code.specs.Cells.{initials_set}
 use Rattle.spl_gen_body.proofs.initials.set_item.Goals as goal

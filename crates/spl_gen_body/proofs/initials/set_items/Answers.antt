@@ -2,10 +2,10 @@
 use Rattle.std.proofs.Common.{◌+◌, ap, sym, ◌∙◌, map, drop}
 use Rattle.spl_tree.specs.Views.{letters}
 use Rattle.spl_tree.specs.Spells.{item_tree}
-use Rattle.spl_meaning.specs.Names.{Names, find}
-use Rattle.spl_found.specs.OwnNames.{with_name, behind_items}
+use Rattle.spl_sorts.specs.spl_meaning.Names.{Names, find}
+use Rattle.spl_gen_expr.specs.spl_found.OwnNames.{with_name, behind_items}
 use Rattle.spl_sorts.specs.Tables.{table_of}
-use Rattle.spl_places.proofs.DataWalks.{behind_step}
+use Rattle.spl_initials.proofs.spl_places_proofs.DataWalks.{behind_step}
 use Rattle.spl_initials.specs.Cells.{found_in}
 use Rattle.spl_gen_body.proofs.InitialWalks.{item_step, item_end}
 use Rattle.spl_gen_body.proofs.initials.set_items.Goals as goal

@@ -1,13 +1,13 @@
 -- A loop over items.
 use Rattle.std.proofs.Common.{◌≡◌, map, drop}
 use Rattle.spl_tree.specs.Spells.{item_tree}
-use Rattle.spl_meaning.specs.Names.{find}
-use Rattle.spl_found.specs.OwnNames.{behind_items}
+use Rattle.spl_sorts.specs.spl_meaning.Names.{find}
+use Rattle.spl_gen_expr.specs.spl_found.OwnNames.{behind_items}
 use Rattle.spl_sorts.specs.Tables.{table_of}
 use Rattle.spl_initials.specs.Cells.{found_in, initials_of_items}
 use Rattle.spl_branch.specs.declared.buffer.Code.{Code}
-use Rattle.spl_code.specs.Parts.{pieces}
-use Rattle.spl_code.specs.Appends.{Appends}
+use Rattle.spl_body_code.specs.spl_code.Parts.{pieces}
+use Rattle.spl_body_code.specs.spl_code.Appends.{Appends}
 use Rattle.spl_body_code.specs.Cells.{initials_set}
 use Rattle.spl_gen_body.proofs.initials.set_items.Given as goal
 

@@ -3,11 +3,11 @@ use Rattle.std.proofs.Common.{rules, ◌≡◌, [], ◌∷◌, false, subst, to_
 use Rattle.std.proofs.lemmas.Int.{ints}
 use Rattle.std.specs.Prelude.{ℤ}
 use mir.Val.{SFits}
-use Rattle.spl_places.specs.Spots.{spot_of}
-use Rattle.spl_code.specs.Parts.{pieces}
-use Rattle.spl_code.specs.Appends.{Appends}
-use Rattle.spl_code.specs.Operands.{mode_of}
-use Rattle.spl_code.specs.Stores.{store}
+use Rattle.spl_initials.specs.spl_places.Spots.{spot_of}
+use Rattle.spl_body_code.specs.spl_code.Parts.{pieces}
+use Rattle.spl_body_code.specs.spl_code.Appends.{Appends}
+use Rattle.spl_body_code.specs.spl_code.Operands.{mode_of}
+use Rattle.spl_body_code.specs.spl_code.Stores.{store}
 use Rattle.spl_operations.proofs.PutLemmas.{pieces_then, ok_then}
 use Rattle.spl_body_code.specs.Cells.{value_pushed}
 use Rattle.spl_gen_body.proofs.initials.set_value.Goals as goal

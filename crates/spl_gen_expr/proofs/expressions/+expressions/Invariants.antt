@@ -4,8 +4,8 @@ use Rattle.spl_tree.specs.Views as view
 use Rattle.spl_tree.specs.Trees.{trees}
 use Rattle.spl_sorts.specs.Profiles.{formal_of}
 use Rattle.spl_branch.specs.declared.buffer.Code.{Code}
-use Rattle.spl_code.specs.Code.{arguments}
-use Rattle.spl_code.specs.Appends.{Appends}
+use Rattle.spl_operations.specs.spl_code.Code.{arguments}
+use Rattle.spl_operations.specs.spl_code.Appends.{Appends}
 use Rattle.spl_gen_expr.specs.Scopes.{scope_of}
 use Rattle.spl_gen_expr.proofs.expressions.+expressions.Given as goal
 

@@ -4,10 +4,10 @@ use Rattle.spl_tree.specs.declared.units.SplUnit.{SplUnit}
 use Rattle.spl_tree.specs.declared.names_and_places.Name.{Name}
 use Rattle.spl_tree.specs.Views.{letters}
 use Rattle.spl_sound.specs.Spelled.{source_of}
-use Rattle.spl_places.specs.Programs.{Each, NewInAll}
-use Rattle.spl_places.proofs.SoundLaws.{sound_new}
-use Rattle.spl_globals.specs.Stored.{first_areas}
-use Rattle.spl_module_code.specs.Modules.{program_uses}
+use Rattle.spl_unit_laws.specs.spl_places.Programs.{Each, NewInAll}
+use Rattle.spl_unit_laws.proofs.spl_places_proofs.SoundLaws.{sound_new}
+use Rattle.spl_layout.specs.spl_globals.Stored.{first_areas}
+use Rattle.spl_unit_laws.specs.spl_module_code.Modules.{program_uses}
 use Rattle.spl_unit_laws.specs.Units.{OnceInBodies, UnitsStand}
 use Rattle.spl_unit_laws.proofs.Modules.{once}
 use Rattle.spl_unit_laws.specs.Begins.{UnitsBegin}

@@ -2,7 +2,7 @@
 use Rattle.std.proofs.Common.{map}
 use Rattle.spl_tree.specs.DeclarationTrees.{declarations}
 use Rattle.spl_tree.specs.Spells.{declaration}
-use Rattle.spl_body_scopes.specs.Levels.{level_of}
+use Rattle.spl_unit_laws.specs.spl_body_scopes.Levels.{level_of}
 use Rattle.spl_gen_proc.proofs.LevelWalks.{level_first, level_next, level_done}
 use Rattle.spl_gen_proc.proofs.units.declare_all.Goals as goal
 

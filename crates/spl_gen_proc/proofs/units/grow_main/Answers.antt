@@ -3,10 +3,10 @@ use Rattle.std.proofs.Common.{◌≡◌, [], List, map, refl, sym, ap, subst}
 use Rattle.spl_tree.specs.declared.statements.Stmt.{Stmt}
 use Rattle.spl_tree.specs.StatementTrees.{statements}
 use Rattle.spl_tree.specs.Views as view
-use Rattle.spl_meaning.specs.Names.{find}
-use Rattle.spl_meaning.specs.StatementRules.{label_faults}
-use Rattle.spl_places.specs.NameMaps.{entries_of}
-use Rattle.spl_unit_codes.specs.declared.growing.Growing.{Growing}
+use Rattle.spl_sound.specs.spl_meaning.Names.{find}
+use Rattle.spl_sound.specs.spl_meaning.StatementRules.{label_faults}
+use Rattle.spl_unit_laws.specs.spl_places.NameMaps.{entries_of}
+use Rattle.spl_unit_laws.specs.spl_unit_codes.declared.growing.Growing.{Growing}
 use Rattle.spl_gen_proc.specs.Views.{fixed_of}
 use Rattle.spl_gen_proc.proofs.Steps.{main_grows}
 use Rattle.spl_gen_proc.proofs.units.grow_main.Goals as goal

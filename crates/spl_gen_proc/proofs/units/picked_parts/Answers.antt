@@ -1,9 +1,9 @@
 -- The slots are those of the codes, and the numbers those of the segments.
 use Rattle.std.proofs.Common.{map}
 use Rattle.spl_tree.specs.Views.{letters}
-use Rattle.spl_meaning.specs.Names.{find}
+use Rattle.spl_sound.specs.spl_meaning.Names.{find}
 use Rattle.spl_sound.specs.Spelled.{source_of}
-use Rattle.spl_places.specs.NameMaps.{entries_of}
+use Rattle.spl_unit_laws.specs.spl_places.NameMaps.{entries_of}
 use Rattle.spl_gen_proc.proofs.UnitParts.{parts_picked}
 use Rattle.spl_gen_proc.proofs.units.picked_parts.Goals as goal
 

@@ -2,8 +2,8 @@
 use Rattle.std.proofs.Common.{map}
 use Rattle.spl_tree.specs.Views.{letters}
 use Rattle.spl_sound.specs.Spelled.{source_of}
-use Rattle.spl_modules.specs.Walks.{walk_of}
-use Rattle.spl_body_scopes.specs.Levels.{level_of}
+use Rattle.spl_unit_laws.specs.spl_modules.Walks.{walk_of}
+use Rattle.spl_unit_laws.specs.spl_body_scopes.Levels.{level_of}
 use Rattle.spl_gen_proc.specs.Views.{fixed_of}
 use Rattle.spl_gen_proc.proofs.Begins.{free_begun}
 use Rattle.spl_gen_proc.proofs.UnitParts.{unit_is_made, bodies_complete}

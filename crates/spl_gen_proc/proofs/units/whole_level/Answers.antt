@@ -3,7 +3,7 @@ use Rattle.std.proofs.Common.{List, map, ap}
 use Rattle.spl_tree.specs.declared.declarations.Decl.{Decl}
 use Rattle.spl_tree.specs.DeclarationTrees.{declarations}
 use Rattle.spl_tree.specs.Spells.{declaration}
-use Rattle.spl_body_scopes.specs.Levels.{level_of}
+use Rattle.spl_unit_laws.specs.spl_body_scopes.Levels.{level_of}
 use Rattle.spl_gen_proc.proofs.LevelWalks.{all_declared}
 use Rattle.spl_gen_proc.proofs.units.whole_level.Goals as goal
 

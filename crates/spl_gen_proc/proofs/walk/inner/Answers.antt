@@ -1,8 +1,8 @@
 -- Where there is no map there are no names.
 use Rattle.std.proofs.Common.{[], Option, ap, ◌∙◌}
 use Rattle.std.specs.Prelude.{unwrap_or}
-use Rattle.spl_meaning.specs.Names.{find}
-use Rattle.spl_modules.specs.Entered.{Indexes}
+use Rattle.spl_sound.specs.spl_meaning.Names.{find}
+use Rattle.spl_unit_laws.specs.spl_modules.Entered.{Indexes}
 use Rattle.spl_gen_proc.proofs.walk.inner.Goals as goal
 
 pub returns-in-None : goal.returns-in-None

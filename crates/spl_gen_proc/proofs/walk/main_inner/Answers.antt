@@ -3,9 +3,9 @@ use Rattle.std.proofs.Common.{◌≤◌, ◌≡◌, ◌<◌, rules, Vec, length,
 use Rattle.spl_tree.specs.Spells.{heading_tree}
 use Rattle.spl_tree.specs.Views as view
 use Rattle.std.specs.Global.{Global}
-use Rattle.spl_meaning.specs.Names.{find}
-use Rattle.spl_places.specs.NameMaps.{entries_of}
-use Rattle.spl_unit_codes.specs.declared.growing.Growing.{Growing}
+use Rattle.spl_sound.specs.spl_meaning.Names.{find}
+use Rattle.spl_unit_laws.specs.spl_places.NameMaps.{entries_of}
+use Rattle.spl_unit_laws.specs.spl_unit_codes.declared.growing.Growing.{Growing}
 use Rattle.spl_unit_laws.specs.Steps.{Grows, InnerGrows}
 use Rattle.spl_gen_proc.specs.Views.{fixed_of}
 use Rattle.spl_gen_proc.proofs.Grown.{grown_there, grown_nowhere}

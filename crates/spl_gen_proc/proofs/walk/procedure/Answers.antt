@@ -5,17 +5,17 @@ use Rattle.spl_tree.specs.DeclarationTrees.{declarations}
 use Rattle.spl_tree.specs.Spells.{heading_tree, declaration}
 use Rattle.spl_tree.specs.Views as view
 use Rattle.std.specs.Global.{Global}
-use Rattle.spl_meaning.specs.Names.{find}
-use Rattle.spl_meaning.specs.Places.{array_words}
-use Rattle.spl_sorts.specs.Tables.{table_of}
-use Rattle.spl_places.specs.declared.data.Datum as code
-use Rattle.spl_places.specs.ListedData.{Datum, datum_of}
-use Rattle.spl_places.specs.Counters.{total_words}
-use Rattle.spl_places.specs.NameMaps.{entries_of}
-use Rattle.spl_areas.specs.Gathered.{items_under}
-use Rattle.spl_body_scopes.specs.Levels.{level_of}
-use Rattle.spl_gen_routines.specs.Routines.{inners_among}
-use Rattle.spl_unit_codes.specs.declared.growing.Growing.{Growing}
+use Rattle.spl_sound.specs.spl_meaning.Names.{find}
+use Rattle.spl_sound.specs.spl_meaning.Places.{array_words}
+use Rattle.spl_unit_laws.specs.spl_sorts.Tables.{table_of}
+use Rattle.spl_unit_laws.specs.spl_places.declared.data.Datum as code
+use Rattle.spl_unit_laws.specs.spl_places.ListedData.{Datum, datum_of}
+use Rattle.spl_unit_laws.specs.spl_places.Counters.{total_words}
+use Rattle.spl_unit_laws.specs.spl_places.NameMaps.{entries_of}
+use Rattle.spl_layout.specs.spl_areas.Gathered.{items_under}
+use Rattle.spl_unit_laws.specs.spl_body_scopes.Levels.{level_of}
+use Rattle.spl_unit_laws.specs.spl_gen_routines.Routines.{inners_among}
+use Rattle.spl_unit_laws.specs.spl_unit_codes.declared.growing.Growing.{Growing}
 use Rattle.spl_unit_laws.specs.Steps.{Grows, RoutineGrows}
 use Rattle.spl_gen_proc.specs.Views.{fixed_of}
 use Rattle.spl_gen_proc.proofs.Grown.{grown_there, grown_nowhere}

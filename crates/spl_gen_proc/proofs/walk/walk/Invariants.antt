@@ -2,7 +2,7 @@
 use Rattle.std.proofs.Common.{map, drop}
 use Rattle.spl_tree.specs.DeclarationTrees.{declarations}
 use Rattle.spl_tree.specs.Spells.{declaration}
-use Rattle.spl_body_scopes.specs.Levels.{level_of}
+use Rattle.spl_unit_laws.specs.spl_body_scopes.Levels.{level_of}
 use Rattle.spl_gen_proc.specs.Views.{fixed_of}
 use Rattle.spl_gen_proc.proofs.Frees.{UnitWalk}
 use Rattle.spl_gen_proc.proofs.walk.walk.Given as goal

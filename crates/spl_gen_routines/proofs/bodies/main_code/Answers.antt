@@ -1,10 +1,10 @@
 -- The mark of a main body stands for its way out, which nothing leads to.
-use Rattle.spl_operations.proofs.PutLemmas.{ok_then}
+use Rattle.spl_gen_body.proofs.spl_operations_proofs.PutLemmas.{ok_then}
 use Rattle.std.proofs.Common.{map}
 use Rattle.spl_tree.specs.Views as view
 use Rattle.spl_tree.specs.StatementTrees as trees
-use Rattle.spl_gen_expr.specs.Scopes.{scope_of}
-use Rattle.spl_body_code.specs.Frames.{granted}
+use Rattle.spl_gen_body.specs.spl_gen_expr.Scopes.{scope_of}
+use Rattle.spl_gen_body.specs.spl_body_code.Frames.{granted}
 use Rattle.spl_landings.specs.Bodies.{statements_part}
 use Rattle.spl_gen_routines.proofs.WholeBodies.{made_in_main, main_done}
 use Rattle.spl_gen_routines.proofs.bodies.main_code.Goals as goal

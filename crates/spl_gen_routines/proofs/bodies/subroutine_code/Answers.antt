@@ -1,14 +1,14 @@
 -- The entry's mark may be set, and then that of the way out.
-use Rattle.spl_operations.proofs.PutLemmas.{ok_then}
+use Rattle.spl_gen_body.proofs.spl_operations_proofs.PutLemmas.{ok_then}
 use Rattle.std.proofs.Common.{map}
 use Rattle.spl_tree.specs.Views as view
 use Rattle.spl_tree.specs.StatementTrees as trees
 use Rattle.spl_tree.specs.Spells.{heading_tree}
-use Rattle.spl_meaning.specs.Names.{formals_of}
-use Rattle.spl_meaning.specs.Pending.{formals_words}
-use Rattle.spl_gen_expr.specs.Scopes.{scope_of}
-use Rattle.spl_body_code.specs.Frames.{granted}
-use Rattle.spl_body_code.specs.Bodies.{subroutine_left}
+use Rattle.spl_sorts.specs.spl_meaning.Names.{formals_of}
+use Rattle.spl_sorts.specs.spl_meaning.Pending.{formals_words}
+use Rattle.spl_gen_body.specs.spl_gen_expr.Scopes.{scope_of}
+use Rattle.spl_gen_body.specs.spl_body_code.Frames.{granted}
+use Rattle.spl_gen_body.specs.spl_body_code.Bodies.{subroutine_left}
 use Rattle.spl_landings.specs.Bodies.{statements_part}
 use Rattle.spl_gen_routines.proofs.WholeBodies.{with_mark, free_to_enter, made_to_leave, free_to_leave, body_done}
 use Rattle.spl_gen_routines.proofs.bodies.subroutine_code.Goals as goal

@@ -3,13 +3,13 @@ use Rattle.std.proofs.Common.{List, [], ◌∷◌, map, ap, subst, ◌∙◌}
 use Rattle.spl_tree.specs.Spells.{heading_tree}
 use Rattle.spl_tree.specs.StatementTrees.{Statement, statements}
 use Rattle.spl_tree.specs.Views as view
-use Rattle.spl_meaning.specs.Names.{formals_of}
-use Rattle.spl_meaning.specs.Pending.{formals_words}
-use Rattle.spl_operations.proofs.PutLemmas.{ok_then}
-use Rattle.spl_gen_expr.specs.Scopes.{scope_of}
-use Rattle.spl_scopes.specs.Scopes.{Results}
-use Rattle.spl_body_scopes.specs.Levels.{Level, level_of, inner_level}
-use Rattle.spl_body_scopes.specs.Results.{result_of, results_through}
+use Rattle.spl_sorts.specs.spl_meaning.Names.{formals_of}
+use Rattle.spl_sorts.specs.spl_meaning.Pending.{formals_words}
+use Rattle.spl_gen_body.proofs.spl_operations_proofs.PutLemmas.{ok_then}
+use Rattle.spl_gen_body.specs.spl_gen_expr.Scopes.{scope_of}
+use Rattle.spl_statement_scopes.specs.spl_scopes.Scopes.{Results}
+use Rattle.spl_statement_scopes.specs.spl_body_scopes.Levels.{Level, level_of, inner_level}
+use Rattle.spl_statement_scopes.specs.spl_body_scopes.Results.{result_of, results_through}
 use Rattle.spl_statement_scopes.specs.Levels.{with_results}
 use Rattle.spl_landings.specs.Bodies.{statements_part}
 use Rattle.spl_gen_routines.specs.Generates.{Generates}

@@ -2,9 +2,9 @@
 use Rattle.std.proofs.Common.{List, map, ap, ◌∙◌}
 use Rattle.spl_tree.specs.DeclarationTrees.{declarations}
 use Rattle.spl_tree.specs.Spells.{declaration, heading_tree}
-use Rattle.spl_meaning.specs.Names.{find}
+use Rattle.spl_sorts.specs.spl_meaning.Names.{find}
 use Rattle.spl_sorts.specs.Tables.{table_of}
-use Rattle.spl_body_scopes.proofs.LevelLemmas.{first_named, items_listed}
+use Rattle.spl_statement_scopes.proofs.spl_body_scopes_proofs.LevelLemmas.{first_named, items_listed}
 use Rattle.spl_gen_routines.proofs.routines.listed_items.Goals as goal
 
 pub returns : goal.returns

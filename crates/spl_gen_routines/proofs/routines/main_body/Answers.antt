@@ -1,10 +1,10 @@
 -- The first level of a main body has no names and no results.
 use Rattle.std.proofs.Common.{map, None, ap, subst, ◌∙◌}
-use Rattle.spl_operations.proofs.PutLemmas.{ok_then}
-use Rattle.spl_gen_expr.specs.Scopes.{scope_of}
-use Rattle.spl_body_scopes.specs.Levels.{Level, level_of}
-use Rattle.spl_body_scopes.specs.Results.{result_of, results_through}
-use Rattle.spl_body_scopes.specs.Found.{calls_in}
+use Rattle.spl_gen_body.proofs.spl_operations_proofs.PutLemmas.{ok_then}
+use Rattle.spl_gen_body.specs.spl_gen_expr.Scopes.{scope_of}
+use Rattle.spl_statement_scopes.specs.spl_body_scopes.Levels.{Level, level_of}
+use Rattle.spl_statement_scopes.specs.spl_body_scopes.Results.{result_of, results_through}
+use Rattle.spl_statement_scopes.specs.spl_body_scopes.Found.{calls_in}
 use Rattle.spl_statement_scopes.specs.Levels.{with_results}
 use Rattle.spl_statement_scopes.specs.Scopes.{StatesMain}
 use Rattle.spl_gen_routines.proofs.routines.main_body.Goals as goal

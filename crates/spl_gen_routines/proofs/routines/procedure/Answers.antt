@@ -5,19 +5,19 @@ use Rattle.spl_tree.specs.DeclarationTrees.{declarations}
 use Rattle.spl_tree.specs.Spells.{heading_tree, declaration}
 use Rattle.spl_tree.specs.StatementTrees.{statements}
 use Rattle.spl_tree.specs.Views as view
-use Rattle.spl_meaning.specs.Names.{find, formals_of}
-use Rattle.spl_meaning.specs.Pending.{formals_words}
-use Rattle.spl_meaning.specs.Places.{above_base, places_from, arrays_from}
+use Rattle.spl_sorts.specs.spl_meaning.Names.{find, formals_of}
+use Rattle.spl_sorts.specs.spl_meaning.Pending.{formals_words}
+use Rattle.spl_sorts.specs.spl_meaning.Places.{above_base, places_from, arrays_from}
 use Rattle.spl_sorts.specs.Tables.{table_of}
-use Rattle.spl_places.specs.declared.data.Datum as code
-use Rattle.spl_places.specs.ListedData.{datum_of}
-use Rattle.spl_places.specs.Held.{named}
-use Rattle.spl_places.specs.Spots.{frame_starts}
-use Rattle.spl_areas.specs.Gathered.{items_under}
-use Rattle.spl_operations.proofs.PutLemmas.{ok_then}
-use Rattle.spl_gen_expr.specs.Scopes.{scope_of}
-use Rattle.spl_body_scopes.specs.Levels.{Level, level_of}
-use Rattle.spl_body_scopes.specs.Results.{result_of, results_through}
+use Rattle.spl_statement_scopes.specs.spl_places.declared.data.Datum as code
+use Rattle.spl_statement_scopes.specs.spl_places.ListedData.{datum_of}
+use Rattle.spl_statement_scopes.specs.spl_places.Held.{named}
+use Rattle.spl_statement_scopes.specs.spl_places.Spots.{frame_starts}
+use Rattle.spl_statement_scopes.specs.spl_areas.Gathered.{items_under}
+use Rattle.spl_gen_body.proofs.spl_operations_proofs.PutLemmas.{ok_then}
+use Rattle.spl_gen_body.specs.spl_gen_expr.Scopes.{scope_of}
+use Rattle.spl_statement_scopes.specs.spl_body_scopes.Levels.{Level, level_of}
+use Rattle.spl_statement_scopes.specs.spl_body_scopes.Results.{result_of, results_through}
 use Rattle.spl_statement_scopes.specs.Levels.{with_results}
 use Rattle.spl_statement_scopes.specs.Scopes.{StatesRoutine}
 use Rattle.spl_gen_body.specs.declared.bodies.Procedure.{Procedure}

@@ -4,12 +4,12 @@ use Rattle.spl_tree.specs.declared.declarations.Decl.{Decl}
 use Rattle.spl_tree.specs.DeclarationTrees.{declarations}
 use Rattle.spl_tree.specs.Spells.{heading_tree, declaration}
 use Rattle.spl_tree.specs.Views as view
-use Rattle.spl_meaning.specs.Names.{find}
+use Rattle.spl_sorts.specs.spl_meaning.Names.{find}
 use Rattle.spl_sorts.specs.Tables.{table_of}
-use Rattle.spl_scopes.specs.Scopes.{Results}
-use Rattle.spl_body_scopes.specs.Levels.{level_of}
-use Rattle.spl_body_scopes.specs.Found.{calls_in}
-use Rattle.spl_body_scopes.specs.Results.{result_of, routine_result}
+use Rattle.spl_statement_scopes.specs.spl_scopes.Scopes.{Results}
+use Rattle.spl_statement_scopes.specs.spl_body_scopes.Levels.{level_of}
+use Rattle.spl_statement_scopes.specs.spl_body_scopes.Found.{calls_in}
+use Rattle.spl_statement_scopes.specs.spl_body_scopes.Results.{result_of, routine_result}
 use Rattle.spl_gen_routines.specs.Generates.{AreOpen}
 use Rattle.spl_gen_routines.specs.Routines.{Around, inners_among}
 use Rattle.spl_gen_routines.specs.Views.{routine_around}

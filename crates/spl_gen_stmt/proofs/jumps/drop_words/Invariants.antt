@@ -1,7 +1,7 @@
 -- So many have been appended.
 use Rattle.std.proofs.Common.{replicate}
-use Rattle.spl_code.specs.Parts.{pieces}
-use Rattle.spl_code.specs.Appends.{Appends}
+use Rattle.spl_statement_code.specs.spl_code.Parts.{pieces}
+use Rattle.spl_statement_code.specs.spl_code.Appends.{Appends}
 use Rattle.spl_statement_code.specs.Instructions.{SUBS}
 use Rattle.spl_gen_stmt.proofs.jumps.drop_words.Given as goal
 

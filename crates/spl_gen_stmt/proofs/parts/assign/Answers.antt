@@ -1,6 +1,6 @@
 -- The index, the value and the store.
 use Rattle.spl_tree.specs.Views as view
-use Rattle.spl_code.specs.Code as written
+use Rattle.spl_statement_code.specs.spl_code.Code as written
 use Rattle.spl_operations.proofs.PutLemmas.{ok_then}
 use Rattle.spl_gen_expr.specs.Scopes.{scope_of}
 use Rattle.spl_gen_stmt.proofs.PartLemmas.{assigned_done}

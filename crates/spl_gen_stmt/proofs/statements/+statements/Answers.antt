@@ -6,9 +6,9 @@ use Rattle.spl_tree.specs.StatementTrees as stat
 use Rattle.spl_tree.specs.declared.statements.Stmt as stmt
 use Rattle.spl_tree.specs.StatementTrees.{statements}
 use Rattle.spl_branch.specs.declared.pieces.Piece.TheVariants.{Begin}
-use Rattle.spl_code.specs.Parts.{piece}
-use Rattle.spl_code.specs.Code as written
-use Rattle.spl_code.proofs.AppendLaws.{then_appends}
+use Rattle.spl_statement_code.specs.spl_code.Parts.{piece}
+use Rattle.spl_statement_code.specs.spl_code.Code as written
+use Rattle.spl_statement_code.proofs.spl_code_proofs.AppendLaws.{then_appends}
 use Rattle.spl_operations.proofs.PutLemmas.{ok_then}
 use Rattle.spl_gen_expr.specs.Scopes.{scope_of}
 use Rattle.spl_statement_code.specs.Statements as shapes

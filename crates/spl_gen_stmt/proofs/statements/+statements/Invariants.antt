@@ -2,7 +2,7 @@
 use Rattle.std.proofs.Common.{◌+◌, map}
 use Rattle.spl_tree.specs.Views as view
 use Rattle.spl_tree.specs.StatementTrees.{statements}
-use Rattle.spl_meaning.specs.Bound.{statement_weight, statements_weight}
+use Rattle.spl_sorts.specs.spl_meaning.Bound.{statement_weight, statements_weight}
 use Rattle.spl_statement_code.specs.Statements.{listed, arms}
 use Rattle.spl_gen_stmt.specs.Contexts.{context_of}
 use Rattle.spl_gen_stmt.proofs.StatementLemmas.{Due, rest_of}

@@ -1,9 +1,9 @@
 -- The items are those of all units.
 use Rattle.std.proofs.Common.{List, map, ap, ◌∙◌}
-use Rattle.spl_sound.specs.Spelled.{source_of}
-use Rattle.spl_places.specs.declared.data.Datum as code
-use Rattle.spl_places.specs.ListedData.{Datum, datum_of}
-use Rattle.spl_places.specs.Programs.{all_globals}
+use Rattle.spl_areas.specs.spl_sound.Spelled.{source_of}
+use Rattle.spl_initials.specs.spl_places.declared.data.Datum as code
+use Rattle.spl_initials.specs.spl_places.ListedData.{Datum, datum_of}
+use Rattle.spl_initials.specs.spl_places.Programs.{all_globals}
 use Rattle.spl_globals.specs.Stored.{areas_of, words_of}
 use Rattle.spl_globals.proofs.StoredLaws.{areas_found, words_found}
 use Rattle.spl_globals.proofs.areas.first_areas.Goals as goal

@@ -1,11 +1,11 @@
 -- First all cells are stored, and then all initial values.
 use Rattle.std.proofs.Common.{List, ℕ, ◌≡◌, length, map, ap, arith, ◌∙◌}
 use Rattle.std.proofs.lemmas.List.{with_items_is}
-use Rattle.spl_meaning.specs.Places.{put_initials}
-use Rattle.spl_meaning.specs.Bodies as bodies
-use Rattle.spl_meaning.specs.Bodies.{program_of}
-use Rattle.spl_meaning.specs.Runs.{global_address, zeros}
-use Rattle.spl_sound.specs.Spelled.{source_of}
+use Rattle.spl_sorts.specs.spl_meaning.Places.{put_initials}
+use Rattle.spl_sorts.specs.spl_meaning.Bodies as bodies
+use Rattle.spl_sorts.specs.spl_meaning.Bodies.{program_of}
+use Rattle.spl_sorts.specs.spl_meaning.Runs.{global_address, zeros}
+use Rattle.spl_areas.specs.spl_sound.Spelled.{source_of}
 use Rattle.spl_initials.specs.Memory.{memory_of}
 use Rattle.spl_globals.specs.declared.areas.Areas.{Areas}
 use Rattle.spl_globals.specs.declared.stored.Pass.TheVariants as pass

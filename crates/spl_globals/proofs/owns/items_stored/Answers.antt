@@ -3,12 +3,12 @@ use Rattle.std.proofs.Common.{List, true, map, ap, ◌∙◌}
 use Rattle.std.proofs.lemmas.Result.{on_ok_weaker}
 use Rattle.spl_tree.specs.DeclarationTrees.{declarations}
 use Rattle.spl_tree.specs.Spells.{declaration, heading_tree}
-use Rattle.spl_meaning.specs.Names.{Names, find, parameters, formals_of}
+use Rattle.spl_sorts.specs.spl_meaning.Names.{Names, find, parameters, formals_of}
 use Rattle.spl_sorts.specs.Tables.{table_of}
-use Rattle.spl_places.specs.declared.places.Area.TheVariants as area
-use Rattle.spl_places.specs.declared.places.Starts.{Starts}
-use Rattle.spl_places.specs.ListedData.{Datum, datum_of}
-use Rattle.spl_places.specs.Spots.{frame_starts}
+use Rattle.spl_initials.specs.spl_places.declared.places.Area.TheVariants as area
+use Rattle.spl_initials.specs.spl_places.declared.places.Starts.{Starts}
+use Rattle.spl_initials.specs.spl_places.ListedData.{Datum, datum_of}
+use Rattle.spl_initials.specs.spl_places.Spots.{frame_starts}
 use Rattle.spl_initials.specs.Memory.{memory_of}
 use Rattle.spl_globals.specs.Stored.{list_stored}
 use Rattle.spl_globals.proofs.owns.items_stored.Goals as goal

@@ -2,7 +2,7 @@
 use Rattle.std.proofs.Common.{map, ap}
 use Rattle.spl_tree.specs.DeclarationTrees.{declarations}
 use Rattle.spl_tree.specs.Spells.{declaration}
-use Rattle.spl_meaning.specs.Names.{Names, find}
+use Rattle.spl_sorts.specs.spl_meaning.Names.{Names, find}
 use Rattle.spl_sorts.specs.Tables.{table_of}
 use Rattle.spl_areas.specs.Gathered.{items_among}
 use Rattle.spl_initials.specs.Memory.{memory_of}

@@ -3,11 +3,11 @@ use Rattle.std.proofs.Common.{false, map, ap, ◌∙◌}
 use Rattle.std.proofs.lemmas.Result.{on_ok_weaker}
 use Rattle.spl_tree.specs.DeclarationTrees.{declarations}
 use Rattle.spl_tree.specs.Spells.{declaration}
-use Rattle.spl_meaning.specs.Names.{Names, find, nothing_declared}
+use Rattle.spl_sorts.specs.spl_meaning.Names.{Names, find, nothing_declared}
 use Rattle.spl_sorts.specs.Tables.{table_of}
-use Rattle.spl_places.specs.declared.places.Area.TheVariants as area
-use Rattle.spl_places.specs.declared.places.Starts.{Starts}
-use Rattle.spl_places.specs.ListedData.{datum_of}
+use Rattle.spl_initials.specs.spl_places.declared.places.Area.TheVariants as area
+use Rattle.spl_initials.specs.spl_places.declared.places.Starts.{Starts}
+use Rattle.spl_initials.specs.spl_places.ListedData.{datum_of}
 use Rattle.spl_initials.specs.Memory.{memory_of}
 use Rattle.spl_globals.specs.Stored.{list_stored, global_starts}
 use Rattle.spl_globals.proofs.units.items_stored.Goals as goal

@@ -2,10 +2,10 @@
 use Rattle.std.proofs.Common.{List, ◌++◌, map, ap, ◌∙◌}
 use Rattle.spl_tree.specs.DeclarationTrees.{declarations}
 use Rattle.spl_tree.specs.Spells.{declaration}
-use Rattle.spl_meaning.specs.Names.{Names, find, nothing_declared}
+use Rattle.spl_sorts.specs.spl_meaning.Names.{Names, find, nothing_declared}
 use Rattle.spl_sorts.specs.Tables.{table_of}
-use Rattle.spl_places.specs.declared.data.Datum as code
-use Rattle.spl_places.specs.ListedData.{datum_of, list_data}
+use Rattle.spl_initials.specs.spl_places.declared.data.Datum as code
+use Rattle.spl_initials.specs.spl_places.ListedData.{datum_of, list_data}
 use Rattle.spl_globals.proofs.units.unit_data.Goals as goal
 
 pub returns : goal.returns

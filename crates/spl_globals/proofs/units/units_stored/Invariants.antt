@@ -1,6 +1,6 @@
 -- A loop over units.
 use Rattle.std.proofs.Common.{◌≡◌, map, drop}
-use Rattle.spl_sound.specs.Spelled.{source_of}
+use Rattle.spl_areas.specs.spl_sound.Spelled.{source_of}
 use Rattle.spl_initials.specs.Memory.{memory_of}
 use Rattle.spl_globals.specs.Stored.{units_stored}
 use Rattle.spl_globals.proofs.units.units_stored.Given as goal

@@ -1,7 +1,7 @@
 -- A loop over items.
 use Rattle.std.proofs.Common.{◌≡◌, map, drop}
-use Rattle.spl_meaning.specs.Places as places
-use Rattle.spl_meaning.specs.Runs.{global_address}
+use Rattle.spl_sorts.specs.spl_meaning.Places as places
+use Rattle.spl_sorts.specs.spl_meaning.Runs.{global_address}
 use Rattle.spl_places.specs.ListedData.{datum_of}
 use Rattle.spl_initials.specs.Memory.{memory_of}
 use Rattle.spl_initials.specs.Cells.{found_in, cells_by}

@@ -2,10 +2,10 @@
 use Rattle.std.proofs.Common.{List, map, option_map, Option, ap, ◌∙◌}
 use Rattle.spl_tree.specs.declared.expressions.Const.{Const}
 use Rattle.spl_tree.specs.Views.{letters, constant}
-use Rattle.spl_meaning.specs.Names.{Names, find, constant_or_zero}
-use Rattle.spl_meaning.specs.Places.{Place, Array, start_of, initial_at, put_initials}
-use Rattle.spl_meaning.specs.Runs.{global_address}
-use Rattle.spl_found.specs.OwnNames.{over}
+use Rattle.spl_sorts.specs.spl_meaning.Names.{Names, find, constant_or_zero}
+use Rattle.spl_sorts.specs.spl_meaning.Places.{Place, Array, start_of, initial_at, put_initials}
+use Rattle.spl_sorts.specs.spl_meaning.Runs.{global_address}
+use Rattle.spl_places.specs.spl_found.OwnNames.{over}
 use Rattle.spl_sorts.specs.Tables.{table_of, names_of}
 use Rattle.spl_places.specs.Spots.{array_of}
 use Rattle.spl_initials.specs.Memory.{memory_of}

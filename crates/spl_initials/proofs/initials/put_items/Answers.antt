@@ -2,11 +2,11 @@
 use Rattle.std.proofs.Common.{ℕ, ◌+◌, ap, sym, ◌∙◌, map, drop, Option}
 use Rattle.spl_tree.specs.Views.{letters}
 use Rattle.spl_tree.specs.Spells.{item_tree, shape_tree}
-use Rattle.spl_meaning.specs.Names.{Names, find}
-use Rattle.spl_meaning.specs.Tables.{shaped}
-use Rattle.spl_meaning.specs.Places as places
-use Rattle.spl_meaning.specs.Runs.{global_address}
-use Rattle.spl_found.specs.OwnNames.{over, with_name, behind_items}
+use Rattle.spl_sorts.specs.spl_meaning.Names.{Names, find}
+use Rattle.spl_sorts.specs.spl_meaning.Tables.{shaped}
+use Rattle.spl_sorts.specs.spl_meaning.Places as places
+use Rattle.spl_sorts.specs.spl_meaning.Runs.{global_address}
+use Rattle.spl_places.specs.spl_found.OwnNames.{over, with_name, behind_items}
 use Rattle.spl_sorts.specs.Tables.{table_of}
 use Rattle.spl_places.proofs.DataWalks.{behind_step}
 use Rattle.spl_initials.specs.Memory.{memory_of}

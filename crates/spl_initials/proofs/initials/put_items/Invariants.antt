@@ -1,10 +1,10 @@
 -- A loop over items.
 use Rattle.std.proofs.Common.{◌≡◌, map, drop}
 use Rattle.spl_tree.specs.Spells.{item_tree}
-use Rattle.spl_meaning.specs.Names.{find}
-use Rattle.spl_meaning.specs.Places as places
-use Rattle.spl_meaning.specs.Runs.{global_address}
-use Rattle.spl_found.specs.OwnNames.{behind_items}
+use Rattle.spl_sorts.specs.spl_meaning.Names.{find}
+use Rattle.spl_sorts.specs.spl_meaning.Places as places
+use Rattle.spl_sorts.specs.spl_meaning.Runs.{global_address}
+use Rattle.spl_places.specs.spl_found.OwnNames.{behind_items}
 use Rattle.spl_sorts.specs.Tables.{table_of}
 use Rattle.spl_initials.specs.Memory.{memory_of}
 use Rattle.spl_initials.specs.Cells.{found_in, initials_of_items}

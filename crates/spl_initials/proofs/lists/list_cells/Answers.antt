@@ -1,7 +1,7 @@
 -- The places are those of the items.
 use Rattle.std.proofs.Common.{map, ap, ◌∙◌}
-use Rattle.spl_meaning.specs.Places as places
-use Rattle.spl_meaning.specs.Runs.{global_address}
+use Rattle.spl_sorts.specs.spl_meaning.Places as places
+use Rattle.spl_sorts.specs.spl_meaning.Runs.{global_address}
 use Rattle.spl_places.specs.ListedData.{datum_of}
 use Rattle.spl_places.specs.Spots.{place_in}
 use Rattle.spl_initials.specs.Memory.{memory_of}

@@ -2,9 +2,9 @@
 use Rattle.std.proofs.Common.{map, ap, ◌∙◌}
 use Rattle.spl_tree.specs.DeclarationTrees.{declarations}
 use Rattle.spl_tree.specs.Spells.{declaration}
-use Rattle.spl_meaning.specs.Names.{find}
-use Rattle.spl_meaning.specs.Places as places
-use Rattle.spl_meaning.specs.Runs.{global_address}
+use Rattle.spl_sorts.specs.spl_meaning.Names.{find}
+use Rattle.spl_sorts.specs.spl_meaning.Places as places
+use Rattle.spl_sorts.specs.spl_meaning.Runs.{global_address}
 use Rattle.spl_sorts.specs.Tables.{table_of}
 use Rattle.spl_places.specs.ListedData.{datum_of}
 use Rattle.spl_places.specs.Spots.{place_in}

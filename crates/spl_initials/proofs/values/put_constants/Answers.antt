@@ -4,8 +4,8 @@ use Rattle.std.proofs.lemmas.Int.{ints}
 use Rattle.std.specs.Prelude.{ℤ}
 use mir.Val.{SFits}
 use Rattle.spl_tree.specs.Views as trees
-use Rattle.spl_meaning.specs.Names.{constant_or_zero}
-use Rattle.spl_meaning.specs.Places.{put_value, put_values}
+use Rattle.spl_sorts.specs.spl_meaning.Names.{constant_or_zero}
+use Rattle.spl_sorts.specs.spl_meaning.Places.{put_value, put_values}
 use Rattle.spl_sorts.specs.Tables.{names_of}
 use Rattle.spl_initials.specs.Memory.{memory_of}
 use Rattle.spl_initials.proofs.ValueWalks.{constant_step, constant_end}

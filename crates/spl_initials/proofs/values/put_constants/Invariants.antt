@@ -1,8 +1,8 @@
 -- A loop over constants.
 use Rattle.std.proofs.Common.{◌≡◌, map, drop}
 use Rattle.spl_tree.specs.Views as trees
-use Rattle.spl_meaning.specs.Names as n
-use Rattle.spl_meaning.specs.Places.{put_values}
+use Rattle.spl_sorts.specs.spl_meaning.Names as n
+use Rattle.spl_sorts.specs.spl_meaning.Places.{put_values}
 use Rattle.spl_sorts.specs.Tables.{names_of}
 use Rattle.spl_initials.specs.Memory.{memory_of}
 use Rattle.spl_initials.proofs.values.put_constants.Given as goal

@@ -2,10 +2,10 @@
 use Rattle.std.proofs.Common.{map}
 use Rattle.spl_tree.specs.Views as view
 use Rattle.spl_tree.specs.StatementTrees as trees
-use Rattle.spl_operations.proofs.PutLemmas.{ok_then}
-use Rattle.spl_gen_expr.specs.Scopes.{scope_of}
+use Rattle.spl_gen_stmt.proofs.spl_operations_proofs.PutLemmas.{ok_then}
+use Rattle.spl_gen_stmt.specs.spl_gen_expr.Scopes.{scope_of}
 use Rattle.spl_gen_stmt.specs.Contexts.{context_by, landings_of}
-use Rattle.spl_module_code.specs.LabelsOfBodies.{labels_among}
+use Rattle.spl_label_marks.specs.spl_module_code.LabelsOfBodies.{labels_among}
 use Rattle.spl_landings.proofs.BodyMarks.{marks_made, marks_free, body_done, words_more}
 use Rattle.spl_landings.proofs.bodies.body_statements.Goals as goal
 

@@ -1,9 +1,9 @@
 -- In units that break no rule each item's name is new in its list.
 use Rattle.std.proofs.Common.{List, map, sym, subst}
-use Rattle.spl_tree.specs.declared.units.SplUnit.{SplUnit}
+use Rattle.spl_sound.specs.spl_tree.declared.units.SplUnit.{SplUnit}
 use Rattle.spl_sound.specs.Spelled.{source_of}
-use Rattle.spl_places.specs.Programs.{NewInAll}
-use Rattle.spl_places.proofs.SoundLaws.{sound_new}
+use Rattle.spl_rooms.specs.spl_places.Programs.{NewInAll}
+use Rattle.spl_rooms.proofs.spl_places_proofs.SoundLaws.{sound_new}
 use Rattle.spl_layout.proofs.layouts.laid.Goals as goal
 
 pub data_words-requires : goal.data_words-requires

@@ -3,14 +3,14 @@ use Rattle.std.proofs.Common.{List, map, ap, ◌∙◌}
 use Rattle.std.proofs.lemmas.Result.{on_ok_weaker}
 use Rattle.spl_tree.specs.Spells.{heading_tree}
 use Rattle.spl_tree.specs.Views.{statement}
-use Rattle.spl_meaning.specs.Names as n
-use Rattle.spl_meaning.specs.Names.{Names, find, parameters}
-use Rattle.spl_meaning.specs.Limits.{first_among}
+use Rattle.spl_sound.specs.spl_meaning.Names as n
+use Rattle.spl_sound.specs.spl_meaning.Names.{Names, find, parameters}
+use Rattle.spl_sound.specs.spl_meaning.Limits.{first_among}
 use Rattle.spl_sorts.specs.declared.profiles.Formal.{Formal}
 use Rattle.spl_sorts.specs.Profiles.{formal_of}
 use Rattle.spl_sorts.specs.Tables.{table_of}
-use Rattle.spl_found.specs.OwnNames.{over}
-use Rattle.spl_depths.specs.ReachLaws.{body_limits}
+use Rattle.spl_areas.specs.spl_found.OwnNames.{over}
+use Rattle.spl_areas.specs.spl_depths.ReachLaws.{body_limits}
 use Rattle.spl_limits.proofs.bodies.subroutine.Goals as goal
 
 pub returns : goal.returns

@@ -1,11 +1,11 @@
 -- The limits of globals, and then those of bodies.
 use Rattle.std.proofs.Common.{List, Option, map, ap, sym, subst, ◌∙◌, None}
 use Rattle.spl_tree.specs.declared.units.SplUnit.{SplUnit}
-use Rattle.spl_meaning.specs.Limits.{Full, first_among, global_limits, joined, unit_limits}
+use Rattle.spl_sound.specs.spl_meaning.Limits.{Full, first_among, global_limits, joined, unit_limits}
 use Rattle.spl_sound.specs.Spelled.{source_of}
-use Rattle.spl_places.specs.Programs.{NewInAll}
-use Rattle.spl_places.proofs.CounterLaws.{among_both}
-use Rattle.spl_places.proofs.SoundLaws.{sound_new}
+use Rattle.spl_areas.specs.spl_places.Programs.{NewInAll}
+use Rattle.spl_areas.proofs.spl_places_proofs.CounterLaws.{among_both}
+use Rattle.spl_areas.proofs.spl_places_proofs.SoundLaws.{sound_new}
 use Rattle.spl_limits.specs.FirstPassed.{behind_units}
 use Rattle.spl_limits.proofs.LimitLaws.{units_passed}
 use Rattle.spl_limits.proofs.first_limit.first_limit.Goals as goal

@@ -1,5 +1,5 @@
 -- A declaration more.
-use Rattle.spl_meaning.specs.Names.{find}
+use Rattle.spl_sound.specs.spl_meaning.Names.{find}
 use Rattle.spl_sorts.specs.Tables.{table_of}
 use Rattle.spl_limits.proofs.LimitWalks.{global_more, names_more}
 use Rattle.spl_limits.proofs.units.globals.Goals as goal

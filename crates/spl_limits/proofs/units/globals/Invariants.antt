@@ -2,9 +2,9 @@
 use Rattle.std.proofs.Common.{◌≡◌, map, drop}
 use Rattle.spl_tree.specs.DeclarationTrees.{declarations}
 use Rattle.spl_tree.specs.Spells.{declaration}
-use Rattle.spl_meaning.specs.Names.{find, nothing_declared}
+use Rattle.spl_sound.specs.spl_meaning.Names.{find, nothing_declared}
 use Rattle.spl_sorts.specs.Tables.{table_of}
-use Rattle.spl_found.specs.OwnNames.{behind_declarations}
+use Rattle.spl_areas.specs.spl_found.OwnNames.{behind_declarations}
 use Rattle.spl_limits.specs.FirstPassed.{behind_globals}
 use Rattle.spl_limits.proofs.units.globals.Given as goal
 

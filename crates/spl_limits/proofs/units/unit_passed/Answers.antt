@@ -3,10 +3,10 @@ use Rattle.std.proofs.Common.{Option, map, ap, ◌∙◌}
 use Rattle.std.proofs.lemmas.Result.{on_ok_weaker}
 use Rattle.spl_tree.specs.DeclarationTrees.{declarations}
 use Rattle.spl_tree.specs.Spells.{declaration}
-use Rattle.spl_meaning.specs.Names.{Names, find, nothing_declared}
-use Rattle.spl_meaning.specs.Limits.{Full}
+use Rattle.spl_sound.specs.spl_meaning.Names.{Names, find, nothing_declared}
+use Rattle.spl_sound.specs.spl_meaning.Limits.{Full}
 use Rattle.spl_sorts.specs.Tables.{table_of}
-use Rattle.spl_found.specs.OwnNames.{over, behind_declarations}
+use Rattle.spl_areas.specs.spl_found.OwnNames.{over, behind_declarations}
 use Rattle.spl_limits.specs.FirstPassed.{behind_subroutines, behind_globals}
 use Rattle.spl_limits.proofs.units.unit_passed.Goals as goal
 

@@ -1,7 +1,7 @@
 -- A loop over initial values.
 use Rattle.std.proofs.Common.{◌≡◌, map, drop}
 use Rattle.spl_tree.specs.Views as view
-use Rattle.spl_found.specs.FoundDeclarations.{found_initials}
+use Rattle.spl_uses.specs.spl_found.FoundDeclarations.{found_initials}
 use Rattle.spl_sorts.specs.Tables.{names_of}
 use Rattle.spl_lists.proofs.data.initials.Given as goal
 

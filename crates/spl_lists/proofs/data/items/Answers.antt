@@ -2,11 +2,11 @@
 use Rattle.std.proofs.Common.{◌+◌, ap, sym, ◌∙◌, map, drop, Option}
 use Rattle.spl_tree.specs.Views.{letters}
 use Rattle.spl_tree.specs.Spells.{item_tree, shape_tree}
-use Rattle.spl_meaning.specs.Faults.{Fault}
-use Rattle.spl_meaning.specs.Names.{Names, find}
-use Rattle.spl_meaning.specs.Tables.{shaped}
-use Rattle.spl_found.specs.OwnNames.{over, with_name, behind_items}
-use Rattle.spl_found.specs.FoundDeclarations.{found_items}
+use Rattle.spl_sorts.specs.spl_meaning.Faults.{Fault}
+use Rattle.spl_sorts.specs.spl_meaning.Names.{Names, find}
+use Rattle.spl_sorts.specs.spl_meaning.Tables.{shaped}
+use Rattle.spl_uses.specs.spl_found.OwnNames.{over, with_name, behind_items}
+use Rattle.spl_uses.specs.spl_found.FoundDeclarations.{found_items}
 use Rattle.spl_sorts.specs.Tables.{table_of}
 use Rattle.spl_lists.specs.Arounds.{around_of}
 use Rattle.spl_lists.proofs.DataWalks.{item_step, behind_step}

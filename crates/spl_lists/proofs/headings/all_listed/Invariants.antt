@@ -1,7 +1,7 @@
 -- A loop over lists of kinds.
 use Rattle.std.proofs.Common.{◌≡◌, map, drop}
 use Rattle.spl_tree.specs.Spells.{spec_tree}
-use Rattle.spl_meaning.specs.DeclarationRules.{all_listed}
+use Rattle.spl_sorts.specs.spl_meaning.DeclarationRules.{all_listed}
 use Rattle.spl_lists.specs.NameSets.{has_of}
 use Rattle.spl_lists.specs.Headings.{found_failing}
 use Rattle.spl_lists.proofs.headings.all_listed.Given as goal

@@ -2,7 +2,7 @@
 use Rattle.std.proofs.Common.{map, ap, ◌∙◌}
 use Rattle.std.proofs.lemmas.Result.{IfOk-weaker}
 use Rattle.spl_tree.specs.Spells.{placed, spec_tree, heading_tree}
-use Rattle.spl_meaning.specs.Names.{lists, find}
+use Rattle.spl_sorts.specs.spl_meaning.Names.{lists, find}
 use Rattle.spl_sorts.specs.Profiles.{formal_of}
 use Rattle.spl_lists.specs.NameSets.{has_of}
 use Rattle.spl_lists.specs.Listings.{listed_of, said_in}

@@ -1,10 +1,10 @@
 -- Each rule is asked of the heading's lists.
 use Rattle.std.proofs.Common.{[], map, ap, ◌∙◌}
 use Rattle.spl_tree.specs.Spells.{placed, spec_tree, heading_tree}
-use Rattle.spl_meaning.specs.Names.{lists, find}
-use Rattle.spl_meaning.specs.Faults.{first_fault}
-use Rattle.spl_meaning.specs.StatementRules.{repeated}
-use Rattle.spl_meaning.specs.DeclarationRules.{all_listed}
+use Rattle.spl_sorts.specs.spl_meaning.Names.{lists, find}
+use Rattle.spl_sorts.specs.spl_meaning.Faults.{first_fault}
+use Rattle.spl_sorts.specs.spl_meaning.StatementRules.{repeated}
+use Rattle.spl_sorts.specs.spl_meaning.DeclarationRules.{all_listed}
 use Rattle.spl_sorts.specs.Profiles.{formal_of}
 use Rattle.spl_lists.specs.NameSets.{has_of}
 use Rattle.spl_lists.specs.Listings.{listed_of, said_in}

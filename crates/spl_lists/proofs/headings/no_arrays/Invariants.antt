@@ -1,7 +1,7 @@
 -- A loop over names.
 use Rattle.std.proofs.Common.{◌≡◌, map, drop}
 use Rattle.spl_tree.specs.Spells.{placed}
-use Rattle.spl_meaning.specs.Names.{find}
+use Rattle.spl_sorts.specs.spl_meaning.Names.{find}
 use Rattle.spl_lists.specs.Listings.{listed_of}
 use Rattle.spl_lists.specs.Headings.{found_failing, no_array}
 use Rattle.spl_lists.proofs.headings.no_arrays.Given as goal

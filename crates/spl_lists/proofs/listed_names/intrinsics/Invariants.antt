@@ -1,9 +1,9 @@
 -- A loop over names.
 use Rattle.std.proofs.Common.{◌≡◌, map, drop}
 use Rattle.spl_tree.specs.Spells.{placed}
-use Rattle.spl_meaning.specs.Names.{find}
-use Rattle.spl_found.specs.OwnNames.{behind_intrinsics}
-use Rattle.spl_found.specs.FoundDeclarations.{found_intrinsics}
+use Rattle.spl_sorts.specs.spl_meaning.Names.{find}
+use Rattle.spl_uses.specs.spl_found.OwnNames.{behind_intrinsics}
+use Rattle.spl_uses.specs.spl_found.FoundDeclarations.{found_intrinsics}
 use Rattle.spl_sorts.specs.Tables.{table_of}
 use Rattle.spl_lists.proofs.listed_names.intrinsics.Given as goal
 

@@ -3,9 +3,9 @@ use Rattle.std.proofs.Common.{ap, sym, ◌∙◌, map}
 use Rattle.std.proofs.lemmas.Result.{on_ok_weaker}
 use Rattle.spl_tree.specs.DeclarationTrees.{Declaration}
 use Rattle.spl_tree.specs.Spells as view
-use Rattle.spl_meaning.specs.Names.{find}
-use Rattle.spl_found.specs.OwnNames.{behind_equates, behind_declaration}
-use Rattle.spl_found.specs.FoundDeclarations.{found_equates, found_local}
+use Rattle.spl_sorts.specs.spl_meaning.Names.{find}
+use Rattle.spl_uses.specs.spl_found.OwnNames.{behind_equates, behind_declaration}
+use Rattle.spl_uses.specs.spl_found.FoundDeclarations.{found_equates, found_local}
 use Rattle.spl_sorts.specs.Tables.{table_of}
 use Rattle.spl_lists.specs.Arounds.{around_of}
 use Rattle.spl_lists.specs.Sums.{equal_tree}

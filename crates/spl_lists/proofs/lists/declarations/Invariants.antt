@@ -2,9 +2,9 @@
 use Rattle.std.proofs.Common.{◌≡◌, map, drop}
 use Rattle.spl_tree.specs.DeclarationTrees as decl
 use Rattle.spl_tree.specs.Spells.{declaration}
-use Rattle.spl_meaning.specs.Names.{find}
-use Rattle.spl_found.specs.OwnNames.{behind_declarations}
-use Rattle.spl_found.specs.FoundDeclarations.{found_locals}
+use Rattle.spl_sorts.specs.spl_meaning.Names.{find}
+use Rattle.spl_uses.specs.spl_found.OwnNames.{behind_declarations}
+use Rattle.spl_uses.specs.spl_found.FoundDeclarations.{found_locals}
 use Rattle.spl_sorts.specs.Tables.{table_of}
 use Rattle.spl_lists.specs.Arounds.{around_of}
 use Rattle.spl_lists.proofs.lists.declarations.Given as goal

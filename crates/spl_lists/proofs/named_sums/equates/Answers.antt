@@ -3,11 +3,11 @@ use Rattle.std.proofs.Common.{◌+◌, ap, sym, ◌∙◌, map, drop, Option}
 use Rattle.std.specs.Prelude.{ℤ}
 use Rattle.spl_tree.specs.Views.{letters}
 use Rattle.spl_tree.specs.Spells.{term}
-use Rattle.spl_meaning.specs.Faults.{Fault}
-use Rattle.spl_meaning.specs.Names as n
-use Rattle.spl_meaning.specs.Names.{Names, find, kept_value, sum_value}
-use Rattle.spl_found.specs.OwnNames.{over, with_name, behind_equates}
-use Rattle.spl_found.specs.FoundDeclarations.{found_equates}
+use Rattle.spl_sorts.specs.spl_meaning.Faults.{Fault}
+use Rattle.spl_sorts.specs.spl_meaning.Names as n
+use Rattle.spl_sorts.specs.spl_meaning.Names.{Names, find, kept_value, sum_value}
+use Rattle.spl_uses.specs.spl_found.OwnNames.{over, with_name, behind_equates}
+use Rattle.spl_uses.specs.spl_found.FoundDeclarations.{found_equates}
 use Rattle.spl_sorts.specs.Tables.{table_of}
 use Rattle.spl_lists.specs.Arounds.{around_of}
 use Rattle.spl_lists.specs.Sums.{equal_tree}

@@ -1,8 +1,8 @@
 -- A loop over the items of an EQUATE.
 use Rattle.std.proofs.Common.{◌≡◌, map, drop}
-use Rattle.spl_meaning.specs.Names.{find}
-use Rattle.spl_found.specs.OwnNames.{behind_equates}
-use Rattle.spl_found.specs.FoundDeclarations.{found_equates}
+use Rattle.spl_sorts.specs.spl_meaning.Names.{find}
+use Rattle.spl_uses.specs.spl_found.OwnNames.{behind_equates}
+use Rattle.spl_uses.specs.spl_found.FoundDeclarations.{found_equates}
 use Rattle.spl_sorts.specs.Tables.{table_of}
 use Rattle.spl_lists.specs.Arounds.{around_of}
 use Rattle.spl_lists.specs.Sums.{equal_tree}

@@ -1,7 +1,7 @@
 -- A loop over the parts of a sum.
 use Rattle.std.proofs.Common.{◌≡◌, map, drop}
 use Rattle.spl_tree.specs.Spells.{term}
-use Rattle.spl_found.specs.FoundDeclarations.{found_terms}
+use Rattle.spl_uses.specs.spl_found.FoundDeclarations.{found_terms}
 use Rattle.spl_sorts.specs.Tables.{names_of}
 use Rattle.spl_lists.proofs.named_sums.parts.Given as goal
 

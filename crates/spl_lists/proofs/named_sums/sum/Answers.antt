@@ -4,7 +4,7 @@ use Rattle.std.proofs.lemmas.Int.{ints}
 use mir.Syntax.{w128}
 use mir.Val.{SFits}
 use Rattle.spl_tree.specs.Spells.{term}
-use Rattle.spl_meaning.specs.Names.{sum_from, signed_term}
+use Rattle.spl_sorts.specs.spl_meaning.Names.{sum_from, signed_term}
 use Rattle.spl_sorts.specs.Tables.{names_of}
 use Rattle.spl_lists.specs.Sums.{IsSumOf}
 use Rattle.spl_lists.proofs.EquateWalks.{none_left, one_more, more_fits}

@@ -2,7 +2,7 @@
 use Rattle.std.proofs.Common.{◌≡◌, map, drop, Some}
 use Rattle.std.specs.Prelude.{pos}
 use Rattle.spl_tree.specs.Spells.{term}
-use Rattle.spl_meaning.specs.Names.{sum_from}
+use Rattle.spl_sorts.specs.spl_meaning.Names.{sum_from}
 use Rattle.spl_sorts.specs.Tables.{names_of}
 use Rattle.spl_lists.specs.Sums.{IsSumOf}
 use Rattle.spl_lists.proofs.named_sums.sum.Given as goal

@@ -1,6 +1,6 @@
 -- A loop over parameters.
 use Rattle.std.proofs.Common.{◌≡◌, [], map, drop}
-use Rattle.spl_meaning.specs.Names.{find}
+use Rattle.spl_sorts.specs.spl_meaning.Names.{find}
 use Rattle.spl_sorts.specs.Profiles.{formal_of}
 use Rattle.spl_sorts.specs.Tables.{table_of}
 use Rattle.spl_lists.specs.Headings.{behind_formals}

@@ -2,7 +2,7 @@
 use Rattle.std.proofs.Common.{◌∙◌, ap, length, map}
 use Rattle.spl_tree.specs.DeclarationTrees.{declarations}
 use Rattle.spl_tree.specs.Spells.{declaration}
-use Rattle.spl_meaning.specs.Names.{find}
+use Rattle.spl_sound.specs.spl_meaning.Names.{find}
 use Rattle.spl_modules.specs.Entered.{Entered, inner_indexes}
 use Rattle.spl_modules.proofs.walk.procedure.Goals as goal
 

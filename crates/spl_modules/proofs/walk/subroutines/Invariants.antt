@@ -2,7 +2,7 @@
 use Rattle.std.proofs.Common.{◌≡◌, map, drop, length}
 use Rattle.spl_tree.specs.DeclarationTrees.{declarations}
 use Rattle.spl_tree.specs.Spells.{declaration}
-use Rattle.spl_meaning.specs.Names.{find}
+use Rattle.spl_sound.specs.spl_meaning.Names.{find}
 use Rattle.spl_places.specs.NameMaps.{entries_of, behind_table}
 use Rattle.spl_scopes.specs.Entries.{main, inner_entries}
 use Rattle.spl_modules.specs.Entered.{entered_of, behind_entries, inner_indexes}

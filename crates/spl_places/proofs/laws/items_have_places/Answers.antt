@@ -1,8 +1,8 @@
 -- What a table holds beside items has no words.
 use Rattle.std.proofs.Common.{ap, ◌∙◌}
-use Rattle.spl_meaning.specs.Tables.{routine_table}
-use Rattle.spl_meaning.specs.Places.{places_from, arrays_from}
-use Rattle.spl_meaning.specs.Bodies.{own_table}
+use Rattle.spl_sorts.specs.spl_meaning.Tables.{routine_table}
+use Rattle.spl_sorts.specs.spl_meaning.Places.{places_from, arrays_from}
+use Rattle.spl_sorts.specs.spl_meaning.Bodies.{own_table}
 use Rattle.spl_places.proofs.ProgramLaws.{places_held, arrays_held, unit_held, routine_held}
 use Rattle.spl_places.proofs.laws.items_have_places.Goals as goal
 

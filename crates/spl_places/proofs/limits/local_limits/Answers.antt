@@ -1,7 +1,7 @@
 -- Two sums run along the items.
 use Rattle.std.proofs.Common.{ℕ, false, map, Option, ap, sym, ◌∙◌}
-use Rattle.spl_meaning.specs.Places.{item_words, array_words}
-use Rattle.spl_meaning.specs.Limits.{Full, passing, first_among}
+use Rattle.spl_sorts.specs.spl_meaning.Places.{item_words, array_words}
+use Rattle.spl_sorts.specs.spl_meaning.Limits.{Full, passing, first_among}
 use Rattle.spl_places.specs.ListedData.{datum_of}
 use Rattle.spl_places.specs.Counters.{sizes, total_words}
 use Rattle.spl_places.proofs.CounterLaws.{one_found, among_both}

@@ -1,6 +1,6 @@
 -- Before the first item.
 use Rattle.std.proofs.Common.{map, refl}
-use Rattle.spl_meaning.specs.Places.{places_from, arrays_from}
+use Rattle.spl_sorts.specs.spl_meaning.Places.{places_from, arrays_from}
 use Rattle.spl_places.specs.ListedData.{datum_of}
 use Rattle.spl_places.specs.NameMaps.{entries_of}
 use Rattle.spl_places.specs.Held.{named}

@@ -4,9 +4,9 @@ use Rattle.std.proofs.lemmas.Int.{ints}
 use Rattle.std.specs.Prelude.{ℤ}
 use mir.Val.{SFits}
 use Rattle.spl_tree.specs.Views.{letters}
-use Rattle.spl_meaning.specs.Names.{find}
+use Rattle.spl_sorts.specs.spl_meaning.Names.{find}
 use Rattle.spl_sorts.specs.declared.sorts.Sort.{Sort}
-use Rattle.spl_found.specs.OwnNames.{with_name}
+use Rattle.spl_depths.specs.spl_found.OwnNames.{with_name}
 use Rattle.spl_sorts.specs.Sorts.{sort_of}
 use Rattle.spl_places.specs.NameMaps.{entries_of, shown}
 use Rattle.spl_places.specs.Spots.{spot_of, array_of, and_array}

@@ -2,9 +2,9 @@
 use Rattle.std.proofs.Common.{rules, ◌≡◌, Bool, true, nat_lt, ap, sym, ◌∙◌}
 use Rattle.std.specs.Prelude.{if◌then◌else◌}
 use Rattle.spl_tree.specs.Views.{letters}
-use Rattle.spl_meaning.specs.Names.{find}
-use Rattle.spl_meaning.specs.Places.{is_own, item_words, place_of}
-use Rattle.spl_found.specs.OwnNames.{with_name}
+use Rattle.spl_sorts.specs.spl_meaning.Names.{find}
+use Rattle.spl_sorts.specs.spl_meaning.Places.{is_own, item_words, place_of}
+use Rattle.spl_depths.specs.spl_found.OwnNames.{with_name}
 use Rattle.spl_sorts.specs.Sorts.{sort_of}
 use Rattle.spl_places.specs.NameMaps.{entries_of, shown}
 use Rattle.spl_places.specs.Spots.{spot_of, place_in}

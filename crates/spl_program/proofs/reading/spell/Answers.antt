@@ -1,6 +1,6 @@
 -- What is answered of the tokens is what they spell, or where they spell nothing.
 use Rattle.std.proofs.Common.{Err, subst}
-use Rattle.spl_tokens.specs.declared.faults.ParseFault.{ParseFault}
+use Rattle.spl_parser.specs.spl_tokens.declared.faults.ParseFault.{ParseFault}
 use Rattle.spl_parser.specs.Answers as pa
 use Rattle.spl_program.proofs.TextLemmas.{spelled_so, syntax_so, depth_so}
 use Rattle.spl_program.proofs.reading.spell.Goals as goal

@@ -2,8 +2,8 @@
 use Rattle.std.proofs.Common.{map, ap, ◌∙◌}
 use Rattle.spl_tree.specs.StatementTrees.{statements}
 use Rattle.spl_tree.specs.Views.{statement}
-use Rattle.spl_meaning.specs.Names.{Names, find}
-use Rattle.spl_meaning.specs.Pending.{depth}
+use Rattle.spl_sound.specs.spl_meaning.Names.{Names, find}
+use Rattle.spl_sound.specs.spl_meaning.Pending.{depth}
 use Rattle.spl_sorts.specs.Tables.{table_of}
 use Rattle.spl_rooms.proofs.RoomWalks.{over_twice}
 use Rattle.spl_rooms.proofs.bodies.body_depth.Goals as goal

@@ -2,12 +2,12 @@
 use Rattle.std.proofs.Common.{List, ◌++◌, map, ap, ◌∙◌}
 use Rattle.spl_tree.specs.DeclarationTrees.{declarations}
 use Rattle.spl_tree.specs.Spells.{declaration}
-use Rattle.spl_meaning.specs.Names as n
-use Rattle.spl_meaning.specs.Names.{Names, find, parameters, formals_of}
+use Rattle.spl_sound.specs.spl_meaning.Names as n
+use Rattle.spl_sound.specs.spl_meaning.Names.{Names, find, parameters, formals_of}
 use Rattle.spl_sorts.specs.declared.profiles.Formal.{Formal}
 use Rattle.spl_sorts.specs.Profiles.{formal_of}
 use Rattle.spl_sorts.specs.Tables.{table_of}
-use Rattle.spl_found.specs.OwnNames.{behind_declarations}
+use Rattle.spl_places.specs.spl_found.OwnNames.{behind_declarations}
 use Rattle.spl_places.specs.ListedData.{datum_of, list_data}
 use Rattle.spl_rooms.proofs.bodies.own_list.Goals as goal
 

@@ -3,13 +3,13 @@ use Rattle.std.proofs.Common.{ℕ, List, Option, map, ap, ◌∙◌}
 use Rattle.spl_tree.specs.StatementTrees as stat
 use Rattle.spl_tree.specs.Spells.{heading_tree}
 use Rattle.spl_tree.specs.Views.{statement}
-use Rattle.spl_meaning.specs.Names as n
-use Rattle.spl_meaning.specs.Names.{Names, find, parameters}
-use Rattle.spl_meaning.specs.Pending.{depth}
+use Rattle.spl_sound.specs.spl_meaning.Names as n
+use Rattle.spl_sound.specs.spl_meaning.Names.{Names, find, parameters}
+use Rattle.spl_sound.specs.spl_meaning.Pending.{depth}
 use Rattle.spl_sorts.specs.declared.profiles.Formal.{Formal}
 use Rattle.spl_sorts.specs.Profiles.{formal_of}
 use Rattle.spl_sorts.specs.Tables.{table_of}
-use Rattle.spl_found.specs.OwnNames.{over}
+use Rattle.spl_places.specs.spl_found.OwnNames.{over}
 use Rattle.spl_formals.specs.ResultWords.{result_at}
 use Rattle.spl_rooms.specs.declared.room_type.Room.{Room}
 use Rattle.spl_rooms.proofs.bodies.subroutine_room.Goals as goal

@@ -2,9 +2,9 @@
 use Rattle.std.proofs.Common.{◌≡◌, ◌++◌, map, drop}
 use Rattle.spl_tree.specs.DeclarationTrees.{declarations}
 use Rattle.spl_tree.specs.Spells.{declaration}
-use Rattle.spl_meaning.specs.Names.{find}
+use Rattle.spl_sound.specs.spl_meaning.Names.{find}
 use Rattle.spl_sorts.specs.Tables.{table_of}
-use Rattle.spl_found.specs.OwnNames.{over}
+use Rattle.spl_places.specs.spl_found.OwnNames.{over}
 use Rattle.spl_rooms.specs.Walked.{subroutines_rooms}
 use Rattle.spl_rooms.proofs.bodies.subroutines.Given as goal
 

@@ -1,6 +1,6 @@
 -- A loop over units.
 use Rattle.std.proofs.Common.{◌≡◌, ◌++◌, map, drop}
-use Rattle.spl_meaning.specs.Limits.{joined}
+use Rattle.spl_sound.specs.spl_meaning.Limits.{joined}
 use Rattle.spl_sound.specs.Spelled.{source_of}
 use Rattle.spl_rooms.specs.Walked.{unit_rooms}
 use Rattle.spl_rooms.proofs.units.all_rooms.Given as goal

@@ -2,7 +2,7 @@
 use Rattle.std.proofs.Common.{◌≡◌, ◌++◌, map, drop}
 use Rattle.spl_tree.specs.DeclarationTrees.{declarations}
 use Rattle.spl_tree.specs.Spells.{declaration}
-use Rattle.spl_meaning.specs.Names.{find, nothing_declared}
+use Rattle.spl_sound.specs.spl_meaning.Names.{find, nothing_declared}
 use Rattle.spl_sorts.specs.Tables.{table_of}
 use Rattle.spl_rooms.specs.Walked.{globals_rooms}
 use Rattle.spl_rooms.proofs.units.globals.Given as goal

@@ -2,9 +2,9 @@
 use Rattle.std.proofs.Common.{List, map, ap, ◌∙◌}
 use Rattle.spl_tree.specs.declared.statements.Stmt.{Stmt}
 use Rattle.spl_tree.specs.Views.{statement}
-use Rattle.spl_meaning.specs.Names.{find}
+use Rattle.spl_sound.specs.spl_meaning.Names.{find}
 use Rattle.spl_sorts.specs.Tables.{table_of}
-use Rattle.spl_found.specs.OwnNames.{over}
+use Rattle.spl_places.specs.spl_found.OwnNames.{over}
 use Rattle.spl_rooms.specs.Walked.{body_depth}
 use Rattle.spl_rooms.proofs.RoomWalks.{main_found}
 use Rattle.spl_rooms.proofs.units.main_room.Goals as goal

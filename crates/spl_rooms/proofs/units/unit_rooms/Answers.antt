@@ -4,9 +4,9 @@ use Rattle.std.proofs.lemmas.Result.{on_ok_weaker}
 use Rattle.spl_tree.specs.declared.declarations.Decl.{Decl}
 use Rattle.spl_tree.specs.DeclarationTrees.{declarations}
 use Rattle.spl_tree.specs.Spells.{declaration}
-use Rattle.spl_meaning.specs.Names.{find, nothing_declared}
+use Rattle.spl_sound.specs.spl_meaning.Names.{find, nothing_declared}
 use Rattle.spl_sorts.specs.Tables.{table_of}
-use Rattle.spl_found.specs.OwnNames.{over, behind_declarations}
+use Rattle.spl_places.specs.spl_found.OwnNames.{over, behind_declarations}
 use Rattle.spl_sound.specs.Spelled.{source_of}
 use Rattle.spl_rooms.specs.Walked.{globals_rooms, subroutines_rooms}
 use Rattle.spl_rooms.proofs.RoomLaws.{unit_all}

@@ -1,9 +1,9 @@
 -- A job keeps within its limits, so the program of each of its sessions does.
 use Rattle.std.proofs.Common.{List, ◌<◌, false, length, map, sym, subst, arith}
 use Rattle.std.proofs.lemmas.Bool.Decides.{nat_tests}
-use Rattle.job_text.specs.declared.job.Text.{Text}
-use Rattle.job_text.specs.Fits.{Each, ProgramFits}
-use Rattle.job_text.specs.Views.{text_value}
+use Rattle.hp3000_top.specs.job_text.declared.job.Text.{Text}
+use Rattle.hp3000_top.specs.job_text.Fits.{Each, ProgramFits}
+use Rattle.hp3000_top.specs.job_text.Views.{text_value}
 use Rattle.hp3000_top.proofs.AnswerLemmas.{fits_so}
 use Rattle.hp3000_top.proofs.Loops.{each_at}
 use Rattle.spl_run_tests.proofs.runs.ended.Goals as goal

@@ -1,6 +1,6 @@
 -- Piece by piece.
 use Rattle.std.proofs.Common.{None, arith}
-use Rattle.spl_branch.specs.Stands as decoded
+use Rattle.mpe_segmenter.specs.spl_branch.Stands as decoded
 use Rattle.spl_sites.proofs.FitLemmas.{all_fit}
 use Rattle.spl_sites.proofs.laws.starts_fit.Goals as goal
 

@@ -1,7 +1,7 @@
 -- A finished module's words stand for its pieces wherever it lies.
 use Rattle.std.proofs.Common.{◌+◌, length, None}
-use Rattle.spl_branch.specs.Stands as decoded
-use Rattle.spl_branch.specs.Modules.{sites}
+use Rattle.hp_leads.specs.spl_branch.Stands as decoded
+use Rattle.hp_leads.specs.spl_branch.Modules.{sites}
 use Rattle.spl_stands.proofs.StandLemmas as lemmas
 use Rattle.spl_stands.proofs.laws.modules_stand.Goals as goal
 

@@ -1,7 +1,7 @@
 -- A result goes in where its name stands for what gives it.
 use Rattle.std.proofs.Common.{rules, ◌≡◌, true, Option, sym, ap, ◌∙◌}
 use Rattle.spl_tree.specs.Views.{letters}
-use Rattle.spl_meaning.specs.Names.{find}
+use Rattle.spl_sorts.specs.spl_meaning.Names.{find}
 use Rattle.spl_places.specs.NameMaps.{entries_of, shown}
 use Rattle.spl_places.specs.Spots.{spot_of}
 use Rattle.spl_places.proofs.NameMapLemmas.{shown_added}

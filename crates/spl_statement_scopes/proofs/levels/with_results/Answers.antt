@@ -1,6 +1,6 @@
 -- The subroutine's own result goes in first, and then that of the procedure around it.
 use Rattle.std.proofs.Common.{ap, ◌∙◌}
-use Rattle.spl_meaning.specs.Names.{find}
+use Rattle.spl_sorts.specs.spl_meaning.Names.{find}
 use Rattle.spl_places.specs.NameMaps.{entries_of, shown}
 use Rattle.spl_places.specs.Spots.{spot_of}
 use Rattle.spl_body_scopes.specs.Levels.{Spots, Level, level_of, through}

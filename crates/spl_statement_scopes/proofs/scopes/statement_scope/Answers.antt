@@ -1,6 +1,6 @@
 -- What three levels show is the scope of the statements of the body whose they are.
 use Rattle.std.proofs.Common.{sym, subst}
-use Rattle.spl_code.specs.Calls.{Scope}
+use Rattle.spl_module_code.specs.spl_code.Calls.{Scope}
 use Rattle.spl_body_scopes.specs.Levels.{level_of}
 use Rattle.spl_body_scopes.specs.Found.{calls_in}
 use Rattle.spl_statement_scopes.specs.Scopes.{StatesRoutine, StatesInner, StatesMain, StatesMainInner}

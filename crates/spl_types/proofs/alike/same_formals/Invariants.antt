@@ -1,6 +1,6 @@
 use Rattle.std.proofs.Common.{ℕ, ◌≡◌, List, map, length}
 use Rattle.spl_sorts.specs.declared.profiles.Formal.{Formal}
-use Rattle.spl_meaning.specs.DeclarationRules as rules
+use Rattle.spl_sound.specs.spl_meaning.DeclarationRules as rules
 use Rattle.spl_sorts.specs.Profiles.{formal_of}
 use Rattle.spl_types.proofs.FormalLists.{left}
 use Rattle.spl_types.proofs.alike.same_formals.Given as goal

@@ -1,6 +1,6 @@
 use Rattle.std.proofs.Common.{◌≡◌, map, []}
 use Rattle.spl_sound.specs.Spelled.{source_of}
-use Rattle.spl_found.specs.FoundUnits.{walked_units}
+use Rattle.spl_uses.specs.spl_found.FoundUnits.{walked_units}
 use Rattle.spl_types.proofs.CheckLaws.{units_left}
 use Rattle.spl_types.proofs.checking.all_rules.Given as goal
 

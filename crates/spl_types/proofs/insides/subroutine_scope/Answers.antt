@@ -1,8 +1,8 @@
 use Rattle.std.proofs.Common.{ap, true, false, ◌∷◌, [], is_some}
 use Rattle.std.specs.Prelude.{if◌then◌else◌}
 use Rattle.spl_tree.specs.Views.{letters}
-use Rattle.spl_meaning.specs.Names.{Names, or_else, find}
-use Rattle.spl_meaning.specs.ExpressionRules.{Scope}
+use Rattle.spl_sound.specs.spl_meaning.Names.{Names, or_else, find}
+use Rattle.spl_sound.specs.spl_meaning.ExpressionRules.{Scope}
 use Rattle.spl_sorts.specs.Tables.{table_of}
 use Rattle.spl_uses.specs.Scopes.{with_result}
 use Rattle.spl_types.proofs.insides.subroutine_scope.Goals as goal

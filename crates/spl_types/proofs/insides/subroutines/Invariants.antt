@@ -1,7 +1,7 @@
 use Rattle.std.proofs.Common.{◌≡◌, drop, map}
 use Rattle.spl_tree.specs.DeclarationTrees.{declarations}
 use Rattle.spl_tree.specs.Spells.{declaration}
-use Rattle.spl_found.specs.FoundDeclarations.{found_subroutines}
+use Rattle.spl_uses.specs.spl_found.FoundDeclarations.{found_subroutines}
 use Rattle.spl_types.specs.Insides.{inside_of}
 use Rattle.spl_types.proofs.insides.subroutines.Given as goal
 

@@ -1,4 +1,4 @@
-use Rattle.spl_meaning.specs.Names.{find}
+use Rattle.spl_sound.specs.spl_meaning.Names.{find}
 use Rattle.spl_sorts.specs.Tables.{table_of}
 use Rattle.spl_types.proofs.UnitLaws.{main_is}
 use Rattle.spl_types.proofs.main_bodies.main_inside.Goals as goal

@@ -1,12 +1,12 @@
 use Rattle.std.proofs.Common.{map, Option, ap, ◌∙◌}
 use Rattle.spl_tree.specs.DeclarationTrees.{declarations}
 use Rattle.spl_tree.specs.Spells.{declaration, heading_tree}
-use Rattle.spl_meaning.specs.Names as n
-use Rattle.spl_meaning.specs.Names.{Names, find}
-use Rattle.spl_meaning.specs.Faults.{Fault}
+use Rattle.spl_sound.specs.spl_meaning.Names as n
+use Rattle.spl_sound.specs.spl_meaning.Names.{Names, find}
+use Rattle.spl_sound.specs.spl_meaning.Faults.{Fault}
 use Rattle.spl_sorts.specs.Tables.{table_of}
-use Rattle.spl_found.specs.OwnNames.{behind_declarations}
-use Rattle.spl_found.specs.FoundDeclarations.{found_locals, around_procedure}
+use Rattle.spl_uses.specs.spl_found.OwnNames.{behind_declarations}
+use Rattle.spl_uses.specs.spl_found.FoundDeclarations.{found_locals, around_procedure}
 use Rattle.spl_types.proofs.procedures.own_names.Goals as goal
 
 -- the list is walked behind the parameters

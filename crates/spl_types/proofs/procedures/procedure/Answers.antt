@@ -3,12 +3,12 @@ use Rattle.spl_tree.specs.DeclarationTrees.{declarations}
 use Rattle.spl_tree.specs.StatementTrees.{statements}
 use Rattle.spl_tree.specs.Spells.{declaration, heading_tree}
 use Rattle.spl_tree.specs.Views as view
-use Rattle.spl_meaning.specs.Names.{Names, find}
-use Rattle.spl_meaning.specs.Faults.{Fault}
-use Rattle.spl_meaning.specs.ExpressionRules.{Scope}
+use Rattle.spl_sound.specs.spl_meaning.Names.{Names, find}
+use Rattle.spl_sound.specs.spl_meaning.Faults.{Fault}
+use Rattle.spl_sound.specs.spl_meaning.ExpressionRules.{Scope}
 use Rattle.spl_sorts.specs.Tables.{table_of}
-use Rattle.spl_found.specs.FoundStatements.{found_body}
-use Rattle.spl_found.specs.FoundDeclarations.{found_subroutines, scope_in_procedure}
+use Rattle.spl_uses.specs.spl_found.FoundStatements.{found_body}
+use Rattle.spl_uses.specs.spl_found.FoundDeclarations.{found_subroutines, scope_in_procedure}
 use Rattle.spl_types.specs.Procedures.{procedure_inside}
 use Rattle.spl_types.proofs.procedures.procedure.Goals as goal
 

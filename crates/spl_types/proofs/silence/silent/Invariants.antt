@@ -1,6 +1,6 @@
 use Rattle.std.proofs.Common.{◌≡◌, drop, map}
 use Rattle.spl_tree.specs.Views as view
-use Rattle.spl_found.specs.FoundDeclarations.{found_silent}
+use Rattle.spl_uses.specs.spl_found.FoundDeclarations.{found_silent}
 use Rattle.spl_types.proofs.silence.silent.Given as goal
 
 -- what is found from here in the statements that are left is what is found in all

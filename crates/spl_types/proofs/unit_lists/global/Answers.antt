@@ -4,14 +4,14 @@ use Rattle.spl_tree.specs.declared.statements.Stmt.{Stmt}
 use Rattle.spl_tree.specs.DeclarationTrees.{declarations}
 use Rattle.spl_tree.specs.Spells.{declaration, heading_tree}
 use Rattle.spl_tree.specs.Views.{statement}
-use Rattle.spl_meaning.specs.Names as n
-use Rattle.spl_meaning.specs.Faults.{first_fault}
-use Rattle.spl_found.specs.OwnNames.{with_name}
-use Rattle.spl_found.specs.FoundDeclarations.{found_procedure, procedure_by}
-use Rattle.spl_meaning.specs.Names.{find}
+use Rattle.spl_sound.specs.spl_meaning.Names as n
+use Rattle.spl_sound.specs.spl_meaning.Faults.{first_fault}
+use Rattle.spl_uses.specs.spl_found.OwnNames.{with_name}
+use Rattle.spl_uses.specs.spl_found.FoundDeclarations.{found_procedure, procedure_by}
+use Rattle.spl_sound.specs.spl_meaning.Names.{find}
 use Rattle.spl_sorts.specs.Tables.{table_of}
 use Rattle.spl_lists.specs.Arounds.{around_of}
-use Rattle.spl_found.specs.FoundUnits.{walked}
+use Rattle.spl_uses.specs.spl_found.FoundUnits.{walked}
 use Rattle.spl_types.specs.WaitingNames.{waits_of}
 use Rattle.spl_types.specs.OtherUnits.{agrees_of}
 use Rattle.spl_types.proofs.DeclViews.{procedure_walked}

@@ -1,5 +1,5 @@
 use Rattle.std.proofs.Common.{rules, ◌<◌, length, sym, ◌∙◌}
-use Rattle.spl_meaning.specs.Names.{find}
+use Rattle.spl_sound.specs.spl_meaning.Names.{find}
 use Rattle.spl_sorts.specs.Tables.{table_of}
 use Rattle.spl_lists.specs.Arounds.{around_of}
 use Rattle.spl_types.specs.WaitingNames.{waits_of}

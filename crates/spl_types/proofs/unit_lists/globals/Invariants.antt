@@ -1,11 +1,11 @@
 use Rattle.std.proofs.Common.{◌≡◌, map}
 use Rattle.spl_tree.specs.DeclarationTrees.{declarations}
 use Rattle.spl_tree.specs.Spells.{declaration}
-use Rattle.spl_meaning.specs.Names.{find, nothing_declared}
+use Rattle.spl_sound.specs.spl_meaning.Names.{find, nothing_declared}
 use Rattle.spl_sorts.specs.Tables.{table_of}
 use Rattle.spl_lists.specs.Arounds.{around_of}
-use Rattle.spl_found.specs.OwnNames.{behind_declarations}
-use Rattle.spl_found.specs.FoundUnits.{walked_list}
+use Rattle.spl_uses.specs.spl_found.OwnNames.{behind_declarations}
+use Rattle.spl_uses.specs.spl_found.FoundUnits.{walked_list}
 use Rattle.spl_types.specs.WaitingNames.{waits_of}
 use Rattle.spl_types.specs.OtherUnits.{agrees_of}
 use Rattle.spl_types.proofs.GlobalWalks.{walk_left, names_left}

@@ -1,5 +1,5 @@
 use Rattle.std.proofs.Common.{◌≡◌}
-use Rattle.spl_meaning.specs.Names.{find}
+use Rattle.spl_sound.specs.spl_meaning.Names.{find}
 use Rattle.spl_sorts.specs.Tables.{table_of}
 use Rattle.spl_types.proofs.ForwardLaws.{bodies_last, found_last}
 use Rattle.spl_types.proofs.wanted.forwards.Given as goal

@@ -2,9 +2,9 @@
 use Rattle.std.proofs.Common.{◌≡◌, List, Bool, map, sym, ap, subst}
 use Rattle.spl_tree.specs.declared.names_and_places.Name.{Name}
 use Rattle.spl_tree.specs.Views.{letters}
-use Rattle.spl_sound.specs.Spelled.{source_of}
-use Rattle.spl_modules.specs.Walks.{walk_of}
-use Rattle.spl_modules.specs.Made.{Made}
+use Rattle.spl_module_code.specs.spl_sound.Spelled.{source_of}
+use Rattle.spl_module_code.specs.spl_modules.Walks.{walk_of}
+use Rattle.spl_module_code.specs.spl_modules.Made.{Made}
 use Rattle.spl_unit_codes.specs.Begun.{IsBegun, has_main}
 use Rattle.spl_unit_codes.proofs.Begins.{main_there, main_nowhere, begun_more}
 use Rattle.spl_unit_codes.proofs.growing.begin.Goals as goal

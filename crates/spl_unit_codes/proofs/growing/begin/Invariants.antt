@@ -1,6 +1,6 @@
 -- A loop over the segments of a unit.
-use Rattle.spl_sound.specs.Spelled.{source_of}
-use Rattle.spl_modules.specs.Walks.{walk_of}
+use Rattle.spl_module_code.specs.spl_sound.Spelled.{source_of}
+use Rattle.spl_module_code.specs.spl_modules.Walks.{walk_of}
 use Rattle.spl_unit_codes.proofs.Begins.{FirstBegun}
 use Rattle.spl_unit_codes.proofs.growing.begin.Given as goal
 

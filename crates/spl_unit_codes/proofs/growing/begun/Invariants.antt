@@ -1,7 +1,7 @@
 -- A loop that makes a mark for each entry.
 use Rattle.std.proofs.Common.{map}
 use Rattle.spl_tree.specs.Views.{letters}
-use Rattle.spl_modules.specs.Made.{made_of}
+use Rattle.spl_module_code.specs.spl_modules.Made.{made_of}
 use Rattle.spl_unit_codes.proofs.Begins.{Laid}
 use Rattle.spl_unit_codes.proofs.growing.begun.Given as goal
 

@@ -1,6 +1,6 @@
 -- A loop over entries.
 use Rattle.std.proofs.Common.{◌≡◌, ◌++◌, map, drop}
-use Rattle.spl_modules.specs.Made.{made_of}
+use Rattle.spl_module_code.specs.spl_modules.Made.{made_of}
 use Rattle.spl_unit_codes.proofs.growing.copied.Given as goal
 
 -- the copies so far, and the entries from here on, are as all entries

@@ -1,6 +1,6 @@
 -- The module of the segment, where there is one.
 use Rattle.std.proofs.Common.{rules, ◌≡◌, length, refl}
-use Rattle.spl_modules.proofs.EnteredLemmas.{made_found, made_missing}
+use Rattle.spl_module_code.proofs.spl_modules_proofs.EnteredLemmas.{made_found, made_missing}
 use Rattle.spl_unit_codes.proofs.growing.entries_at.Goals as goal
 
 pub returns-then-number-len : goal.returns-then-number-len

@@ -1,8 +1,8 @@
 -- Name by name.
 use Rattle.std.proofs.Common.{map}
 use Rattle.spl_tree.specs.Views.{letters}
-use Rattle.spl_meaning.specs.Names.{find}
-use Rattle.spl_places.specs.NameMaps.{entries_of}
+use Rattle.spl_module_code.specs.spl_meaning.Names.{find}
+use Rattle.spl_module_code.specs.spl_places.NameMaps.{entries_of}
 use Rattle.spl_unit_codes.proofs.Picks.{picked_first, picked_more, picked_all}
 use Rattle.spl_unit_codes.proofs.picking.pick.Goals as goal
 

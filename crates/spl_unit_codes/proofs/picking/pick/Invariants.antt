@@ -1,8 +1,8 @@
 -- A loop over the names of segments.
 use Rattle.std.proofs.Common.{map, drop}
 use Rattle.spl_tree.specs.Views.{letters}
-use Rattle.spl_meaning.specs.Names.{find}
-use Rattle.spl_places.specs.NameMaps.{entries_of}
+use Rattle.spl_module_code.specs.spl_meaning.Names.{find}
+use Rattle.spl_module_code.specs.spl_places.NameMaps.{entries_of}
 use Rattle.spl_unit_codes.proofs.Picks.{PickedSoFar}
 use Rattle.spl_unit_codes.proofs.picking.pick.Given as goal
 

@@ -2,9 +2,9 @@
 use Rattle.std.proofs.Common.{List, map, sym, ap, ◌∙◌}
 use Rattle.spl_tree.specs.declared.names_and_places.Name.{Name}
 use Rattle.spl_tree.specs.Views.{letters}
-use Rattle.spl_meaning.specs.Names.{find}
-use Rattle.spl_places.specs.NameMaps.{entries_of, behind_table}
-use Rattle.spl_places.proofs.NameMapLemmas.{behind_more}
+use Rattle.spl_module_code.specs.spl_meaning.Names.{find}
+use Rattle.spl_module_code.specs.spl_places.NameMaps.{entries_of, behind_table}
+use Rattle.spl_module_code.proofs.spl_places_proofs.NameMapLemmas.{behind_more}
 use Rattle.spl_module_code.specs.Modules.{numbered}
 use Rattle.spl_unit_codes.proofs.Uses.{numbers_first, numbers_more, numbers_all}
 use Rattle.spl_unit_codes.proofs.picking.segment_numbers.Goals as goal

@@ -1,8 +1,8 @@
 -- A loop over the segments of a unit.
 use Rattle.std.proofs.Common.{◌≡◌, map, drop}
 use Rattle.spl_tree.specs.Views.{letters}
-use Rattle.spl_meaning.specs.Names.{find}
-use Rattle.spl_places.specs.NameMaps.{entries_of, behind_table}
+use Rattle.spl_module_code.specs.spl_meaning.Names.{find}
+use Rattle.spl_module_code.specs.spl_places.NameMaps.{entries_of, behind_table}
 use Rattle.spl_module_code.specs.Modules.{numbered}
 use Rattle.spl_unit_codes.proofs.picking.segment_numbers.Given as goal
 

@@ -3,7 +3,7 @@ use Rattle.std.proofs.Common.{◌≡◌, ◌++◌, map, drop}
 use Rattle.spl_tree.specs.DeclarationTrees.{declarations}
 use Rattle.spl_tree.specs.Spells.{declaration}
 use Rattle.spl_tree.specs.Views.{letters}
-use Rattle.spl_sound.specs.Spelled.{source_of}
+use Rattle.spl_module_code.specs.spl_sound.Spelled.{source_of}
 use Rattle.spl_module_code.specs.Modules.{uses_among}
 use Rattle.spl_unit_codes.proofs.picking.use_all.Given as goal
 

@@ -1,7 +1,7 @@
 -- A loop over units.
 use Rattle.std.proofs.Common.{◌≡◌, ◌++◌, map, drop}
 use Rattle.spl_tree.specs.Views.{letters}
-use Rattle.spl_sound.specs.Spelled.{source_of}
+use Rattle.spl_module_code.specs.spl_sound.Spelled.{source_of}
 use Rattle.spl_module_code.specs.Modules.{program_uses}
 use Rattle.spl_unit_codes.proofs.picking.used_segments.Given as goal
 

@@ -1,7 +1,7 @@
 -- The sessions are opened, and the largest segment fits.
 use Rattle.std.proofs.Common.{◌≡◌, ◌-◌, ◌≤◌, List, Vec, Global, ap, subst, sym, ◌∙◌, arith}
 use Rattle.hp_program.specs.declared.program.Program.{Program}
-use Rattle.mpe_regions.specs.Area.{Area}
+use Rattle.mpe_overlay.specs.mpe_regions.Area.{Area}
 use Rattle.mpe_overlay.specs.Codes.{codes_of}
 use Rattle.mpe_worlds.specs.Opening.{largest}
 use Rattle.mpe_turns.specs.Opened.{AreOpened}

@@ -4,8 +4,8 @@ use Rattle.std.proofs.lemmas.List.{map_push}
 use Rattle.arrayvec.specs.ArrayVec.{ArrayVec}
 use Rattle.indexmap.proofs.CallerLemmas.{insert_entry-new}
 use Rattle.spl_tree.specs.Views.{letters}
-use Rattle.spl_meaning.specs.Names.{Table, find}
-use Rattle.spl_found.proofs.OwnNames.{still, find_pushed}
+use Rattle.spl_sorts.specs.spl_meaning.Names.{Table, find}
+use Rattle.spl_uses.proofs.spl_found_proofs.OwnNames.{still, find_pushed}
 use Rattle.spl_depths.specs.Places.{entry_of, places_of}
 use Rattle.spl_depths.proofs.PlaceWalks.{equal_names, place_found}
 use Rattle.spl_depths.proofs.reach.Places.add.Goals as goal

@@ -1,7 +1,7 @@
 -- A loop over parameters.
 use Rattle.std.proofs.Common.{◌≡◌, [], map, drop}
-use Rattle.spl_meaning.specs.Names.{find}
-use Rattle.spl_meaning.specs.Pending.{formals_words}
+use Rattle.spl_sorts.specs.spl_meaning.Names.{find}
+use Rattle.spl_sorts.specs.spl_meaning.Pending.{formals_words}
 use Rattle.spl_sorts.specs.Profiles.{formal_of}
 use Rattle.spl_depths.specs.Places.{places_of, behind_formals}
 use Rattle.spl_depths.proofs.reach.Places.of.Given as goal

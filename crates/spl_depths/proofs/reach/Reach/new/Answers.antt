@@ -1,8 +1,8 @@
 -- Parameters by their places, and the result below them.
 use Rattle.std.proofs.Common.{refl, rules, ◌+◌, ◌≡◌}
 use Rattle.spl_tree.specs.Views.{letters}
-use Rattle.spl_meaning.specs.Names.{find}
-use Rattle.spl_meaning.specs.Pending.{formals_words, result_words}
+use Rattle.spl_sorts.specs.spl_meaning.Names.{find}
+use Rattle.spl_sorts.specs.spl_meaning.Pending.{formals_words, result_words}
 use Rattle.spl_sorts.specs.Profiles.{profile_of}
 use Rattle.spl_depths.specs.Places.{places_of}
 use Rattle.spl_depths.specs.Reach.{parameters_below}

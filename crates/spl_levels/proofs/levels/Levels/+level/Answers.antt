@@ -3,6 +3,7 @@ use Rattle.spl_tree.specs.Operators.{is_sign}
 use Rattle.spl_reading.specs.Readers.{pure, refuse, followed, and_then}
 use Rattle.spl_reading.specs.ReadExpressions as r
 use Rattle.spl_levels.specs.Parts.{found}
+use Rattle.spl_levels.specs.Pieces.{length}
 use Rattle.spl_tokens.proofs.Steps.{steps, by_peek}
 use Rattle.spl_levels.proofs.LevelLemmas.{first_sum, level_up, within_is, turn_shifted, turn_compared}
 use Rattle.spl_levels.proofs.levels.Levels.+level.Goals as goal
@@ -37,21 +38,21 @@ pub level-returns-clause-read : goal.level-returns-clause-read
 unfolding pure refuse followed and_then
 level-returns-clause-read g t c = rw (level_up _ _ _ c.args.height _ _ _ (omega arith)) (grind (arith, steps))
 
-pub bytes-returns-in_err-bytes-clause-read : goal.bytes-returns-in_err-bytes-clause-read
-unfolding pure refuse followed and_then r.bytes found
-bytes-returns-in_err-bytes-clause-read g t c = let e =
+pub length-returns-in_err-bytes : goal.length-returns-in_err-bytes
+unfolding pure refuse followed and_then length
+length-returns-in_err-bytes g t c = let e =
     within_is c.args.self.now.room (c.args.self.now.taken + c.args.count / 8) c.opening.new.tokens (omega
     (arith, c.in_ok-opening.ensures.room)) in grind (arith, steps, e)
 
-pub bytes-returns-in_err-expect-clause-read : goal.bytes-returns-in_err-expect-clause-read
-unfolding pure refuse followed and_then r.bytes found
-bytes-returns-in_err-expect-clause-read g t c = let e =
+pub length-returns-in-Err : goal.length-returns-in-Err
+unfolding pure refuse followed and_then length
+length-returns-in-Err g t c = let e =
     within_is c.args.self.now.room (c.args.self.now.taken + c.args.count / 8) c.opening.new.tokens (omega
     (arith, c.in_ok-opening.ensures.room)) in grind (arith, steps, e)
 
-pub bytes-returns-clause-read : goal.bytes-returns-clause-read
-unfolding pure refuse followed and_then r.bytes found
-bytes-returns-clause-read g t c = let e = within_is c.args.self.now.room
+pub length-returns-in-Ok : goal.length-returns-in-Ok
+unfolding pure refuse followed and_then length
+length-returns-in-Ok g t c = let e = within_is c.args.self.now.room
     (c.args.self.now.taken + c.args.count / 8) c.opening.new.tokens (omega
     (arith, c.in_ok-opening.ensures.room)) in grind (arith, steps, e)
 
@@ -62,9 +63,9 @@ no_operator b k h e n f = n (omega arith)
 pub turn-returns-then-same-clause-read : goal.turn-returns-then-same-clause-read
 unfolding r.turn
 turn-returns-then-same-clause-read g t c = rw (
-  by_peek _ _ _ _ c.in_ok-next.ensures,
+  by_peek _ _ _ _ c.in-Ok.ensures,
   turn_shifted c.args.self.now.condition c.args.self.now.room c.args.self.now.taken c.args.height c.args.at
-      (found c.args.of) c.in_ok-next.next c.args.tokens.now
+      (found c.args.of) c.in-Ok.next c.args.tokens.now
       (no_operator c.binds.result _ c.args.height (cc
       (c.binds.ensures, c.operator_of.ensures)) c.if-binds-height.false) c.if-height-eq0.true (cc
       (c.same.ensures, c.if-same.true)),
@@ -73,9 +74,9 @@ turn-returns-then-same-clause-read g t c = rw (
 pub turn-returns-then-same-2-clause-read : goal.turn-returns-then-same-2-clause-read
 unfolding r.turn found
 turn-returns-then-same-2-clause-read g t c = rw (
-  by_peek _ _ _ _ c.in_ok-next.ensures,
+  by_peek _ _ _ _ c.in-Ok.ensures,
   turn_compared c.args.self.now.condition c.args.self.now.room c.args.self.now.taken c.args.height c.args.at
-      (found c.args.of) c.in_ok-next.next c.args.tokens.now
+      (found c.args.of) c.in-Ok.next c.args.tokens.now
       (no_operator c.binds.result _ c.args.height (cc
       (c.binds.ensures, c.operator_of.ensures)) c.if-binds-height.false) c.if-self.true c.if-height-eq7.true
       (cc (c.same-then-height-eq7.ensures, c.if-same-2.true)),

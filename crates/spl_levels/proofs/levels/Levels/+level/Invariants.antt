@@ -27,10 +27,13 @@ abbrev pub decreases-rest : goal.decreases-rest
 decreases-rest g l = 8 * l.height + 4 + weight l.self.now.condition
 
 abbrev pub decreases-compared : goal.decreases-compared
-decreases-compared g l = 96
+decreases-compared g l = 97
 
 abbrev pub decreases-bytes : goal.decreases-bytes
-decreases-bytes g l = 95
+decreases-bytes g l = 96
+
+abbrev pub decreases-length : goal.decreases-length
+decreases-length g l = 95
 
 abbrev pub decreases-whole : goal.decreases-whole
 decreases-whole g l = 90 + weight l.self.now.condition

@@ -4,8 +4,8 @@ use Rattle.std.proofs.lemmas.List.{map_push}
 use Rattle.arrayvec.specs.ArrayVec.{ArrayVec}
 use Rattle.indexmap.proofs.CallerLemmas.{insert_entry-new}
 use Rattle.spl_tree.specs.Views.{letters}
-use Rattle.spl_meaning.specs.Names.{Table, find}
-use Rattle.spl_found.proofs.OwnNames.{still, find_pushed}
+use Rattle.spl_sorts.specs.spl_meaning.Names.{Table, find}
+use Rattle.spl_uses.proofs.spl_found_proofs.OwnNames.{still, find_pushed}
 use Rattle.spl_lists.specs.declared.listings.Listed.{Listed}
 use Rattle.spl_lists.specs.Listings.{entry_of, listed_of}
 use Rattle.spl_lists.proofs.NameLemmas.{equal_names, listed_found}

@@ -1,7 +1,7 @@
 -- A loop over the names of a list of kinds.
 use Rattle.std.proofs.Common.{◌≡◌, map, drop}
 use Rattle.spl_tree.specs.Spells.{placed}
-use Rattle.spl_meaning.specs.Names.{find}
+use Rattle.spl_sorts.specs.spl_meaning.Names.{find}
 use Rattle.spl_lists.specs.Listings.{listed_of, and_listed}
 use Rattle.spl_lists.proofs.listings.Listings.add_all.Given as goal
 

@@ -1,7 +1,7 @@
 -- A loop over lists of kinds.
 use Rattle.std.proofs.Common.{◌≡◌, [], map, drop}
 use Rattle.spl_tree.specs.Spells.{spec_tree}
-use Rattle.spl_meaning.specs.Names.{find}
+use Rattle.spl_sorts.specs.spl_meaning.Names.{find}
 use Rattle.spl_lists.specs.Listings.{listed_of, and_specs}
 use Rattle.spl_lists.proofs.listings.Listings.of.Given as goal
 

@@ -1,7 +1,7 @@
 use Rattle.std.proofs.Common.{ℕ, List, map, Some, ap, ◌∙◌}
 use Rattle.std.specs.Prelude.{if◌then◌else◌}
 use Rattle.arrayvec.specs.ArrayVec.{ArrayVec}
-use Rattle.spl_meaning.specs.Names.{find, same_name}
+use Rattle.spl_sound.specs.spl_meaning.Names.{find, same_name}
 use Rattle.spl_sorts.specs.declared.profiles.Profile.{Profile}
 use Rattle.std.specs.Prelude.{Option}
 use Rattle.spl_types.specs.WaitingNames.{kept, entry_of, joined, waits_of}

@@ -1,0 +1,4 @@
+-- In reading order.
+pub mod AnswerLemmas
+pub mod TargetLemmas
+pub mod AssignLemmas

@@ -1,0 +1,58 @@
+-- Productions, by the pieces that are read apart.
+use Rattle.std.proofs.Common.{ℕ, suc, ◌≡◌, ◌+◌, ◌/◌, Bool, true, List, refl}
+use Rattle.spl_tree.specs.declared.names_and_places.At.{At}
+use Rattle.spl_tree.specs.Symbols.{Lexeme}
+use Rattle.spl_tree.specs.Operators.{other, bytes_of}
+use Rattle.spl_tree.specs.Trees as tree
+use Rattle.spl_reading.specs.Readers.{Outcome, Got, Bad, Deep, Parser, pure, followed, and_then}
+use Rattle.spl_reading.specs.ReadExpressions as r
+use Rattle.spl_levels.specs.Nests.{counted_bytes, bytes}
+use Rattle.spl_levels.specs.Pieces.{extent, amount, length}
+
+-- what follows the last part of a chain follows the chain
+along_at : {A B C : Type 0} (f : A → Parser B) (g : B → Parser C) (h : A → Parser C)
+    → ((a : A) (us : List Lexeme) → h a us ≡ followed (f a) g us)
+    → (o : Outcome A) → and_then o h ≡ and_then (and_then o f) g
+unfolding followed and_then
+along_at f g h e (Got a us) = e a us
+along_at f g h e (Bad us) = refl
+along_at f g h e (Deep us) = refl
+
+pub along : {A B C : Type 0} (p : Parser A) (f : A → Parser B) (g : B → Parser C) (h : A → Parser C)
+    → ((a : A) (us : List Lexeme) → h a us ≡ followed (f a) g us)
+    → (ts : List Lexeme) → followed p h ts ≡ followed (followed p f) g ts
+unfolding followed
+along p f g h e ts = along_at f g h e (p ts)
+
+-- and stands at its end
+pub along_end : {A B : Type 0} (a : A) (g : A → Parser B) (us : List Lexeme) → g a us ≡ followed (pure a) g us
+unfolding followed and_then pure
+along_end a g us = refl
+
+-- a bit field, by its start and its length
+pub bits_is : (at : At) (f : r.Found) (ts : List Lexeme) → r.bits at f ts
+    ≡ followed extent (λ e. pure (r.plain other (tree.Tree.field f.tree e.0 e.1 at))) ts
+unfolding r.bits extent
+bits_is at f ts = along _ _ _ _ (λ _ us. along _ _ _ _ (λ _ vs. along _ _ _ _ (λ a ws. along _ _ _ _ (λ _ xs.
+    along _ _ _ _ (λ b ys. along _ _ _ _ (λ _ zs. along_end _ _ zs) ys) xs) ws) vs) us) ts
+
+-- a shift, by its number and how far it goes
+pub shifted_is : (c : Bool) (room taken : ℕ) (at : At) (f : r.Found) (ts : List Lexeme)
+    → r.shifted (r.unary room) (counted_bytes c room) room c taken at f ts
+    ≡ followed (amount c room taken f.count) (λ a. pure (
+      true,
+      record { count = suc f.count; form = other; tree = tree.Tree.shift a.0 f.tree a.1 at },
+    )) ts
+unfolding r.shifted amount
+shifted_is c room taken at f ts = along _ _ _ _ (λ _ us. along _ _ _ _ (λ k vs. along _ _ _ _ (λ _ ws.
+    along _ _ _ _ (λ v xs. along _ _ _ _ (λ _ ys. along_end _ _ ys) xs) ws) vs) us) ts
+
+-- a comparison of bytes, by their number
+pub bytes_is : (room taken : ℕ) (f : r.Found) (ts : List Lexeme) → bytes room taken f ts
+    ≡ followed (length room (taken + f.count / 8)) (λ e. pure (
+      true,
+      record { count = f.count; form = other; tree = bytes_of f.tree e },
+    )) ts
+unfolding r.bytes length
+bytes_is room taken f ts = along _ _ _ _ (λ _ us. along _ _ _ _ (λ _ vs. along _ _ _ _ (λ e ws. along _ _ _ _ (λ _ xs.
+    along_end _ _ xs) ws) vs) us) ts

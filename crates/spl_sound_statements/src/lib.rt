@@ -1,0 +1,6 @@
+//! Statements that break no rule are covered, where what is known of their names is so.
+#![tactic(auto)]
+
+mod laws;
+
+pub use laws::sound_statements_are_covered;

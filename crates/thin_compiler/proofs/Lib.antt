@@ -1,6 +1,0 @@
-pub mod CodeLemmas
-pub mod CallLemmas
-pub mod NodeLemmas
-pub mod ProgramLemmas
-pub mod ProgramValid
-pub mod ShapeLemmas

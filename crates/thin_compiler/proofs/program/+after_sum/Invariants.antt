@@ -1,7 +1,0 @@
-use Rattle.thin_jobs.specs.ThinUnits.{atom_count}
-use Rattle.thin_jobs.specs.ThinTrees.{sum_of}
-use Rattle.thin_compiler.proofs.program.+after_sum.Given as goal
-
--- a sum has more operands than what stands before its last operator
-abbrev pub decreases-after_sum : goal.decreases-after_sum
-decreases-after_sum l = atom_count (sum_of l.expr.now)

@@ -1,5 +1,0 @@
-pub mod ThinCode
-pub mod OperandViews
-pub mod StepViews
-pub mod ProgramViews
-pub mod ThinLists

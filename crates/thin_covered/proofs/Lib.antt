@@ -1,5 +1,0 @@
--- In reading order.
-pub mod NameLemmas
-pub mod SumLemmas
-pub mod StatementLemmas
-pub mod UnitLemmas

@@ -1,4 +1,0 @@
-pub mod Bytes
-pub mod ThinUnits
-pub mod ThinTrees
-pub mod ThinShapes

@@ -1,3 +1,0 @@
-pub mod KnownRuns
-pub mod StepLaws
-pub mod CalmRuns
