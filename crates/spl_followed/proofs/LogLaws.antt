@@ -1,5 +1,5 @@
 -- What the session meets is what the run begins.
-use Rattle.std.proofs.Common.{◌≡◌, ◌⊎◌, inl, inr, ℕ, zero, suc, ◌+◌, ◌-◌, ◌*◌, ◌≤◌, ◌<◌, false, List, [], ◌∷◌, ◌++◌, length, refl, sym, ap, subst, ◌∙◌, arith}
+use Rattle.std.proofs.Common.{◌≡◌, ◌⊎◌, inl, inr, ℕ, zero, suc, ◌+◌, ◌-◌, ◌*◌, ◌≤◌, ◌<◌, true, false, List, [], ◌∷◌, ◌++◌, length, refl, sym, ap, subst, ◌∙◌, arith}
 use Rattle.std.proofs.lemmas.Bool.{cases_lt}
 use Rattle.std.proofs.lemmas.List.{append-nil, length-append}
 use Rattle.spl_carries.specs.hp_program.declared.program.Program.{Program}
@@ -182,7 +182,7 @@ module _ (p : Program) (us : List Source) (seat : Seat) (f : Followed p us seat)
     by (inr late) = meets_from (f.rate.reach * n + f.lag + 1) 0 n c.0 (omega arith) (omega arith) s is c.2 late
   meets_first n (inr is) = by (cases_lt n c.0) where
     s : State
-    s = opening (program_of us) seat 0
+    s = record (opening (program_of us) seat 0) { lost = true }
 
     x : Follows {A = Unit {0}} f.ground f.rate f.charge f.lag 0 (tally s) (start p seat) NoValue NoExit (strays s)
     x = subst (λ (o : Outcome (Unit {0})). Follows f.ground f.rate f.charge f.lag 0 (tally s) (start p seat) NoValue NoExit o) is (f.follows 0)

@@ -14,7 +14,7 @@ use Rattle.spl_carries.proofs.hp_flat_proofs.StepKeeping.{step-continues}
 use Rattle.spl_carries.specs.spl_meaning.Tables.{Source}
 use Rattle.spl_carries.specs.spl_meaning.Bodies.{Body, program_of}
 use Rattle.spl_carries.specs.spl_meaning.Runs.{Seat, opening, point_of, at_state, ending_of, run_program, run_of, alone, stands, stray}
-use Rattle.spl_carries.specs.spl_meaning.States.{State, Begun, End, terminated, quit, trapped, Outcome, done, leaves, spent, ends, strays, all_printed}
+use Rattle.spl_carries.specs.spl_meaning.States.{State, Begun, End, terminated, quit, trapped, Outcome, done, leaves, spent, ends, strays, has_no_meaning, all_printed}
 use Rattle.spl_carries.specs.spl_meaning.Laws.{Onward, Beyond, GoesOnAs}
 use Rattle.spl_carries.proofs.spl_meaning_proofs.RunLaws.{steps_go_on}
 use Rattle.spl_carries.specs.Carries.{weight, flat_point, flat, Forth, follows, strayed, Back}
@@ -294,9 +294,9 @@ module _ (p : Program) (us : List Source) (seat : Seat) (f : Followed p us seat)
       (subst (λ (o : Outcome (Unit {0})). GoesOnAs o (run_of us seat (suc j))) is (steps_go_on us seat j))
       (λ t u m' y is' none' early'. forth_from fuel (suc j) n (omega (arith, count)) t u m' y is' none' early')
 
-  -- The run of no step: where there is a main body it is spent, with nothing printed; where there is none it strays.
+  -- The run of no step: where there is a main body it is spent, with nothing printed; where there is none it has no meaning.
   abbrev pub Begins : Outcome (Unit {0}) → Type 0
-  Begins o = (o ≡ spent (opening (program_of us) seat 0)) ⊎ (o ≡ strays (opening (program_of us) seat 0))
+  Begins o = (o ≡ spent (opening (program_of us) seat 0)) ⊎ (o ≡ has_no_meaning (opening (program_of us) seat 0))
 
   pub begins : Begins (run_of us seat 0)
   begins = by (program_of us).main where

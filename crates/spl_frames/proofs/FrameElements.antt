@@ -19,16 +19,16 @@ use Rattle.spl_meaning.specs.Operations.{related}
 use Rattle.spl_meaning.specs.Elements.{next_located, neighbour, count_size, is_upward, with_one, moved, moved_by, moved_list, moved_text, as_words, text_elements, is_of_class, of_class, moved_while, is_passed, scanned, told_apart, compared, compared_by, compared_text, relation_told}
 use Rattle.spl_meaning.specs.Serving.{with_bytes, touched, all_below, all_data, carried_out, answered, effected, served, byte_of}
 use Rattle.spl_frames.specs.Words.{AllOf}
-use Rattle.spl_frames.proofs.Steady.{MemOf, BytesOf, Knowledge, Any, Steady, steady_give, steady_done, steady_ends, steady_strays, steady_spent, steady_go, steady_step, steady_if, steady_now, Stays, steady_in}
+use Rattle.spl_frames.proofs.Steady.{MemOf, BytesOf, Knowledge, Any, Steady, steady_give, steady_done, steady_ends, steady_strays, steady_lost, steady_spent, steady_go, steady_step, steady_if, steady_now, Stays, steady_in}
 use Rattle.spl_frames.proofs.FrameReferences.{Storable, stored_there, mem_stored, steady_read, steady_store, steady_store_one}
 use Rattle.spl_frames.proofs.FrameOperations.{steady_truth}
 
 -- the one word of a value
 pub steady_one : {A : Type 0} {P : A → Type 0} (v : Knowledge) (vs : List ℕ) → AllOf v.W vs → {g : ℕ → State → Outcome A}
     → ((w : ℕ) → v.W w → Steady v P (g w)) → Steady v P (λ s. with_one vs s g)
-steady_one v [] p t = steady_strays v
+steady_one v [] p t = steady_lost v
 steady_one v (w ∷ []) p t = t w p.0
-steady_one v (w ∷ x ∷ vs) p t = steady_strays v
+steady_one v (w ∷ x ∷ vs) p t = steady_lost v
 
 -- ---- MOVE
 

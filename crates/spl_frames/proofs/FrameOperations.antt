@@ -20,7 +20,7 @@ use Rattle.spl_meaning.specs.Kinds.{Operand, of, const, unknown, Class, integers
 use Rattle.spl_meaning.specs.States.{trapped, done}
 use Rattle.spl_meaning.specs.Operations.{word_done, double_done, quotient_done, relation_done, on_integers, on_logicals, on_doubles, by_class, bit_of, on_bits, bits_done, joined, minus_done, not_done, signed_done, shift_numbered, shift_done, field_done, double_words, related, with_single, extended, transferred, kept, passed, result_value}
 use Rattle.spl_frames.specs.Words.{AllOf}
-use Rattle.spl_frames.proofs.Steady.{Knowledge, Steady, steady_give, steady_word_of, steady_ends, steady_strays, steady_if, all_double}
+use Rattle.spl_frames.proofs.Steady.{Knowledge, Steady, steady_give, steady_word_of, steady_ends, steady_lost, steady_if, all_double}
 
 -- ---- results are below 65,536, and doubles below 4,294,967,296
 
@@ -146,24 +146,24 @@ steady_doubles v op x y =
     (steady_double_done v (double_subtracted x y) (double_difference_below x y)))
 
 steady_by_class : (v : Knowledge) (c : Class) (op : ℕ) (xs ys : List ℕ) → AllOf v.W xs → Steady v (AllOf v.W) (by_class c op xs ys)
-steady_by_class v integers op [] ys p = steady_strays v
-steady_by_class v integers op (x ∷ []) [] p = steady_strays v
+steady_by_class v integers op [] ys p = steady_lost v
+steady_by_class v integers op (x ∷ []) [] p = steady_lost v
 steady_by_class v integers op (x ∷ []) (y ∷ []) p = steady_integers v op x y
-steady_by_class v integers op (x ∷ []) (y ∷ z ∷ ys) p = steady_strays v
-steady_by_class v integers op (x ∷ w ∷ xs) ys p = steady_strays v
-steady_by_class v logicals op [] ys p = steady_strays v
-steady_by_class v logicals op (x ∷ []) [] p = steady_strays v
+steady_by_class v integers op (x ∷ []) (y ∷ z ∷ ys) p = steady_lost v
+steady_by_class v integers op (x ∷ w ∷ xs) ys p = steady_lost v
+steady_by_class v logicals op [] ys p = steady_lost v
+steady_by_class v logicals op (x ∷ []) [] p = steady_lost v
 steady_by_class v logicals op (x ∷ []) (y ∷ []) p = steady_logicals v op x y p.0
-steady_by_class v logicals op (x ∷ []) (y ∷ z ∷ ys) p = steady_strays v
-steady_by_class v logicals op (x ∷ w ∷ xs) ys p = steady_strays v
-steady_by_class v doubles op [] ys p = steady_strays v
-steady_by_class v doubles op (h ∷ []) ys p = steady_strays v
-steady_by_class v doubles op (h ∷ l ∷ []) [] p = steady_strays v
-steady_by_class v doubles op (h ∷ l ∷ []) (k ∷ []) p = steady_strays v
+steady_by_class v logicals op (x ∷ []) (y ∷ z ∷ ys) p = steady_lost v
+steady_by_class v logicals op (x ∷ w ∷ xs) ys p = steady_lost v
+steady_by_class v doubles op [] ys p = steady_lost v
+steady_by_class v doubles op (h ∷ []) ys p = steady_lost v
+steady_by_class v doubles op (h ∷ l ∷ []) [] p = steady_lost v
+steady_by_class v doubles op (h ∷ l ∷ []) (k ∷ []) p = steady_lost v
 steady_by_class v doubles op (h ∷ l ∷ []) (k ∷ m ∷ []) p = steady_doubles v op (double h l) (double k m)
-steady_by_class v doubles op (h ∷ l ∷ []) (k ∷ m ∷ z ∷ ys) p = steady_strays v
-steady_by_class v doubles op (h ∷ l ∷ w ∷ xs) ys p = steady_strays v
-steady_by_class v mixed op xs ys p = steady_strays v
+steady_by_class v doubles op (h ∷ l ∷ []) (k ∷ m ∷ z ∷ ys) p = steady_lost v
+steady_by_class v doubles op (h ∷ l ∷ w ∷ xs) ys p = steady_lost v
+steady_by_class v mixed op xs ys p = steady_lost v
 
 -- a bit of two bits is one
 bit_of_below : (op b a : ℕ) → b ≤ 1 → a ≤ 1 → bit_of op b a ≤ 1
@@ -184,60 +184,60 @@ bits_below : (op b a : ℕ) → on_bits op b a < 65536
 bits_below op b a = number_of-below 16 (λ i. bit_of op (bit i b) (bit i a)) (λ i. bit_of_below op (bit i b) (bit i a) (bit-small i b) (bit-small i a))
 
 steady_bits : (v : Knowledge) (op : ℕ) (xs ys : List ℕ) → Steady v (AllOf v.W) (bits_done op xs ys)
-steady_bits v op [] ys = steady_strays v
-steady_bits v op (x ∷ []) [] = steady_strays v
+steady_bits v op [] ys = steady_lost v
+steady_bits v op (x ∷ []) [] = steady_lost v
 steady_bits v op (x ∷ []) (y ∷ []) = steady_word_of v (on_bits op x y) (bits_below op x y)
-steady_bits v op (x ∷ []) (y ∷ z ∷ ys) = steady_strays v
-steady_bits v op (x ∷ w ∷ xs) ys = steady_strays v
+steady_bits v op (x ∷ []) (y ∷ z ∷ ys) = steady_lost v
+steady_bits v op (x ∷ w ∷ xs) ys = steady_lost v
 
 pub steady_joined : (v : Knowledge) (op : ℕ) (l r : Operand) (xs ys : List ℕ) → AllOf v.W xs → Steady v (AllOf v.W) (joined op l r xs ys)
 steady_joined v op l r xs ys p = steady_if (works_on_bits op) (steady_bits v op xs ys) (steady_by_class v (class_of l r) op xs ys p)
 
 steady_minus : (v : Knowledge) (k : Operand) (vs : List ℕ) → Steady v (AllOf v.W) (minus_done k vs)
-steady_minus v (of kind.Integer) [] = steady_strays v
+steady_minus v (of kind.Integer) [] = steady_lost v
 steady_minus v (of kind.Integer) (a ∷ []) = steady_word_done v (negated a) (negated_below a)
-steady_minus v (of kind.Integer) (a ∷ c ∷ vs) = steady_strays v
-steady_minus v const [] = steady_strays v
+steady_minus v (of kind.Integer) (a ∷ c ∷ vs) = steady_lost v
+steady_minus v const [] = steady_lost v
 steady_minus v const (a ∷ []) = steady_word_done v (negated a) (negated_below a)
-steady_minus v const (a ∷ c ∷ vs) = steady_strays v
-steady_minus v (of kind.Logical) [] = steady_strays v
+steady_minus v const (a ∷ c ∷ vs) = steady_lost v
+steady_minus v (of kind.Logical) [] = steady_lost v
 steady_minus v (of kind.Logical) (a ∷ []) = steady_word_of v (logically_subtracted 0 a).value (logical_difference_below 0 a)
-steady_minus v (of kind.Logical) (a ∷ c ∷ vs) = steady_strays v
-steady_minus v (of kind.Byte) [] = steady_strays v
+steady_minus v (of kind.Logical) (a ∷ c ∷ vs) = steady_lost v
+steady_minus v (of kind.Byte) [] = steady_lost v
 steady_minus v (of kind.Byte) (a ∷ []) = steady_word_of v (logically_subtracted 0 a).value (logical_difference_below 0 a)
-steady_minus v (of kind.Byte) (a ∷ c ∷ vs) = steady_strays v
-steady_minus v (of kind.Double) [] = steady_strays v
-steady_minus v (of kind.Double) (h ∷ []) = steady_strays v
+steady_minus v (of kind.Byte) (a ∷ c ∷ vs) = steady_lost v
+steady_minus v (of kind.Double) [] = steady_lost v
+steady_minus v (of kind.Double) (h ∷ []) = steady_lost v
 steady_minus v (of kind.Double) (h ∷ l ∷ []) = steady_double_done v (double_negated (double h l)) (double_negated_below (double h l))
-steady_minus v (of kind.Double) (h ∷ l ∷ c ∷ vs) = steady_strays v
-steady_minus v unknown vs = steady_strays v
+steady_minus v (of kind.Double) (h ∷ l ∷ c ∷ vs) = steady_lost v
+steady_minus v unknown vs = steady_lost v
 
 steady_not : (v : Knowledge) (vs : List ℕ) → Steady v (AllOf v.W) (not_done vs)
-steady_not v [] = steady_strays v
+steady_not v [] = steady_lost v
 steady_not v (a ∷ []) = steady_word_of v (65535 - a) (omega arith)
-steady_not v (a ∷ c ∷ vs) = steady_strays v
+steady_not v (a ∷ c ∷ vs) = steady_lost v
 
 pub steady_signed : (v : Knowledge) (op : ℕ) (k : Operand) (vs : List ℕ) → AllOf v.W vs → Steady v (AllOf v.W) (signed_done op k vs)
 steady_signed v op k vs p = steady_if (op == positive) (steady_give v vs p) (steady_if (op == negative) (steady_minus v k vs) (steady_not v vs))
 
 pub steady_shift : (v : Knowledge) (op count : ℕ) (vs : List ℕ) → Steady v (AllOf v.W) (shift_done op count vs)
-steady_shift v op count [] = steady_strays v
+steady_shift v op count [] = steady_lost v
 steady_shift v op count (w ∷ []) = steady_word_of v (shifted (shift_numbered op) w count) (shifted-below (shift_numbered op) w count)
-steady_shift v op count (w ∷ x ∷ vs) = steady_strays v
+steady_shift v op count (w ∷ x ∷ vs) = steady_lost v
 
 pub steady_field : (v : Knowledge) (start size : ℕ) (vs : List ℕ) → Steady v (AllOf v.W) (field_done start size vs)
-steady_field v start size [] = steady_strays v
+steady_field v start size [] = steady_lost v
 steady_field v start size (w ∷ []) = steady_word_of v (field w start size % 65536) (omega arith)
-steady_field v start size (w ∷ x ∷ vs) = steady_strays v
+steady_field v start size (w ∷ x ∷ vs) = steady_lost v
 
 -- ---- transfers, and what is kept and passed
 
 steady_single : (v : Knowledge) (vs : List ℕ) (f : ℕ → ℕ) → ((w : ℕ) → v.W w → v.W (f w)) → AllOf v.W vs
     → Steady v (AllOf v.W) (λ s. with_single vs s (λ w. done (f w ∷ []) s))
-steady_single v [] f h p = steady_strays v
+steady_single v [] f h p = steady_lost v
 steady_single v (w ∷ []) f h p = steady_give v (f w ∷ []) (h w p.0, tt)
 steady_single v (x ∷ w ∷ []) f h p = steady_give v (f w ∷ []) (h w p.1.0, tt)
-steady_single v (x ∷ w ∷ y ∷ vs) f h p = steady_strays v
+steady_single v (x ∷ w ∷ y ∷ vs) f h p = steady_lost v
 
 sign_known : (v : Knowledge) (w : ℕ) → v.W w → AllOf v.W ((if nat_lt w 32768 then 0 else 65535) ∷ w ∷ [])
 sign_known v w p = (by (nat_lt w 32768), (p, tt))
@@ -250,23 +250,23 @@ zero_known : (v : Knowledge) (w : ℕ) → v.W w → AllOf v.W (0 ∷ w ∷ [])
 zero_known v w p = (v.small 0 (omega arith), (p, tt))
 
 steady_extended : (v : Knowledge) (k : Operand) (vs : List ℕ) → AllOf v.W vs → Steady v (AllOf v.W) (extended k vs)
-steady_extended v (of kind.Integer) [] p = steady_strays v
+steady_extended v (of kind.Integer) [] p = steady_lost v
 steady_extended v (of kind.Integer) (w ∷ []) p = steady_give v ((if nat_lt w 32768 then 0 else 65535) ∷ w ∷ []) (sign_known v w p.0)
-steady_extended v (of kind.Integer) (w ∷ x ∷ vs) p = steady_strays v
-steady_extended v const [] p = steady_strays v
+steady_extended v (of kind.Integer) (w ∷ x ∷ vs) p = steady_lost v
+steady_extended v const [] p = steady_lost v
 steady_extended v const (w ∷ []) p = steady_give v ((if nat_lt w 32768 then 0 else 65535) ∷ w ∷ []) (sign_known v w p.0)
-steady_extended v const (w ∷ x ∷ vs) p = steady_strays v
-steady_extended v (of kind.Double) [] p = steady_strays v
-steady_extended v (of kind.Double) (h ∷ []) p = steady_strays v
+steady_extended v const (w ∷ x ∷ vs) p = steady_lost v
+steady_extended v (of kind.Double) [] p = steady_lost v
+steady_extended v (of kind.Double) (h ∷ []) p = steady_lost v
 steady_extended v (of kind.Double) (h ∷ l ∷ []) p = steady_give v (h ∷ l ∷ []) p
-steady_extended v (of kind.Double) (h ∷ l ∷ w ∷ vs) p = steady_strays v
-steady_extended v (of kind.Logical) [] p = steady_strays v
+steady_extended v (of kind.Double) (h ∷ l ∷ w ∷ vs) p = steady_lost v
+steady_extended v (of kind.Logical) [] p = steady_lost v
 steady_extended v (of kind.Logical) (w ∷ []) p = steady_give v (0 ∷ w ∷ []) (zero_known v w p.0)
-steady_extended v (of kind.Logical) (w ∷ x ∷ vs) p = steady_strays v
-steady_extended v (of kind.Byte) [] p = steady_strays v
+steady_extended v (of kind.Logical) (w ∷ x ∷ vs) p = steady_lost v
+steady_extended v (of kind.Byte) [] p = steady_lost v
 steady_extended v (of kind.Byte) (w ∷ []) p = steady_give v (0 ∷ w ∷ []) (zero_known v w p.0)
-steady_extended v (of kind.Byte) (w ∷ x ∷ vs) p = steady_strays v
-steady_extended v unknown vs p = steady_strays v
+steady_extended v (of kind.Byte) (w ∷ x ∷ vs) p = steady_lost v
+steady_extended v unknown vs p = steady_lost v
 
 pub steady_transferred : (v : Knowledge) (k : Kind) (from : Operand) (vs : List ℕ) → AllOf v.W vs → Steady v (AllOf v.W) (transferred k from vs)
 steady_transferred v kind.Integer from vs p = steady_single v vs (λ w. w) (λ w q. q) p
@@ -275,20 +275,20 @@ steady_transferred v kind.Byte from vs p = steady_single v vs (λ w. w % 256) (�
 steady_transferred v kind.Double from vs p = steady_extended v from vs p
 
 pub steady_passed_value : (v : Knowledge) (k : Option Kind) (vs : List ℕ) → AllOf v.W vs → Steady v (AllOf v.W) (passed k vs)
-steady_passed_value v None vs p = steady_strays v
-steady_passed_value v (Some kind.Integer) [] p = steady_strays v
+steady_passed_value v None vs p = steady_lost v
+steady_passed_value v (Some kind.Integer) [] p = steady_lost v
 steady_passed_value v (Some kind.Integer) (w ∷ []) p = steady_give v (w ∷ []) p
-steady_passed_value v (Some kind.Integer) (w ∷ x ∷ vs) p = steady_strays v
-steady_passed_value v (Some kind.Logical) [] p = steady_strays v
+steady_passed_value v (Some kind.Integer) (w ∷ x ∷ vs) p = steady_lost v
+steady_passed_value v (Some kind.Logical) [] p = steady_lost v
 steady_passed_value v (Some kind.Logical) (w ∷ []) p = steady_give v (w ∷ []) p
-steady_passed_value v (Some kind.Logical) (w ∷ x ∷ vs) p = steady_strays v
-steady_passed_value v (Some kind.Byte) [] p = steady_strays v
+steady_passed_value v (Some kind.Logical) (w ∷ x ∷ vs) p = steady_lost v
+steady_passed_value v (Some kind.Byte) [] p = steady_lost v
 steady_passed_value v (Some kind.Byte) (w ∷ []) p = steady_word_of v (256 * (w % 256)) (omega arith)
-steady_passed_value v (Some kind.Byte) (w ∷ x ∷ vs) p = steady_strays v
-steady_passed_value v (Some kind.Double) [] p = steady_strays v
-steady_passed_value v (Some kind.Double) (h ∷ []) p = steady_strays v
+steady_passed_value v (Some kind.Byte) (w ∷ x ∷ vs) p = steady_lost v
+steady_passed_value v (Some kind.Double) [] p = steady_lost v
+steady_passed_value v (Some kind.Double) (h ∷ []) p = steady_lost v
 steady_passed_value v (Some kind.Double) (h ∷ l ∷ []) p = steady_give v (h ∷ l ∷ []) p
-steady_passed_value v (Some kind.Double) (h ∷ l ∷ w ∷ vs) p = steady_strays v
+steady_passed_value v (Some kind.Double) (h ∷ l ∷ w ∷ vs) p = steady_lost v
 
 pub kept_known : (v : Knowledge) (k : Kind) (vs : List ℕ) → AllOf v.W vs → AllOf v.W (kept k vs)
 kept_known v kind.Integer vs p = p

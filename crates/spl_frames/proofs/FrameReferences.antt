@@ -14,7 +14,7 @@ use Rattle.spl_meaning.specs.States.{Data, State, trapped, Outcome, done, ends, 
 use Rattle.spl_meaning.specs.References.{Here, Located, address_of, data_word_read, word_at, placed_word, variable_located, element_located, word_read, read_by, read, word_stored, store_by, store, store_field, index_or_zero, own_located, led_located, passed_located, result_located, Access, its_own, by_address, by_cell, its_result, nowhere, access_of, target_access, locate_by, locate, locate_target}
 use Rattle.spl_frames.specs.Frames as frame
 use Rattle.spl_frames.specs.Words.{AllOf}
-use Rattle.spl_frames.proofs.Steady.{MemOf, Knowledge, Known, Any, Good, Steady, stays_on, steady_give, steady_done, steady_ends, steady_strays, steady_go, steady_if, steady_now, Stays, steady_in}
+use Rattle.spl_frames.proofs.Steady.{MemOf, Knowledge, Known, Any, Good, Steady, stays_on, steady_give, steady_done, steady_ends, steady_strays, steady_lost, steady_go, steady_if, steady_now, Stays, steady_in}
 
 -- ---- words
 
@@ -171,9 +171,9 @@ steady_word_read : (v : Knowledge) (far : Bool) (a : ℕ) → Steady v (AllOf v.
 steady_word_read v far a = steady_go (steady_word v far a) (λ w p. steady_give v (w ∷ []) (p, tt))
 
 steady_word_stored : (v : Knowledge) (far : Bool) (a : ℕ) (vs : List ℕ) → AllOf v.W vs → Steady v Any (word_stored far a vs)
-steady_word_stored v far a [] p = steady_strays v
+steady_word_stored v far a [] p = steady_lost v
 steady_word_stored v far a (w ∷ []) p = steady_replaced v far a (λ _. w) (λ _ _. p.0)
-steady_word_stored v far a (w ∷ x ∷ vs) p = steady_strays v
+steady_word_stored v far a (w ∷ x ∷ vs) p = steady_lost v
 
 -- a byte of a word
 byte_known : (v : Knowledge) (a w : ℕ) → v.W w → v.W (byte_at a w)
@@ -197,13 +197,13 @@ pub steady_read : (v : Knowledge) (p : Located) → Steady v (AllOf v.W) (read p
 steady_read v p = steady_read_by v p.kind p.far p.address
 
 steady_store_by : (v : Knowledge) (k : Kind) (far : Bool) (a : ℕ) (vs : List ℕ) → AllOf v.W vs → Steady v Any (store_by k far a vs)
-steady_store_by v kind.Double far a [] p = steady_strays v
-steady_store_by v kind.Double far a (h ∷ []) p = steady_strays v
+steady_store_by v kind.Double far a [] p = steady_lost v
+steady_store_by v kind.Double far a (h ∷ []) p = steady_lost v
 steady_store_by v kind.Double far a (high ∷ low ∷ []) p = steady_replaced_two v far a ((a + 1) % 65536) high low p.0 p.1.0
-steady_store_by v kind.Double far a (h ∷ l ∷ w ∷ vs) p = steady_strays v
-steady_store_by v kind.Byte far a [] p = steady_strays v
+steady_store_by v kind.Double far a (h ∷ l ∷ w ∷ vs) p = steady_lost v
+steady_store_by v kind.Byte far a [] p = steady_lost v
 steady_store_by v kind.Byte far a (x ∷ []) p = steady_replaced v far (a / 2) (with_byte a (x % 256)) (λ w q. v.byte a x w q)
-steady_store_by v kind.Byte far a (x ∷ w ∷ vs) p = steady_strays v
+steady_store_by v kind.Byte far a (x ∷ w ∷ vs) p = steady_lost v
 steady_store_by v kind.Integer far a vs p = steady_word_stored v far a vs p
 steady_store_by v kind.Logical far a vs p = steady_word_stored v far a vs p
 
@@ -222,42 +222,42 @@ steady_store_one v p x h = by p.kind h
     by kind.Byte h = steady_replaced v p.far (p.address / 2) (with_byte p.address (x % 256)) (λ w q. v.byte p.address x w q)
     by kind.Integer h = steady_store_by v kind.Integer p.far p.address (x ∷ []) (h, tt)
     by kind.Logical h = steady_store_by v kind.Logical p.far p.address (x ∷ []) (h, tt)
-    by kind.Double h = steady_strays v
+    by kind.Double h = steady_lost v
 
 pub steady_store_field : (v : Knowledge) (p : Located) (start size : ℕ) (vs : List ℕ) → Steady v Any (store_field p start size vs)
-steady_store_field v p start size [] = steady_strays v
+steady_store_field v p start size [] = steady_lost v
 steady_store_field v p start size (x ∷ []) =
     steady_replaced v p.far p.address (λ w. with_field w start size x) (λ w q. v.small (with_field w start size x) (with_field-below w start size x))
-steady_store_field v p start size (x ∷ w ∷ vs) = steady_strays v
+steady_store_field v p start size (x ∷ w ∷ vs) = steady_lost v
 
 steady_own : (v : Knowledge) (k : Kind) (p : Option Place) (i : Option ℕ) → Steady v Any (own_located k p i)
 steady_own v k (Some p) None =
     steady_now (λ d s. done (variable_located k (address_of p d)) s) (λ d h. steady_done v (variable_located k (address_of p d)))
-steady_own v k (Some p) (Some i) = steady_strays v
-steady_own v k None i = steady_strays v
+steady_own v k (Some p) (Some i) = steady_lost v
+steady_own v k None i = steady_lost v
 
 steady_led : (v : Knowledge) (far : Bool) (k : Kind) (p : Option Place) (i : ℕ) → Steady v Any (led_located far k p i)
 steady_led v far k (Some p) i =
     steady_now (λ d s. then_go (word_at false (address_of p d) s) (λ cell s1. done (element_located far k cell i) s1))
     (λ d h. steady_go (steady_word v false (address_of p d)) (λ cell _. steady_done v (element_located far k cell i)))
-steady_led v far k None i = steady_strays v
+steady_led v far k None i = steady_lost v
 
 steady_passed : (v : Knowledge) (k : Kind) (p : Option Place) (i : Option ℕ) → Steady v Any (passed_located k p i)
 steady_passed v k p None = steady_led v false k p 0
-steady_passed v k p (Some i) = steady_strays v
+steady_passed v k p (Some i) = steady_lost v
 
 steady_result : (v : Knowledge) (r : Option (Kind × Place)) (i : Option ℕ) → Steady v Any (result_located r i)
 steady_result v (Some r) None =
     steady_now (λ d s. done (variable_located r.0 (address_of r.1 d)) s) (λ d h. steady_done v (variable_located r.0 (address_of r.1 d)))
-steady_result v (Some r) (Some i) = steady_strays v
-steady_result v None i = steady_strays v
+steady_result v (Some r) (Some i) = steady_lost v
+steady_result v None i = steady_lost v
 
 steady_locate_by : (v : Knowledge) (h : Here) (x : List ℕ) (o : Access) (i : Option ℕ) → Steady v Any (locate_by h x o i)
 steady_locate_by v h x (its_own k) i = steady_own v k (h.places x) i
 steady_locate_by v h x (by_address k) i = steady_passed v k (h.places x) i
 steady_locate_by v h x (by_cell p k) i = steady_led v (p && h.setting.split) k (h.places x) (index_or_zero i)
 steady_locate_by v h x its_result i = steady_result v (h.results x) i
-steady_locate_by v h x nowhere i = steady_strays v
+steady_locate_by v h x nowhere i = steady_lost v
 
 pub steady_locate : (v : Knowledge) (h : Here) (x : List ℕ) (i : Option ℕ) → Steady v Any (locate h x i)
 steady_locate v h x i = steady_locate_by v h x (access_of (h.names x)) i

@@ -22,7 +22,7 @@ use Rattle.spl_meaning.specs.States.{Data, State, trapped, to_label, back, Outco
 use Rattle.spl_meaning.specs.Runs.{link_of, locals_of, parameters_put, procedure_framed, cells_set, subroutine_framed, framed, put_words, cut_at, zeroed, words_at, result_at, left_to, called_back, run_statement, enter_procedure, enter_subroutine, call_procedure, call_subroutine, calls}
 use Rattle.spl_frames.specs.Frames as frame
 use Rattle.spl_frames.specs.Words.{AllOf}
-use Rattle.spl_frames.proofs.Steady.{MemOf, Knowledge, Known, Any, Good, Steady, steady_strays, steady_spent, same_data, stays_on, all_append}
+use Rattle.spl_frames.proofs.Steady.{MemOf, Knowledge, Known, Any, Good, Steady, steady_lost, steady_spent, same_data, stays_on, all_append}
 use Rattle.spl_frames.proofs.FrameReferences.{put_there, mem_put, stored_there, mem_stored}
 use Rattle.spl_frames.proofs.FrameOperations.{result_known}
 use Rattle.spl_frames.proofs.FrameElements.{word_known}
@@ -393,12 +393,12 @@ steady_enter_subroutine v d c t b ws k p = record { is = λ s h. entered s h }
 steady_call_procedure : (v : Knowledge) (d : ℕ) (o : Option Body) (c : Body → Callee) → ((b : Body) → SteadyCalls v (c b)) → (ws : List ℕ) (k : ℕ)
     → AllOf v.W ws → Steady v (AllOf v.W) (call_procedure o c d ws k)
 steady_call_procedure v d (Some b) c t ws k p = steady_enter v d (c b) (t b) b ws k p
-steady_call_procedure v d None c t ws k p = steady_strays v
+steady_call_procedure v d None c t ws k p = steady_lost v
 
 steady_call_subroutine : (v : Knowledge) (d : ℕ) (o : Option Subroutine) (b : Body) (c : Callee) → SteadyCalls v c → (ws : List ℕ) (k : ℕ)
     → AllOf v.W ws → Steady v (AllOf v.W) (call_subroutine o b c d ws k)
 steady_call_subroutine v d (Some x) b c t ws k p = steady_enter_subroutine v d c t (subroutine_body b x) ws k p
-steady_call_subroutine v d None b c t ws k p = steady_strays v
+steady_call_subroutine v d None b c t ws k p = steady_lost v
 
 pub steady_calls : (v : Knowledge) (procedures : List Named) (d : ℕ) (b : Body) → SteadyCalls v (calls procedures d b)
 steady_calls v procedures zero b who ws k p = steady_spent v

@@ -19,7 +19,7 @@ use Rattle.spl_meaning.specs.Elements.{distance}
 use Rattle.spl_meaning.specs.Values.{Callee, Sense, a_constant, an_intrinsic, a_call, a_variable, sense_of, small_constant, value}
 use Rattle.spl_meaning.specs.Statements.{target_index, reference_name, cell_stored, assigned, is_intrinsic, is_intrinsic_alone, target_keeps_code, intrinsic_value, alone_value, assign, value_dropped, call_statement, moved_far, effect_done, looping, repeating, condition, goes_on, raised, counting, loop_step, for_loop, bears, bears_among, landing, code_tested, deciding, run, run_all, run_from, run_at, run_bearer, run_arm, run_body}
 use Rattle.spl_frames.specs.Words.{AllOf}
-use Rattle.spl_frames.proofs.Steady.{Knowledge, Any, Good, Steady, good_on, steady_done, steady_word_of, steady_strays, steady_spent, steady_left, steady_go, steady_step, steady_if, steady_coded, steady_in, stays_without_code, stays_noted, steady_begin, steady_stop, steady_dropped}
+use Rattle.spl_frames.proofs.Steady.{Knowledge, Any, Good, Steady, good_on, steady_done, steady_word_of, steady_lost, steady_spent, steady_left, steady_go, steady_step, steady_if, steady_coded, steady_in, stays_without_code, stays_noted, steady_begin, steady_stop, steady_dropped}
 use Rattle.spl_frames.proofs.FrameReferences.{near_word, stays_near, mem_put, steady_read, steady_store, steady_store_field, steady_locate, steady_target}
 use Rattle.spl_frames.proofs.FrameOperations.{steady_added, kept_known}
 use Rattle.spl_frames.proofs.FrameElements.{steady_one, steady_moved_by, steady_moved_text, steady_moved_while, steady_scanned, steady_served}
@@ -29,17 +29,17 @@ use Rattle.spl_frames.proofs.FrameValues.{SteadyCalls, steady_value, steady_loca
 
 steady_target_index : (v : Knowledge) (h : Here) (c : Callee) → SteadyCalls v c → (x : Tree) (k : ℕ) → Steady v Any (target_index h c x k)
 steady_target_index v h c t (tree.Tree.named x es at) k = steady_index v h c t es k
-steady_target_index v h c t (tree.Tree.number n) k = steady_strays v
-steady_target_index v h c t (tree.Tree.wide n) k = steady_strays v
-steady_target_index v h c t (tree.Tree.text bytes) k = steady_strays v
-steady_target_index v h c t (tree.Tree.truth b) k = steady_strays v
-steady_target_index v h c t (tree.Tree.address x es at) k = steady_strays v
-steady_target_index v h c t (tree.Tree.unary op x at) k = steady_strays v
-steady_target_index v h c t (tree.Tree.binary op a b at) k = steady_strays v
-steady_target_index v h c t (tree.Tree.shift op x by at) k = steady_strays v
-steady_target_index v h c t (tree.Tree.field x start size at) k = steady_strays v
-steady_target_index v h c t (tree.Tree.transfer to x at) k = steady_strays v
-steady_target_index v h c t (tree.Tree.bytes op a b count at) k = steady_strays v
+steady_target_index v h c t (tree.Tree.number n) k = steady_lost v
+steady_target_index v h c t (tree.Tree.wide n) k = steady_lost v
+steady_target_index v h c t (tree.Tree.text bytes) k = steady_lost v
+steady_target_index v h c t (tree.Tree.truth b) k = steady_lost v
+steady_target_index v h c t (tree.Tree.address x es at) k = steady_lost v
+steady_target_index v h c t (tree.Tree.unary op x at) k = steady_lost v
+steady_target_index v h c t (tree.Tree.binary op a b at) k = steady_lost v
+steady_target_index v h c t (tree.Tree.shift op x by at) k = steady_lost v
+steady_target_index v h c t (tree.Tree.field x start size at) k = steady_lost v
+steady_target_index v h c t (tree.Tree.transfer to x at) k = steady_lost v
+steady_target_index v h c t (tree.Tree.bytes op a b count at) k = steady_lost v
 
 steady_cell : (v : Knowledge) (p : Option Place) (w : ℕ) → v.W w → Steady v Any (cell_stored p w)
 steady_cell v (Some p) w q = record {
@@ -48,7 +48,7 @@ steady_cell v (Some p) w q = record {
     (tt, record { mem = mem_put v (address_of p s.now) w s.now.mem h.mem q; extra = h.extra; lines = h.lines }),
   ));
 }
-steady_cell v None w q = steady_strays v
+steady_cell v None w q = steady_lost v
 
 steady_assigned : (v : Knowledge) (h : Here) (c : Callee) → SteadyCalls v c → (to : Target) (f : ℕ → State → Outcome (List ℕ)) (k : ℕ)
     → ((j : ℕ) → Steady v (AllOf v.W) (f j)) → Steady v Any (assigned h c to f k)
@@ -66,23 +66,23 @@ steady_intrinsic_value : (v : Knowledge) (h : Here) (c : Callee) → SteadyCalls
     → Steady v (AllOf v.W) (intrinsic_value h c o es k)
 steady_intrinsic_value v h c t (an_intrinsic i) es k =
     steady_go (steady_arguments v h c t (intrinsic_profile i).formals es (k + result_words (intrinsic_profile i))) (λ ws p. steady_served v i ws p)
-steady_intrinsic_value v h c t (a_constant z) es k = steady_strays v
-steady_intrinsic_value v h c t (a_call who p) es k = steady_strays v
-steady_intrinsic_value v h c t a_variable es k = steady_strays v
+steady_intrinsic_value v h c t (a_constant z) es k = steady_lost v
+steady_intrinsic_value v h c t (a_call who p) es k = steady_lost v
+steady_intrinsic_value v h c t a_variable es k = steady_lost v
 
 steady_alone_value : (v : Knowledge) (h : Here) (c : Callee) → SteadyCalls v c → (x : Tree) (k : ℕ) → Steady v (AllOf v.W) (alone_value h c x k)
 steady_alone_value v h c t (tree.Tree.named x es at) k = steady_intrinsic_value v h c t (sense_of x (h.names x)) es k
-steady_alone_value v h c t (tree.Tree.number n) k = steady_strays v
-steady_alone_value v h c t (tree.Tree.wide n) k = steady_strays v
-steady_alone_value v h c t (tree.Tree.text bytes) k = steady_strays v
-steady_alone_value v h c t (tree.Tree.truth b) k = steady_strays v
-steady_alone_value v h c t (tree.Tree.address x es at) k = steady_strays v
-steady_alone_value v h c t (tree.Tree.unary op x at) k = steady_strays v
-steady_alone_value v h c t (tree.Tree.binary op a b at) k = steady_strays v
-steady_alone_value v h c t (tree.Tree.shift op x by at) k = steady_strays v
-steady_alone_value v h c t (tree.Tree.field x start size at) k = steady_strays v
-steady_alone_value v h c t (tree.Tree.transfer to x at) k = steady_strays v
-steady_alone_value v h c t (tree.Tree.bytes op a b count at) k = steady_strays v
+steady_alone_value v h c t (tree.Tree.number n) k = steady_lost v
+steady_alone_value v h c t (tree.Tree.wide n) k = steady_lost v
+steady_alone_value v h c t (tree.Tree.text bytes) k = steady_lost v
+steady_alone_value v h c t (tree.Tree.truth b) k = steady_lost v
+steady_alone_value v h c t (tree.Tree.address x es at) k = steady_lost v
+steady_alone_value v h c t (tree.Tree.unary op x at) k = steady_lost v
+steady_alone_value v h c t (tree.Tree.binary op a b at) k = steady_lost v
+steady_alone_value v h c t (tree.Tree.shift op x by at) k = steady_lost v
+steady_alone_value v h c t (tree.Tree.field x start size at) k = steady_lost v
+steady_alone_value v h c t (tree.Tree.transfer to x at) k = steady_lost v
+steady_alone_value v h c t (tree.Tree.bytes op a b count at) k = steady_lost v
 
 steady_assign : (v : Knowledge) (h : Here) (c : Callee) → SteadyCalls v c → (to : Target) (x : Tree) (k : ℕ) → Steady v Any (assign h c to x k)
 steady_assign v h c t to x k =
@@ -194,7 +194,7 @@ steady_leaves v i at x = steady_stop i at (steady_left v x)
 steady_tested : (v : Knowledge) (op : ℕ) (o : Option Code) {g : Bool → State → Outcome (Unit {0})} → ((x : Bool) → Steady v Any (g x))
     → Steady v Any (λ s. code_tested op o s g)
 steady_tested v op (Some c) t = t (related op c)
-steady_tested v op None t = steady_strays v
+steady_tested v op None t = steady_lost v
 
 -- a test of the condition code, by the code that it finds
 abbrev tested : ℕ → ℕ → At → (Bool → State → Outcome (Unit {0})) → Option Code → State → Outcome (Unit {0})
@@ -243,7 +243,7 @@ mutual
 
   steady_run_from : (v : Knowledge) (d i : ℕ) (h : Here) (c : Callee) → SteadyCalls v c → (ss : Statements) (x : List ℕ) (k : ℕ)
       → Steady v Any (run_from h c d i ss x k)
-  steady_run_from v d i h c t stat.Statements.none x k = steady_strays v
+  steady_run_from v d i h c t stat.Statements.none x k = steady_lost v
   steady_run_from v d i h c t (stat.Statements.and st ss) x k =
       steady_if (bears st x) (steady_go (steady_run_at v d i h c t st x k) (λ _ _. steady_run_all v d (i + stops st) h c t ss k)) (steady_run_from v d (i + stops st) h c t ss x k)
 
@@ -251,23 +251,23 @@ mutual
       → Steady v Any (run_at h c d i st x k)
   steady_run_at v d i h c t (stat.Statement.labelled y at st) x k =
       steady_if (same_name x y) (steady_begin ((steady_run v d i h c t st k))) (steady_run_at v d i h c t st x k)
-  steady_run_at v d i h c t stat.Statement.empty x k = steady_strays v
-  steady_run_at v d i h c t (stat.Statement.block ss) x k = steady_strays v
-  steady_run_at v d i h c t (stat.Statement.if_test q then_part else_part at) x k = steady_strays v
-  steady_run_at v d i h c t (stat.Statement.while_true y st at) x k = steady_strays v
-  steady_run_at v d i h c t (stat.Statement.until_true st y at) x k = steady_strays v
-  steady_run_at v d i h c t (stat.Statement.for_values y first step last st at) x k = steady_strays v
-  steady_run_at v d i h c t (stat.Statement.case_of y ss at) x k = steady_strays v
-  steady_run_at v d i h c t (stat.Statement.go_to y at) x k = steady_strays v
-  steady_run_at v d i h c t (stat.Statement.return at) x k = steady_strays v
-  steady_run_at v d i h c t (stat.Statement.assign to y at) x k = steady_strays v
-  steady_run_at v d i h c t (stat.Statement.assign_effect to y at) x k = steady_strays v
-  steady_run_at v d i h c t (stat.Statement.do_effect y at) x k = steady_strays v
-  steady_run_at v d i h c t (stat.Statement.call y es at) x k = steady_strays v
+  steady_run_at v d i h c t stat.Statement.empty x k = steady_lost v
+  steady_run_at v d i h c t (stat.Statement.block ss) x k = steady_lost v
+  steady_run_at v d i h c t (stat.Statement.if_test q then_part else_part at) x k = steady_lost v
+  steady_run_at v d i h c t (stat.Statement.while_true y st at) x k = steady_lost v
+  steady_run_at v d i h c t (stat.Statement.until_true st y at) x k = steady_lost v
+  steady_run_at v d i h c t (stat.Statement.for_values y first step last st at) x k = steady_lost v
+  steady_run_at v d i h c t (stat.Statement.case_of y ss at) x k = steady_lost v
+  steady_run_at v d i h c t (stat.Statement.go_to y at) x k = steady_lost v
+  steady_run_at v d i h c t (stat.Statement.return at) x k = steady_lost v
+  steady_run_at v d i h c t (stat.Statement.assign to y at) x k = steady_lost v
+  steady_run_at v d i h c t (stat.Statement.assign_effect to y at) x k = steady_lost v
+  steady_run_at v d i h c t (stat.Statement.do_effect y at) x k = steady_lost v
+  steady_run_at v d i h c t (stat.Statement.call y es at) x k = steady_lost v
 
   steady_run_bearer : (v : Knowledge) (d i : ℕ) (h : Here) (c : Callee) → SteadyCalls v c → (ss : Statements) (x : List ℕ) (k : ℕ)
       → Steady v Any (run_bearer h c d i ss x k)
-  steady_run_bearer v d i h c t stat.Statements.none x k = steady_strays v
+  steady_run_bearer v d i h c t stat.Statements.none x k = steady_lost v
   steady_run_bearer v d i h c t (stat.Statements.and st ss) x k =
       steady_if (bears st x) (steady_run_at v d i h c t st x k) (steady_run_bearer v d (i + stops st) h c t ss x k)
 

@@ -14,7 +14,7 @@ use Rattle.spl_meaning.specs.Operations.{is_odd}
 use Rattle.spl_meaning.specs.Elements.{with_one}
 use Rattle.spl_meaning.specs.Values.{Who, Callee, Sense, a_constant, an_intrinsic, a_call, a_variable, sense_of, small_constant, text_done, constant_done, as_index, named_value, address_done, connected, text_bytes, argument, value, located, index, arguments}
 use Rattle.spl_frames.specs.Words.{AllOf}
-use Rattle.spl_frames.proofs.Steady.{Knowledge, Any, Steady, steady_give, steady_done, steady_word_of, steady_strays, steady_go, steady_step, steady_if, steady_dropped, all_append}
+use Rattle.spl_frames.proofs.Steady.{Knowledge, Any, Steady, steady_give, steady_done, steady_word_of, steady_lost, steady_go, steady_step, steady_if, steady_dropped, all_append}
 use Rattle.spl_frames.proofs.FrameReferences.{steady_read, steady_locate}
 use Rattle.spl_frames.proofs.FrameOperations.{steady_truth, steady_double, steady_joined, steady_signed, steady_shift, steady_field, steady_transferred, steady_passed_value}
 use Rattle.spl_frames.proofs.FrameElements.{steady_one, steady_compared_by, steady_compared_text, steady_relation_told, steady_served}
@@ -25,7 +25,7 @@ SteadyCalls v c = (who : Who) (ws : List ℕ) (k : ℕ) → AllOf v.W ws → Ste
 
 steady_text : (v : Knowledge) (o : Option ℕ) → Steady v (AllOf v.W) (text_done o)
 steady_text v (Some w) = steady_word_of v (w % 65536) (omega arith)
-steady_text v None = steady_strays v
+steady_text v None = steady_lost v
 
 steady_as_index : (v : Knowledge) (vs : List ℕ) → AllOf v.W vs → Steady v Any (as_index vs)
 steady_as_index v vs p = steady_one v vs p (λ i _. steady_done v (Some i))
@@ -40,7 +40,7 @@ steady_variable v h x t = steady_go t (λ a _. steady_go (steady_locate v h x a)
 
 steady_constant : (v : Knowledge) (o : Option ℤ) → Steady v (AllOf v.W) (constant_done o)
 steady_constant v (Some z) = steady_word_of v (word_of z) (word_of-below z)
-steady_constant v None = steady_strays v
+steady_constant v None = steady_lost v
 
 steady_named : (v : Knowledge) (h : Here) (x : List ℕ) (o : Sense) {i : State → Outcome (Option ℕ)}
     {f : Profile → State → Outcome (List ℕ)} (c : Callee) (k : ℕ) → Steady v Any i → ((p : Profile) → Steady v (AllOf v.W) (f p))
@@ -97,17 +97,17 @@ mutual
 
   pub steady_located : (v : Knowledge) (h : Here) (c : Callee) → SteadyCalls v c → (x : Tree) (k : ℕ) → Steady v Any (located h c x k)
   steady_located v h c t (tree.Tree.named x es at) k = steady_go (steady_index v h c t es k) (λ i _. steady_locate v h x i)
-  steady_located v h c t (tree.Tree.number n) k = steady_strays v
-  steady_located v h c t (tree.Tree.wide n) k = steady_strays v
-  steady_located v h c t (tree.Tree.text bytes) k = steady_strays v
-  steady_located v h c t (tree.Tree.truth b) k = steady_strays v
-  steady_located v h c t (tree.Tree.address x es at) k = steady_strays v
-  steady_located v h c t (tree.Tree.unary op x at) k = steady_strays v
-  steady_located v h c t (tree.Tree.binary op a b at) k = steady_strays v
-  steady_located v h c t (tree.Tree.shift op x by at) k = steady_strays v
-  steady_located v h c t (tree.Tree.field x start size at) k = steady_strays v
-  steady_located v h c t (tree.Tree.transfer to x at) k = steady_strays v
-  steady_located v h c t (tree.Tree.bytes op a b count at) k = steady_strays v
+  steady_located v h c t (tree.Tree.number n) k = steady_lost v
+  steady_located v h c t (tree.Tree.wide n) k = steady_lost v
+  steady_located v h c t (tree.Tree.text bytes) k = steady_lost v
+  steady_located v h c t (tree.Tree.truth b) k = steady_lost v
+  steady_located v h c t (tree.Tree.address x es at) k = steady_lost v
+  steady_located v h c t (tree.Tree.unary op x at) k = steady_lost v
+  steady_located v h c t (tree.Tree.binary op a b at) k = steady_lost v
+  steady_located v h c t (tree.Tree.shift op x by at) k = steady_lost v
+  steady_located v h c t (tree.Tree.field x start size at) k = steady_lost v
+  steady_located v h c t (tree.Tree.transfer to x at) k = steady_lost v
+  steady_located v h c t (tree.Tree.bytes op a b count at) k = steady_lost v
 
   pub steady_index : (v : Knowledge) (h : Here) (c : Callee) → SteadyCalls v c → (es : Trees) (k : ℕ) → Steady v Any (index h c es k)
   steady_index v h c t tree.Trees.none k = steady_done v None
@@ -119,5 +119,5 @@ mutual
   steady_arguments v h c t (f ∷ fs) (tree.Trees.and x es) k =
       steady_go (steady_argument v f (steady_value v h c t x k) (steady_located v h c t x k)) (λ ws p.
       steady_go (steady_arguments v h c t fs es (k + formal_words f)) (λ vs q. steady_give v (ws ++ vs) (all_append v.W ws vs p q)))
-  steady_arguments v h c t [] (tree.Trees.and x es) k = steady_strays v
-  steady_arguments v h c t (f ∷ fs) tree.Trees.none k = steady_strays v
+  steady_arguments v h c t [] (tree.Trees.and x es) k = steady_lost v
+  steady_arguments v h c t (f ∷ fs) tree.Trees.none k = steady_lost v

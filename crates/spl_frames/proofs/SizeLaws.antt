@@ -28,7 +28,7 @@ use Rattle.spl_meaning.specs.Pending.{return_words, by_value, value_words, forma
 use Rattle.spl_meaning.specs.Places.{put}
 use Rattle.spl_meaning.specs.Tables.{Subroutine, subroutine_named}
 use Rattle.spl_meaning.specs.Bodies.{Body, Named, body_named, subroutine_body}
-use Rattle.spl_meaning.specs.States.{Data, State, Outcome, done, leaves, spent, ends, strays, printed_size, then_go, step_of, stepping, code_dropped, trapped}
+use Rattle.spl_meaning.specs.States.{Data, State, Outcome, done, leaves, spent, ends, strays, has_no_meaning, printed_size, then_go, step_of, stepping, code_dropped, trapped}
 use Rattle.spl_meaning.specs.References.{Here, Located, access_of, own_located, passed_located, led_located, index_or_zero, locate_by, locate, read_by, read, word_read, word_at}
 use Rattle.spl_meaning.specs.Operations.{double_words, is_odd, word_done, double_done, quotient_done, relation_done, on_integers, on_logicals, on_doubles, by_class, on_bits, bits_done, joined, minus_done, not_done, signed_done, shift_done, field_done, with_single, extended, transferred, passed, result_value, related}
 use Rattle.spl_meaning.specs.Elements.{with_one, compared_by, compared_text, relation_told}
@@ -59,6 +59,9 @@ gives_done a p = record { is = λ s. p }
 
 gives_strays : {A : Type 0} {P : A → Type 0} → Gives {A = A} P (λ s. strays s)
 gives_strays = record { is = λ s. tt }
+
+gives_lost : {A : Type 0} {P : A → Type 0} → Gives {A = A} P (λ s. has_no_meaning s)
+gives_lost = record { is = λ s. tt }
 
 done_go : {A B : Type 0} (P : A → Type 0) (Q : B → Type 0) (o : Outcome A) (g : A → State → Outcome B) → IsDone P o
     → ((a : A) → P a → Gives Q (g a)) → IsDone Q (then_go o g)
@@ -100,9 +103,9 @@ Two vs = length vs ≡ 2
 -- the word of a value that has one
 with_one_gives : {A : Type 0} {P : A → Type 0} (vs : List ℕ) {g : ℕ → State → Outcome A} → ((w : ℕ) → Gives P (g w))
     → Gives P (λ s. with_one vs s g)
-with_one_gives [] t = gives_strays
+with_one_gives [] t = gives_lost
 with_one_gives (w ∷ []) t = t w
-with_one_gives (w ∷ x ∷ vs) t = gives_strays
+with_one_gives (w ∷ x ∷ vs) t = gives_lost
 
 -- ---- reading
 
@@ -129,8 +132,8 @@ own_leads h x k i P q = by (h.places x) i
   where
     by : (o : Option _) (i : Option ℕ) → Gives P (own_located k o i)
     by (Some p) None = record { is = λ s. q _ }
-    by (Some p) (Some i) = gives_strays
-    by None i = gives_strays
+    by (Some p) (Some i) = gives_lost
+    by None i = gives_lost
 
 led_leads : (h : Here) (x : List ℕ) (far : Bool) (k : Kind) (i : ℕ) (P : Located → Type 0)
     → ((a : ℕ) → P (record { far = far; kind = k; address = a })) → Gives P (led_located far k (h.places x) i)
@@ -138,12 +141,12 @@ led_leads h x far k i P q = by (h.places x)
   where
     by : (o : Option _) → Gives P (led_located far k o i)
     by (Some p) = record { is = λ s. done_go Free P (word_at false _ s) _ (any_done Free (word_at false _ s) (λ a. tt)) (λ cell _. gives_done _ (q _)) }
-    by None = gives_strays
+    by None = gives_lost
 
 passed_leads : (h : Here) (x : List ℕ) (k : Kind) (i : Option ℕ) (P : Located → Type 0)
     → ((a : ℕ) → P (record { far = false; kind = k; address = a })) → Gives P (passed_located k (h.places x) i)
 passed_leads h x k None P q = led_leads h x false k 0 P q
-passed_leads h x k (Some i) P q = gives_strays
+passed_leads h x k (Some i) P q = gives_lost
 
 locate_leads : (h : Here) (x : List ℕ) (o : Option Sort) (i : Option ℕ) → Gives (Leads o) (locate_by h x (access_of o) i)
 locate_leads h x (Some (n.simple k own)) i = own_leads h x k i _ (λ a vs e. e)
@@ -153,13 +156,13 @@ locate_leads h x (Some (n.array k own low high)) i = led_leads h x false k (inde
 locate_leads h x (Some (n.view k own base)) i = led_leads h x false k (index_or_zero i) _ (λ a vs e. e)
 locate_leads h x (Some (n.array_parameter k)) i = led_leads h x false k (index_or_zero i) _ (λ a vs e. e)
 locate_leads h x (Some (n.pointer k own)) i = led_leads h x h.setting.split k (index_or_zero i) _ (λ a vs e. e)
-locate_leads h x (Some (n.equate v)) i = gives_strays
-locate_leads h x (Some n.label) i = gives_strays
-locate_leads h x (Some (n.intrinsic g)) i = gives_strays
-locate_leads h x (Some (n.procedure p)) i = gives_strays
-locate_leads h x (Some (n.subroutine p)) i = gives_strays
-locate_leads h x (Some n.unknown) i = gives_strays
-locate_leads h x None i = gives_strays
+locate_leads h x (Some (n.equate v)) i = gives_lost
+locate_leads h x (Some n.label) i = gives_lost
+locate_leads h x (Some (n.intrinsic g)) i = gives_lost
+locate_leads h x (Some (n.procedure p)) i = gives_lost
+locate_leads h x (Some (n.subroutine p)) i = gives_lost
+locate_leads h x (Some n.unknown) i = gives_lost
+locate_leads h x None i = gives_lost
 
 -- ---- operators
 
@@ -224,31 +227,31 @@ gives_more {P = P} {Q = Q} {f = f} t h = record { is = λ s. by (f s) (t.is s) }
     by (strays s) p = tt
 
 by_class_size : (c : Class) (op : ℕ) (xs ys : List ℕ) → Gives (HasWordsOf (made op c)) (by_class c op xs ys)
-by_class_size integers op [] ys = gives_strays
-by_class_size integers op (x ∷ []) [] = gives_strays
+by_class_size integers op [] ys = gives_lost
+by_class_size integers op (x ∷ []) [] = gives_lost
 by_class_size integers op (x ∷ []) (y ∷ []) = gives_more (integers_size op x y) (λ vs o. one_made op kind.Integer vs refl o)
-by_class_size integers op (x ∷ []) (y ∷ z ∷ ys) = gives_strays
-by_class_size integers op (x ∷ w ∷ xs) ys = gives_strays
-by_class_size logicals op [] ys = gives_strays
-by_class_size logicals op (x ∷ []) [] = gives_strays
+by_class_size integers op (x ∷ []) (y ∷ z ∷ ys) = gives_lost
+by_class_size integers op (x ∷ w ∷ xs) ys = gives_lost
+by_class_size logicals op [] ys = gives_lost
+by_class_size logicals op (x ∷ []) [] = gives_lost
 by_class_size logicals op (x ∷ []) (y ∷ []) = gives_more (logicals_size op x y) (λ vs o. one_made op kind.Logical vs refl o)
-by_class_size logicals op (x ∷ []) (y ∷ z ∷ ys) = gives_strays
-by_class_size logicals op (x ∷ w ∷ xs) ys = gives_strays
-by_class_size doubles op [] ys = gives_strays
-by_class_size doubles op (h ∷ []) ys = gives_strays
-by_class_size doubles op (h ∷ l ∷ []) [] = gives_strays
-by_class_size doubles op (h ∷ l ∷ []) (k ∷ []) = gives_strays
+by_class_size logicals op (x ∷ []) (y ∷ z ∷ ys) = gives_lost
+by_class_size logicals op (x ∷ w ∷ xs) ys = gives_lost
+by_class_size doubles op [] ys = gives_lost
+by_class_size doubles op (h ∷ []) ys = gives_lost
+by_class_size doubles op (h ∷ l ∷ []) [] = gives_lost
+by_class_size doubles op (h ∷ l ∷ []) (k ∷ []) = gives_lost
 by_class_size doubles op (h ∷ l ∷ []) (k ∷ m ∷ []) = doubles_size op (double h l) (double k m)
-by_class_size doubles op (h ∷ l ∷ []) (k ∷ m ∷ z ∷ ys) = gives_strays
-by_class_size doubles op (h ∷ l ∷ w ∷ xs) ys = gives_strays
-by_class_size mixed op xs ys = gives_strays
+by_class_size doubles op (h ∷ l ∷ []) (k ∷ m ∷ z ∷ ys) = gives_lost
+by_class_size doubles op (h ∷ l ∷ w ∷ xs) ys = gives_lost
+by_class_size mixed op xs ys = gives_lost
 
 bits_size : (op : ℕ) (xs ys : List ℕ) → Gives One (bits_done op xs ys)
-bits_size op [] ys = gives_strays
-bits_size op (x ∷ []) [] = gives_strays
+bits_size op [] ys = gives_lost
+bits_size op (x ∷ []) [] = gives_lost
 bits_size op (x ∷ []) (y ∷ []) = gives_done (on_bits op x y ∷ []) refl
-bits_size op (x ∷ []) (y ∷ z ∷ ys) = gives_strays
-bits_size op (x ∷ w ∷ xs) ys = gives_strays
+bits_size op (x ∷ []) (y ∷ z ∷ ys) = gives_lost
+bits_size op (x ∷ w ∷ xs) ys = gives_lost
 
 -- a relation is told by its number, from 5 to 10
 relation_is : (op : ℕ) → nat_lt op 5 ≡ false → nat_lt op 11 ≡ true → is_relation op ≡ true
@@ -277,28 +280,28 @@ joined_size op l r xs ys = by (nat_lt op 5) (nat_lt op 11) refl refl
         (no_relation op f) (by_class_size (class_of l r) op xs ys)
 
 minus_size : (k : Operand) (vs : List ℕ) → Gives (HasWordsOf (minus_operand k)) (minus_done k vs)
-minus_size (of kind.Integer) [] = gives_strays
+minus_size (of kind.Integer) [] = gives_lost
 minus_size (of kind.Integer) (a ∷ []) = word_done_size (negated a)
-minus_size (of kind.Integer) (a ∷ c ∷ vs) = gives_strays
-minus_size const [] = gives_strays
+minus_size (of kind.Integer) (a ∷ c ∷ vs) = gives_lost
+minus_size const [] = gives_lost
 minus_size const (a ∷ []) = word_done_size (negated a)
-minus_size const (a ∷ c ∷ vs) = gives_strays
-minus_size (of kind.Logical) [] = gives_strays
+minus_size const (a ∷ c ∷ vs) = gives_lost
+minus_size (of kind.Logical) [] = gives_lost
 minus_size (of kind.Logical) (a ∷ []) = gives_done _ refl
-minus_size (of kind.Logical) (a ∷ c ∷ vs) = gives_strays
-minus_size (of kind.Byte) [] = gives_strays
+minus_size (of kind.Logical) (a ∷ c ∷ vs) = gives_lost
+minus_size (of kind.Byte) [] = gives_lost
 minus_size (of kind.Byte) (a ∷ []) = gives_done _ refl
-minus_size (of kind.Byte) (a ∷ c ∷ vs) = gives_strays
-minus_size (of kind.Double) [] = gives_strays
-minus_size (of kind.Double) (h ∷ []) = gives_strays
+minus_size (of kind.Byte) (a ∷ c ∷ vs) = gives_lost
+minus_size (of kind.Double) [] = gives_lost
+minus_size (of kind.Double) (h ∷ []) = gives_lost
 minus_size (of kind.Double) (h ∷ l ∷ []) = double_done_size (double_negated (double h l))
-minus_size (of kind.Double) (h ∷ l ∷ c ∷ vs) = gives_strays
-minus_size unknown vs = gives_strays
+minus_size (of kind.Double) (h ∷ l ∷ c ∷ vs) = gives_lost
+minus_size unknown vs = gives_lost
 
 not_size : (vs : List ℕ) → Gives One (not_done vs)
-not_size [] = gives_strays
+not_size [] = gives_lost
 not_size (a ∷ []) = gives_done ((65535 - a) ∷ []) refl
-not_size (a ∷ c ∷ vs) = gives_strays
+not_size (a ∷ c ∷ vs) = gives_lost
 
 signed_size : (op : ℕ) (k : Operand) (vs : List ℕ) → HasWordsOf k vs → Gives (HasWordsOf (unary_operand op k)) (signed_done op k vs)
 signed_size op k vs p = by (op == positive) (op == negative)
@@ -310,39 +313,39 @@ signed_size op k vs p = by (op == positive) (op == negative)
     by false false = not_size vs
 
 shift_size : (op count : ℕ) (vs : List ℕ) → Gives One (shift_done op count vs)
-shift_size op count [] = gives_strays
+shift_size op count [] = gives_lost
 shift_size op count (w ∷ []) = gives_done _ refl
-shift_size op count (w ∷ x ∷ vs) = gives_strays
+shift_size op count (w ∷ x ∷ vs) = gives_lost
 
 field_size : (start size : ℕ) (vs : List ℕ) → Gives One (field_done start size vs)
-field_size start size [] = gives_strays
+field_size start size [] = gives_lost
 field_size start size (w ∷ []) = gives_done _ refl
-field_size start size (w ∷ x ∷ vs) = gives_strays
+field_size start size (w ∷ x ∷ vs) = gives_lost
 
 single_size : (vs : List ℕ) (f : ℕ → ℕ) → Gives One (λ s. with_single vs s (λ w. done (f w ∷ []) s))
-single_size [] f = gives_strays
+single_size [] f = gives_lost
 single_size (w ∷ []) f = gives_done (f w ∷ []) refl
 single_size (x ∷ w ∷ []) f = gives_done (f w ∷ []) refl
-single_size (x ∷ w ∷ y ∷ vs) f = gives_strays
+single_size (x ∷ w ∷ y ∷ vs) f = gives_lost
 
 extended_size : (k : Operand) (vs : List ℕ) → Gives Two (extended k vs)
-extended_size (of kind.Integer) [] = gives_strays
+extended_size (of kind.Integer) [] = gives_lost
 extended_size (of kind.Integer) (w ∷ []) = gives_done _ refl
-extended_size (of kind.Integer) (w ∷ x ∷ vs) = gives_strays
-extended_size const [] = gives_strays
+extended_size (of kind.Integer) (w ∷ x ∷ vs) = gives_lost
+extended_size const [] = gives_lost
 extended_size const (w ∷ []) = gives_done _ refl
-extended_size const (w ∷ x ∷ vs) = gives_strays
-extended_size (of kind.Double) [] = gives_strays
-extended_size (of kind.Double) (h ∷ []) = gives_strays
+extended_size const (w ∷ x ∷ vs) = gives_lost
+extended_size (of kind.Double) [] = gives_lost
+extended_size (of kind.Double) (h ∷ []) = gives_lost
 extended_size (of kind.Double) (h ∷ l ∷ []) = gives_done _ refl
-extended_size (of kind.Double) (h ∷ l ∷ w ∷ vs) = gives_strays
-extended_size (of kind.Logical) [] = gives_strays
+extended_size (of kind.Double) (h ∷ l ∷ w ∷ vs) = gives_lost
+extended_size (of kind.Logical) [] = gives_lost
 extended_size (of kind.Logical) (w ∷ []) = gives_done _ refl
-extended_size (of kind.Logical) (w ∷ x ∷ vs) = gives_strays
-extended_size (of kind.Byte) [] = gives_strays
+extended_size (of kind.Logical) (w ∷ x ∷ vs) = gives_lost
+extended_size (of kind.Byte) [] = gives_lost
 extended_size (of kind.Byte) (w ∷ []) = gives_done _ refl
-extended_size (of kind.Byte) (w ∷ x ∷ vs) = gives_strays
-extended_size unknown vs = gives_strays
+extended_size (of kind.Byte) (w ∷ x ∷ vs) = gives_lost
+extended_size unknown vs = gives_lost
 
 transferred_size : (k : Kind) (from : Operand) (vs : List ℕ) → Gives (λ us. length us ≡ width k) (transferred k from vs)
 transferred_size kind.Integer from vs = single_size vs (λ w. w)
@@ -354,20 +357,20 @@ passed_size : (f : Formal) (vs : List ℕ) → Gives (λ us. length us ≡ value
 passed_size f vs = by f.kind vs
   where
     by : (k : Option Kind) (vs : List ℕ) → Gives (λ us. length us ≡ value_words true k) (passed k vs)
-    by None vs = gives_strays
-    by (Some kind.Integer) [] = gives_strays
+    by None vs = gives_lost
+    by (Some kind.Integer) [] = gives_lost
     by (Some kind.Integer) (w ∷ []) = gives_done _ refl
-    by (Some kind.Integer) (w ∷ x ∷ vs) = gives_strays
-    by (Some kind.Logical) [] = gives_strays
+    by (Some kind.Integer) (w ∷ x ∷ vs) = gives_lost
+    by (Some kind.Logical) [] = gives_lost
     by (Some kind.Logical) (w ∷ []) = gives_done _ refl
-    by (Some kind.Logical) (w ∷ x ∷ vs) = gives_strays
-    by (Some kind.Byte) [] = gives_strays
+    by (Some kind.Logical) (w ∷ x ∷ vs) = gives_lost
+    by (Some kind.Byte) [] = gives_lost
     by (Some kind.Byte) (w ∷ []) = gives_done _ refl
-    by (Some kind.Byte) (w ∷ x ∷ vs) = gives_strays
-    by (Some kind.Double) [] = gives_strays
-    by (Some kind.Double) (h ∷ []) = gives_strays
+    by (Some kind.Byte) (w ∷ x ∷ vs) = gives_lost
+    by (Some kind.Double) [] = gives_lost
+    by (Some kind.Double) (h ∷ []) = gives_lost
     by (Some kind.Double) (h ∷ l ∷ []) = gives_done _ refl
-    by (Some kind.Double) (h ∷ l ∷ w ∷ vs) = gives_strays
+    by (Some kind.Double) (h ∷ l ∷ w ∷ vs) = gives_lost
 
 argument_size : (f : Formal) (e : State → Outcome (List ℕ)) (p : State → Outcome Located)
     → Gives (λ us. length us ≡ formal_words f) (argument f e p)
@@ -467,11 +470,11 @@ result_operand p vs e = by p.result e
 
 text_size : (o : Option ℕ) → Gives One (text_done o)
 text_size (Some w) = gives_done _ refl
-text_size None = gives_strays
+text_size None = gives_lost
 
 constant_size : (o : Option ℤ) → Gives One (constant_done o)
 constant_size (Some z) = gives_done _ refl
-constant_size None = gives_strays
+constant_size None = gives_lost
 
 dropped_size : {P : List ℕ → Type 0} {f : State → Outcome (List ℕ)} → Gives P f → Gives P (λ s. code_dropped (f s))
 dropped_size t = gives_go t (λ vs p. record { is = λ s. p })
@@ -574,8 +577,8 @@ mutual
   arguments_size h c t (f ∷ fs) (tree.Trees.and e es) k =
       gives_go (argument_size f (λ s1. value h c e k s1) (λ s1. located h c e k s1)) (λ ws p. gives_go (arguments_size h c t fs es (k + formal_words f)) (λ vs q.
       gives_done (ws ++ vs) (length-append ws vs ∙ ap (λ m. m + length vs) p ∙ ap (λ m. formal_words f + m) q)))
-  arguments_size h c t [] (tree.Trees.and e es) k = gives_strays
-  arguments_size h c t (f ∷ fs) tree.Trees.none k = gives_strays
+  arguments_size h c t [] (tree.Trees.and e es) k = gives_lost
+  arguments_size h c t (f ∷ fs) tree.Trees.none k = gives_lost
 
 -- ---- calls
 

@@ -7,7 +7,7 @@ use Rattle.spl_meaning.specs.hp_word.declared.arithmetic.Code.{Code}
 use Rattle.spl_meaning.specs.hp_word.declared.intrinsics.Intrinsic.{Intrinsic}
 use Rattle.spl_meaning.specs.spl_tree.declared.names_and_places.At.{At}
 use Rattle.spl_meaning.specs.Serving.{byte_of}
-use Rattle.spl_meaning.specs.States.{Data, State, End, Outcome, done, leaves, spent, ends, strays, then_go, step_of, stepping, without_code, noted, beginning, stopping, code_dropped}
+use Rattle.spl_meaning.specs.States.{Data, State, End, Outcome, done, leaves, spent, ends, strays, has_no_meaning, then_go, step_of, stepping, without_code, noted, beginning, stopping, code_dropped}
 use Rattle.spl_frames.specs.Frames as frame
 use Rattle.spl_frames.specs.Frames.{StaysIn}
 use Rattle.spl_frames.specs.Words.{AllOf}
@@ -115,6 +115,10 @@ steady_ends v e = record { is = λ s h. (tt, h) }
 
 pub steady_strays : {A : Type 0} {P : A → Type 0} (v : Knowledge) → Steady {A = A} v P (λ s. strays s)
 steady_strays v = record { is = λ s h. (tt, h) }
+
+-- what has no meaning
+pub steady_lost : {A : Type 0} {P : A → Type 0} (v : Knowledge) → Steady {A = A} v P (λ s. has_no_meaning s)
+steady_lost v = record { is = λ s h. (tt, h) }
 
 pub steady_spent : {A : Type 0} {P : A → Type 0} (v : Knowledge) → Steady {A = A} v P (λ s. spent s)
 steady_spent v = record { is = λ s h. (tt, h) }

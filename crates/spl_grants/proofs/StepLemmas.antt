@@ -1,5 +1,5 @@
 -- One instruction at an entry: no statement starts there, nothing is printed, and the run stays where it is.
-use Rattle.std.proofs.Common.{◌≡◌, ℕ, ◌+◌, ◌-◌, ◌<◌, ◌≤◌, List, [], ◌∷◌, ◌++◌, length, refl, sym, ap, subst, ◌∙◌, arith}
+use Rattle.std.proofs.Common.{◌≡◌, ℕ, false, ◌+◌, ◌-◌, ◌<◌, ◌≤◌, List, [], ◌∷◌, ◌++◌, length, refl, sym, ap, subst, ◌∙◌, arith}
 use Rattle.std.specs.Prelude.{None, Ok, Err, take, slice_index}
 use Rattle.std.proofs.lemmas.List.{append-nil, length-append}
 use Rattle.std.proofs.Math.Seq.{take-length}
@@ -69,6 +69,7 @@ counted t = record {
   code = None;
   left = t.left;
   begun = t.begun;
+  lost = false;
 }
 
 -- a row that goes on

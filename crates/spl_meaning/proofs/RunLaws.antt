@@ -14,10 +14,10 @@ use Rattle.spl_meaning.specs.Operations.{result_value}
 use Rattle.spl_meaning.specs.Values.{procedure, subroutine, Callee, value}
 use Rattle.spl_meaning.specs.Statements.{run_all, run_body}
 use Rattle.spl_meaning.specs.Bodies.{Body, Named, Program, subroutine_body, program_of, body_named}
-use Rattle.spl_meaning.specs.States.{Data, State, terminated, trapped, to_label, back, Outcome, done, leaves, spent, ends, strays, then_go, stepping, all_printed}
+use Rattle.spl_meaning.specs.States.{Data, State, terminated, trapped, to_label, back, Outcome, done, leaves, spent, ends, strays, has_no_meaning, then_go, stepping, all_printed}
 use Rattle.spl_meaning.specs.Runs.{link_of, locals_of, procedure_framed, cells_set, subroutine_framed, framed, zeroed, returned, words_at, result_at, left_to, called_back, run_statement, enter_procedure, enter_subroutine, call_procedure, call_subroutine, calls, run_main, run_program, Seat, opening, Point, point_of, begun_of, run_of, alone, begins, stands}
 use Rattle.spl_meaning.specs.Laws.{IsFront, more, Onward, Beyond, GoesOnAs, StepsGoOn, BoundsDoNotMatter}
-use Rattle.spl_meaning.proofs.Tame.{Within, AtMost, Grown, Grows, Few, Rests, OneMore, Tame, tame_done, tame_ends, tame_strays, tame_go, tame_step, tame_less, tame_if, tame_now, Keeps, tame_in, tame_nowhere, calm_strays}
+use Rattle.spl_meaning.proofs.Tame.{Within, AtMost, Grown, Grows, Few, Rests, OneMore, Tame, tame_done, tame_ends, tame_lost, tame_go, tame_step, tame_less, tame_if, tame_now, Keeps, tame_in, tame_nowhere, calm_lost, grown_lost, few_lost}
 use Rattle.spl_meaning.proofs.TameReferences.{tame_word}
 use Rattle.spl_meaning.proofs.TameValues.{TameCalls, tame_value}
 use Rattle.spl_meaning.proofs.TameStatements.{tame_run_all, tame_body}
@@ -73,7 +73,7 @@ within_returned n (strays s) w = w
 grows_returned : (s : State) (o : Outcome (Unit {0})) → Grows s o → Grows s (returned o)
 grows_returned s (done a t) g = g
 grows_returned s (leaves back t) g = g
-grows_returned s (leaves (to_label x) t) g = g
+grows_returned s (leaves (to_label x) t) g = grown_lost s t g
 grows_returned s (spent t) g = g
 grows_returned s (ends e t) g = g
 grows_returned s (strays t) g = g
@@ -81,7 +81,7 @@ grows_returned s (strays t) g = g
 rests_returned : (n : ℕ) (s : State) (o : Outcome (Unit {0})) → Rests n s o → Rests n s (returned o)
 rests_returned n s (done a t) r = r
 rests_returned n s (leaves back t) r = r
-rests_returned n s (leaves (to_label x) t) r = r
+rests_returned n s (leaves (to_label x) t) r = few_lost 0 n s t r
 rests_returned n s (spent t) r = r
 rests_returned n s (ends e t) r = r
 rests_returned n s (strays t) r = r
@@ -90,7 +90,7 @@ spent_returned : (s : State) (o : Outcome (Unit {0})) → AtMost 0 o × Grows s 
     → AtMost 0 (returned o) × Grows s (returned o) × Rests 1 s (returned o)
 spent_returned s (done a t) w = w
 spent_returned s (leaves back t) w = w
-spent_returned s (leaves (to_label x) t) w = w
+spent_returned s (leaves (to_label x) t) w = (w.0, grown_lost s t w.1, few_lost 0 1 s t w.2)
 spent_returned s (spent t) w = w
 spent_returned s (ends e t) w = w
 spent_returned s (strays t) w = w
@@ -176,19 +176,19 @@ tame_enter_subroutine d c e t b ws k = tame_now (subroutine_entered c d b ws k) 
 tame_call_procedure : (d : ℕ) (o : Option Body) (c e : Body → Callee) → ((b : Body) → TameCalls d (c b) (e b)) → (ws : List ℕ) (k : ℕ)
     → Tame (suc d) (call_procedure o c d ws k) (call_procedure o e (suc d) ws k)
 tame_call_procedure d (Some b) c e t ws k = tame_enter d (c b) (e b) (t b) b ws k
-tame_call_procedure d None c e t ws k = tame_strays (suc d)
+tame_call_procedure d None c e t ws k = tame_lost (suc d)
 
 tame_call_subroutine : (d : ℕ) (o : Option Subroutine) (b : Body) (c e : Callee) → TameCalls d c e → (ws : List ℕ) (k : ℕ)
     → Tame (suc d) (call_subroutine o b c d ws k) (call_subroutine o b e (suc d) ws k)
 tame_call_subroutine d (Some x) b c e t ws k = tame_enter_subroutine d c e t (subroutine_body b x) ws k
-tame_call_subroutine d None b c e t ws k = tame_strays (suc d)
+tame_call_subroutine d None b c e t ws k = tame_lost (suc d)
 
--- a callee that strays
+-- a callee that is not there
 abbrev astray : Callee
-astray who ws k s = strays s
+astray who ws k s = has_no_meaning s
 
 none_left : (procedures : List Named) (b : Body) → TameCalls 0 (calls procedures 0 b) astray
-none_left procedures b who ws k = tame_nowhere (calm_strays 1)
+none_left procedures b who ws k = tame_nowhere (calm_lost 1)
 
 tame_calls : (procedures : List Named) (d : ℕ) (b : Body) → TameCalls d (calls procedures d b) (calls procedures (suc d) b)
 tame_calls procedures zero b (procedure x) ws k =
@@ -216,7 +216,7 @@ tame_main procedures d b =
 
 tame_program : (p : Program) (o : Option Body) (d : ℕ) → Tame (suc d) (run_program p o d) (run_program p o (suc d))
 tame_program p (Some b) d = tame_main p.procedures d b
-tame_program p None d = tame_strays (suc d)
+tame_program p None d = tame_lost (suc d)
 
 -- one step more
 next : (us : List Source) (seat : Seat) (n : ℕ) → OneMore (run_of us seat n) (run_of us seat (suc n))

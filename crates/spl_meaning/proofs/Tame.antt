@@ -5,7 +5,7 @@ use Rattle.hp_word.specs.declared.arithmetic.Code.{Code}
 use Rattle.std.proofs.lemmas.List.{append-nil, append_assoc, length-append}
 use Rattle.spl_tree.specs.declared.names_and_places.At.{At}
 use Rattle.spl_meaning.specs.Laws.{more}
-use Rattle.spl_meaning.specs.States.{Data, State, Begun, End, Outcome, done, leaves, spent, ends, strays, then_go, step_of, stepping, without_code, noted, beginning, stopping, code_dropped}
+use Rattle.spl_meaning.specs.States.{Data, State, Begun, End, Outcome, done, leaves, spent, ends, strays, has_no_meaning, then_go, step_of, stepping, without_code, noted, beginning, stopping, code_dropped}
 
 -- at most so many steps are left; who leaves has taken one
 abbrev pub Within : {A : Type 0} → ℕ → Outcome A → Type 0
@@ -145,6 +145,19 @@ calm_strays b = record { within = λ s l. omega arith; grows = λ s l. grown_sam
 
 pub tame_strays : {A : Type 0} (b : ℕ) → Tame {A = A} b (λ s. strays s) (λ s. strays s)
 tame_strays b = record { first = calm_strays b; second = calm_strays (suc b); shifts = λ s l. refl; alike = λ s l. refl }
+
+-- what has no meaning: a state that is lost has printed and begun what it had
+pub grown_lost : (s t : State) → Grown s t → Grown s (record t { lost = true })
+grown_lost s t g = record { prints = g.prints; printed = g.printed; log = g.log; begun = g.begun }
+
+pub few_lost : (p n : ℕ) (s t : State) → Few p n s t → Few p n s (record t { lost = true })
+few_lost p n s t f = record { prints = f.prints; log = f.log }
+
+pub calm_lost : {A : Type 0} (b : ℕ) → Calm {A = A} b (λ s. has_no_meaning s)
+calm_lost b = record { within = λ s l. omega arith; grows = λ s l. grown_lost s s (grown_same s); rests = λ s e l. few_lost 0 0 s s (few_same 0 0 s) }
+
+pub tame_lost : {A : Type 0} (b : ℕ) → Tame {A = A} b (λ s. has_no_meaning s) (λ s. has_no_meaning s)
+tame_lost b = record { first = calm_lost b; second = calm_lost (suc b); shifts = λ s l. refl; alike = λ s l. refl }
 
 -- ---- one part after another
 

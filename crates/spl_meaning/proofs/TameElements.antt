@@ -16,15 +16,15 @@ use Rattle.spl_meaning.specs.References.{Located}
 use Rattle.spl_meaning.specs.Operations.{related}
 use Rattle.spl_meaning.specs.Elements.{next_located, neighbour, count_size, is_upward, with_one, moved, moved_by, moved_list, moved_text, text_elements, is_of_class, of_class, moved_while, is_passed, scanned, told_apart, compared, compared_by, compared_text, relation_told}
 use Rattle.spl_meaning.specs.Serving.{with_print, touched, all_below, all_data, carried_out, answered, effected, served, byte_of}
-use Rattle.spl_meaning.proofs.Tame.{Grown, Calm, Tame, calm_go, calm_step, calm_done, calm_strays, calm_if, calm_nowhere, tame_nowhere, tame_done, tame_ends, tame_strays, tame_go, tame_step, tame_less, tame_if, tame_now, Few, Adds, tame_in_step}
+use Rattle.spl_meaning.proofs.Tame.{Grown, Calm, Tame, calm_go, calm_step, calm_done, calm_lost, calm_if, calm_nowhere, tame_nowhere, tame_done, tame_ends, tame_strays, tame_lost, tame_go, tame_step, tame_less, tame_if, tame_now, Few, Adds, tame_in_step}
 use Rattle.spl_meaning.proofs.TameReferences.{tame_read, tame_store}
 
 -- the one word of a value
 pub tame_one : {A : Type 0} (b : ℕ) (vs : List ℕ) {g h : ℕ → State → Outcome A} → ((w : ℕ) → Tame b (g w) (h w))
     → Tame b (λ s. with_one vs s g) (λ s. with_one vs s h)
-tame_one b [] t = tame_strays b
+tame_one b [] t = tame_lost b
 tame_one b (w ∷ []) t = t w
-tame_one b (w ∷ v ∷ vs) t = tame_strays b
+tame_one b (w ∷ v ∷ vs) t = tame_lost b
 
 -- ---- MOVE
 
@@ -45,9 +45,9 @@ pub tame_moved_text : (b : ℕ) (bytes : List ℕ) (to : Located) → Tame b (mo
 tame_moved_text b bytes to = tame_moved_list b (text_elements to.kind bytes) to
 
 pub calm_one : {A : Type 0} (b : ℕ) (vs : List ℕ) {g : ℕ → State → Outcome A} → ((w : ℕ) → Calm b (g w)) → Calm b (λ s. with_one vs s g)
-calm_one b [] t = calm_strays b
+calm_one b [] t = calm_lost b
 calm_one b (w ∷ []) t = t w
-calm_one b (w ∷ v ∷ vs) t = calm_strays b
+calm_one b (w ∷ v ∷ vs) t = calm_lost b
 
 -- A loop has more turns than steps are left, so it never lacks one.
 pub tame_moved_while : (b c : ℕ) (to from : Located) → Tame b (moved_while b c to from) (moved_while (suc b) c to from)

@@ -21,7 +21,7 @@ use Rattle.spl_meaning.specs.Operations.{is_odd, kept, related}
 use Rattle.spl_meaning.specs.Elements.{distance}
 use Rattle.spl_meaning.specs.Values.{Callee, Sense, a_constant, an_intrinsic, a_call, a_variable, sense_of, small_constant, value}
 use Rattle.spl_meaning.specs.Statements.{target_index, reference_name, cell_stored, assigned, is_intrinsic, is_intrinsic_alone, target_keeps_code, intrinsic_value, alone_value, assign, value_dropped, call_statement, moved_far, effect_done, looping, repeating, condition, goes_on, raised, counting, loop_step, for_loop, bears, bears_among, landing, code_tested, deciding, run, run_all, run_from, run_at, run_bearer, run_arm, run_body}
-use Rattle.spl_meaning.proofs.Tame.{Within, AtMost, most_of, Grown, Grows, Few, Rests, few_same, rests_on, OneMore, Calm, Tame, within_on, grows_on, calm_go, calm_step, calm_less, calm_done, calm_if, calm_nowhere, grown_same, tame_nowhere, tame_done, tame_strays, tame_go, tame_step, tame_less, tame_if, tame_now, tame_in, tame_coded, keeps_without_code, few_noted, tame_begin, tame_noted, tame_stop, tame_dropped}
+use Rattle.spl_meaning.proofs.Tame.{Within, AtMost, most_of, Grown, Grows, Few, Rests, few_same, rests_on, OneMore, Calm, Tame, within_on, grows_on, calm_go, calm_step, calm_less, calm_done, calm_if, calm_nowhere, grown_same, tame_nowhere, tame_done, tame_lost, tame_go, tame_step, tame_less, tame_if, tame_now, tame_in, tame_coded, keeps_without_code, few_noted, tame_begin, tame_noted, tame_stop, tame_dropped}
 use Rattle.spl_meaning.proofs.TameReferences.{tame_word, tame_placed, tame_read, tame_store, tame_store_field, tame_locate, tame_target, tame_word_done}
 use Rattle.spl_meaning.proofs.TameElements.{tame_one, calm_one, tame_moved_by, tame_moved_text, tame_moved_while, tame_scanned, tame_served}
 use Rattle.spl_meaning.proofs.TameValues.{TameCalls, tame_value, tame_located, tame_index, tame_arguments}
@@ -31,17 +31,17 @@ use Rattle.spl_meaning.proofs.TameValues.{TameCalls, tame_value, tame_located, t
 tame_target_index : (d : ℕ) (h : Here) (c e : Callee) → TameCalls d c e → (x : Tree) (k : ℕ)
     → Tame (suc d) (target_index h c x k) (target_index h e x k)
 tame_target_index d h c e t (tree.Tree.named x es at) k = tame_index d h c e t es k
-tame_target_index d h c e t (tree.Tree.number v) k = tame_strays (suc d)
-tame_target_index d h c e t (tree.Tree.wide v) k = tame_strays (suc d)
-tame_target_index d h c e t (tree.Tree.text bytes) k = tame_strays (suc d)
-tame_target_index d h c e t (tree.Tree.truth b) k = tame_strays (suc d)
-tame_target_index d h c e t (tree.Tree.address x es at) k = tame_strays (suc d)
-tame_target_index d h c e t (tree.Tree.unary op x at) k = tame_strays (suc d)
-tame_target_index d h c e t (tree.Tree.binary op a b at) k = tame_strays (suc d)
-tame_target_index d h c e t (tree.Tree.shift op x by at) k = tame_strays (suc d)
-tame_target_index d h c e t (tree.Tree.field x start size at) k = tame_strays (suc d)
-tame_target_index d h c e t (tree.Tree.transfer to x at) k = tame_strays (suc d)
-tame_target_index d h c e t (tree.Tree.bytes op a b count at) k = tame_strays (suc d)
+tame_target_index d h c e t (tree.Tree.number v) k = tame_lost (suc d)
+tame_target_index d h c e t (tree.Tree.wide v) k = tame_lost (suc d)
+tame_target_index d h c e t (tree.Tree.text bytes) k = tame_lost (suc d)
+tame_target_index d h c e t (tree.Tree.truth b) k = tame_lost (suc d)
+tame_target_index d h c e t (tree.Tree.address x es at) k = tame_lost (suc d)
+tame_target_index d h c e t (tree.Tree.unary op x at) k = tame_lost (suc d)
+tame_target_index d h c e t (tree.Tree.binary op a b at) k = tame_lost (suc d)
+tame_target_index d h c e t (tree.Tree.shift op x by at) k = tame_lost (suc d)
+tame_target_index d h c e t (tree.Tree.field x start size at) k = tame_lost (suc d)
+tame_target_index d h c e t (tree.Tree.transfer to x at) k = tame_lost (suc d)
+tame_target_index d h c e t (tree.Tree.bytes op a b count at) k = tame_lost (suc d)
 
 tame_cell : (b : ℕ) (p : Option Place) (v : ℕ) → Tame b (cell_stored p v) (cell_stored p v)
 tame_cell b (Some p) v = tame_now (by p v) (by p v) (λ d. tame_go (tame_word b false (address_of p d)) (λ _. behind b p v))
@@ -54,7 +54,7 @@ tame_cell b (Some p) v = tame_now (by p v) (by p v) (λ d. tame_go (tame_word b 
     behind b p v =
         tame_now (λ d s1. done tt (placed_word false (address_of p d) v s1)) (λ d s1. done tt (placed_word false (address_of p d) v s1))
         (λ d. tame_placed b false (address_of p d) v)
-tame_cell b None v = tame_strays b
+tame_cell b None v = tame_lost b
 
 tame_assigned : (d : ℕ) (h : Here) (c e : Callee) → TameCalls d c e → (to : Target) (f g : ℕ → State → Outcome (List ℕ)) (k : ℕ)
     → ((j : ℕ) → Tame (suc d) (f j) (g j)) → Tame (suc d) (assigned h c to f k) (assigned h e to g k)
@@ -71,24 +71,24 @@ tame_intrinsic_value : (d : ℕ) (h : Here) (c e : Callee) → TameCalls d c e �
     → Tame (suc d) (intrinsic_value h c o es k) (intrinsic_value h e o es k)
 tame_intrinsic_value d h c e t (an_intrinsic i) es k =
     tame_go (tame_arguments d h c e t (intrinsic_profile i).formals es (k + result_words (intrinsic_profile i))) (λ ws. tame_served (suc d) i ws)
-tame_intrinsic_value d h c e t (a_constant v) es k = tame_strays (suc d)
-tame_intrinsic_value d h c e t (a_call who p) es k = tame_strays (suc d)
-tame_intrinsic_value d h c e t a_variable es k = tame_strays (suc d)
+tame_intrinsic_value d h c e t (a_constant v) es k = tame_lost (suc d)
+tame_intrinsic_value d h c e t (a_call who p) es k = tame_lost (suc d)
+tame_intrinsic_value d h c e t a_variable es k = tame_lost (suc d)
 
 tame_alone_value : (d : ℕ) (h : Here) (c e : Callee) → TameCalls d c e → (x : Tree) (k : ℕ)
     → Tame (suc d) (alone_value h c x k) (alone_value h e x k)
 tame_alone_value d h c e t (tree.Tree.named x es at) k = tame_intrinsic_value d h c e t (sense_of x (h.names x)) es k
-tame_alone_value d h c e t (tree.Tree.number v) k = tame_strays (suc d)
-tame_alone_value d h c e t (tree.Tree.wide v) k = tame_strays (suc d)
-tame_alone_value d h c e t (tree.Tree.text bytes) k = tame_strays (suc d)
-tame_alone_value d h c e t (tree.Tree.truth b) k = tame_strays (suc d)
-tame_alone_value d h c e t (tree.Tree.address x es at) k = tame_strays (suc d)
-tame_alone_value d h c e t (tree.Tree.unary op x at) k = tame_strays (suc d)
-tame_alone_value d h c e t (tree.Tree.binary op a b at) k = tame_strays (suc d)
-tame_alone_value d h c e t (tree.Tree.shift op x by at) k = tame_strays (suc d)
-tame_alone_value d h c e t (tree.Tree.field x start size at) k = tame_strays (suc d)
-tame_alone_value d h c e t (tree.Tree.transfer to x at) k = tame_strays (suc d)
-tame_alone_value d h c e t (tree.Tree.bytes op a b count at) k = tame_strays (suc d)
+tame_alone_value d h c e t (tree.Tree.number v) k = tame_lost (suc d)
+tame_alone_value d h c e t (tree.Tree.wide v) k = tame_lost (suc d)
+tame_alone_value d h c e t (tree.Tree.text bytes) k = tame_lost (suc d)
+tame_alone_value d h c e t (tree.Tree.truth b) k = tame_lost (suc d)
+tame_alone_value d h c e t (tree.Tree.address x es at) k = tame_lost (suc d)
+tame_alone_value d h c e t (tree.Tree.unary op x at) k = tame_lost (suc d)
+tame_alone_value d h c e t (tree.Tree.binary op a b at) k = tame_lost (suc d)
+tame_alone_value d h c e t (tree.Tree.shift op x by at) k = tame_lost (suc d)
+tame_alone_value d h c e t (tree.Tree.field x start size at) k = tame_lost (suc d)
+tame_alone_value d h c e t (tree.Tree.transfer to x at) k = tame_lost (suc d)
+tame_alone_value d h c e t (tree.Tree.bytes op a b count at) k = tame_lost (suc d)
 
 tame_assign : (d : ℕ) (h : Here) (c e : Callee) → TameCalls d c e → (to : Target) (x : Tree) (k : ℕ)
     → Tame (suc d) (assign h c to x k) (assign h e to x k)
@@ -367,7 +367,7 @@ tame_leaves d i at x = record {
 tame_tested : (b op : ℕ) (o : Option Code) {g h : Bool → State → Outcome (Unit {0})} → ((x : Bool) → Tame b (g x) (h x))
     → Tame b (λ s. code_tested op o s g) (λ s. code_tested op o s h)
 tame_tested b op (Some c) t = t (related op c)
-tame_tested b op None t = tame_strays b
+tame_tested b op None t = tame_lost b
 
 -- a test of the condition code, by the code that it finds
 abbrev tested : ℕ → (Bool → State → Outcome (Unit {0})) → Option Code → State → Outcome (Unit {0})
@@ -419,7 +419,7 @@ mutual
 
   tame_run_from : (d i : ℕ) (h : Here) (c e : Callee) → TameCalls d c e → (ss : Statements) (x : List ℕ) (k : ℕ)
       → Tame (suc d) (run_from h c d i ss x k) (run_from h e (suc d) i ss x k)
-  tame_run_from d i h c e t stat.Statements.none x k = tame_strays (suc d)
+  tame_run_from d i h c e t stat.Statements.none x k = tame_lost (suc d)
   tame_run_from d i h c e t (stat.Statements.and st ss) x k =
       tame_if (bears st x) (tame_go (tame_run_at d i h c e t st x k) (λ _. tame_run_all d (i + stops st) h c e t ss k)) (tame_run_from d (i + stops st) h c e t ss x k)
 
@@ -427,23 +427,23 @@ mutual
       → Tame (suc d) (run_at h c d i st x k) (run_at h e (suc d) i st x k)
   tame_run_at d i h c e t (stat.Statement.labelled y at st) x k =
       tame_if (same_name x y) (tame_begin (tame_less (tame_run d i h c e t st k))) (tame_run_at d i h c e t st x k)
-  tame_run_at d i h c e t stat.Statement.empty x k = tame_strays (suc d)
-  tame_run_at d i h c e t (stat.Statement.block ss) x k = tame_strays (suc d)
-  tame_run_at d i h c e t (stat.Statement.if_test q then_part else_part at) x k = tame_strays (suc d)
-  tame_run_at d i h c e t (stat.Statement.while_true y st at) x k = tame_strays (suc d)
-  tame_run_at d i h c e t (stat.Statement.until_true st y at) x k = tame_strays (suc d)
-  tame_run_at d i h c e t (stat.Statement.for_values y first step last st at) x k = tame_strays (suc d)
-  tame_run_at d i h c e t (stat.Statement.case_of y ss at) x k = tame_strays (suc d)
-  tame_run_at d i h c e t (stat.Statement.go_to y at) x k = tame_strays (suc d)
-  tame_run_at d i h c e t (stat.Statement.return at) x k = tame_strays (suc d)
-  tame_run_at d i h c e t (stat.Statement.assign to y at) x k = tame_strays (suc d)
-  tame_run_at d i h c e t (stat.Statement.assign_effect to y at) x k = tame_strays (suc d)
-  tame_run_at d i h c e t (stat.Statement.do_effect y at) x k = tame_strays (suc d)
-  tame_run_at d i h c e t (stat.Statement.call y es at) x k = tame_strays (suc d)
+  tame_run_at d i h c e t stat.Statement.empty x k = tame_lost (suc d)
+  tame_run_at d i h c e t (stat.Statement.block ss) x k = tame_lost (suc d)
+  tame_run_at d i h c e t (stat.Statement.if_test q then_part else_part at) x k = tame_lost (suc d)
+  tame_run_at d i h c e t (stat.Statement.while_true y st at) x k = tame_lost (suc d)
+  tame_run_at d i h c e t (stat.Statement.until_true st y at) x k = tame_lost (suc d)
+  tame_run_at d i h c e t (stat.Statement.for_values y first step last st at) x k = tame_lost (suc d)
+  tame_run_at d i h c e t (stat.Statement.case_of y ss at) x k = tame_lost (suc d)
+  tame_run_at d i h c e t (stat.Statement.go_to y at) x k = tame_lost (suc d)
+  tame_run_at d i h c e t (stat.Statement.return at) x k = tame_lost (suc d)
+  tame_run_at d i h c e t (stat.Statement.assign to y at) x k = tame_lost (suc d)
+  tame_run_at d i h c e t (stat.Statement.assign_effect to y at) x k = tame_lost (suc d)
+  tame_run_at d i h c e t (stat.Statement.do_effect y at) x k = tame_lost (suc d)
+  tame_run_at d i h c e t (stat.Statement.call y es at) x k = tame_lost (suc d)
 
   tame_run_bearer : (d i : ℕ) (h : Here) (c e : Callee) → TameCalls d c e → (ss : Statements) (x : List ℕ) (k : ℕ)
       → Tame (suc d) (run_bearer h c d i ss x k) (run_bearer h e (suc d) i ss x k)
-  tame_run_bearer d i h c e t stat.Statements.none x k = tame_strays (suc d)
+  tame_run_bearer d i h c e t stat.Statements.none x k = tame_lost (suc d)
   tame_run_bearer d i h c e t (stat.Statements.and st ss) x k =
       tame_if (bears st x) (tame_run_at d i h c e t st x k) (tame_run_bearer d (i + stops st) h c e t ss x k)
 

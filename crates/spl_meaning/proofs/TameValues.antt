@@ -12,7 +12,7 @@ use Rattle.spl_meaning.specs.References.{Here, Located, read, locate}
 use Rattle.spl_meaning.specs.Operations.{double_words, is_odd}
 use Rattle.spl_meaning.specs.Elements.{with_one}
 use Rattle.spl_meaning.specs.Values.{Who, Callee, Sense, a_constant, an_intrinsic, a_call, a_variable, sense_of, small_constant, text_done, constant_done, as_index, named_value, address_done, connected, text_bytes, argument, value, located, index, arguments}
-use Rattle.spl_meaning.proofs.Tame.{Tame, tame_done, tame_strays, tame_go, tame_step, tame_less, tame_if, tame_dropped}
+use Rattle.spl_meaning.proofs.Tame.{Tame, tame_done, tame_lost, tame_go, tame_step, tame_less, tame_if, tame_dropped}
 use Rattle.spl_meaning.proofs.TameReferences.{tame_read, tame_locate, tame_joined, tame_signed, tame_shift, tame_field, tame_transferred, tame_passed_value}
 use Rattle.spl_meaning.proofs.TameElements.{tame_one, tame_compared_by, tame_compared_text, tame_relation_told, tame_served}
 
@@ -22,7 +22,7 @@ TameCalls d c e = (who : Who) (ws : List ℕ) (k : ℕ) → Tame d (c who ws k) 
 
 tame_text : (b : ℕ) (o : Option ℕ) → Tame b (text_done o) (text_done o)
 tame_text b (Some w) = tame_done b (w % 65536 ∷ [])
-tame_text b None = tame_strays b
+tame_text b None = tame_lost b
 
 tame_as_index : (b : ℕ) (vs : List ℕ) → Tame b (as_index vs) (as_index vs)
 tame_as_index b vs = tame_one b vs (λ i. tame_done b (Some i))
@@ -38,7 +38,7 @@ tame_variable b h x t = tame_go t (λ a. tame_go (tame_locate b h x a) (λ p. ta
 
 tame_constant : (b : ℕ) (o : Option ℤ) → Tame b (constant_done o) (constant_done o)
 tame_constant b (Some v) = tame_done b (word_of v ∷ [])
-tame_constant b None = tame_strays b
+tame_constant b None = tame_lost b
 
 tame_named : (d : ℕ) (h : Here) (x : List ℕ) (o : Sense) {i j : State → Outcome (Option ℕ)}
     {f g : Profile → State → Outcome (List ℕ)} (c e : Callee) (k : ℕ) → Tame (suc d) i j → ((p : Profile) → Tame (suc d) (f p) (g p))
@@ -93,17 +93,17 @@ mutual
 
   pub tame_located : (d : ℕ) (h : Here) (c e : Callee) → TameCalls d c e → (x : Tree) (k : ℕ) → Tame (suc d) (located h c x k) (located h e x k)
   tame_located d h c e t (tree.Tree.named x es at) k = tame_go (tame_index d h c e t es k) (λ i. tame_locate (suc d) h x i)
-  tame_located d h c e t (tree.Tree.number v) k = tame_strays (suc d)
-  tame_located d h c e t (tree.Tree.wide v) k = tame_strays (suc d)
-  tame_located d h c e t (tree.Tree.text bytes) k = tame_strays (suc d)
-  tame_located d h c e t (tree.Tree.truth b) k = tame_strays (suc d)
-  tame_located d h c e t (tree.Tree.address x es at) k = tame_strays (suc d)
-  tame_located d h c e t (tree.Tree.unary op x at) k = tame_strays (suc d)
-  tame_located d h c e t (tree.Tree.binary op a b at) k = tame_strays (suc d)
-  tame_located d h c e t (tree.Tree.shift op x by at) k = tame_strays (suc d)
-  tame_located d h c e t (tree.Tree.field x start size at) k = tame_strays (suc d)
-  tame_located d h c e t (tree.Tree.transfer to x at) k = tame_strays (suc d)
-  tame_located d h c e t (tree.Tree.bytes op a b count at) k = tame_strays (suc d)
+  tame_located d h c e t (tree.Tree.number v) k = tame_lost (suc d)
+  tame_located d h c e t (tree.Tree.wide v) k = tame_lost (suc d)
+  tame_located d h c e t (tree.Tree.text bytes) k = tame_lost (suc d)
+  tame_located d h c e t (tree.Tree.truth b) k = tame_lost (suc d)
+  tame_located d h c e t (tree.Tree.address x es at) k = tame_lost (suc d)
+  tame_located d h c e t (tree.Tree.unary op x at) k = tame_lost (suc d)
+  tame_located d h c e t (tree.Tree.binary op a b at) k = tame_lost (suc d)
+  tame_located d h c e t (tree.Tree.shift op x by at) k = tame_lost (suc d)
+  tame_located d h c e t (tree.Tree.field x start size at) k = tame_lost (suc d)
+  tame_located d h c e t (tree.Tree.transfer to x at) k = tame_lost (suc d)
+  tame_located d h c e t (tree.Tree.bytes op a b count at) k = tame_lost (suc d)
 
   pub tame_index : (d : ℕ) (h : Here) (c e : Callee) → TameCalls d c e → (es : Trees) (k : ℕ) → Tame (suc d) (index h c es k) (index h e es k)
   tame_index d h c e t tree.Trees.none k = tame_done (suc d) None
@@ -115,5 +115,5 @@ mutual
   tame_arguments d h c e t (f ∷ fs) (tree.Trees.and x es) k =
       tame_go (tame_argument (suc d) f (tame_value d h c e t x k) (tame_located d h c e t x k)) (λ ws.
       tame_go (tame_arguments d h c e t fs es (k + formal_words f)) (λ vs. tame_done (suc d) (ws ++ vs)))
-  tame_arguments d h c e t [] (tree.Trees.and x es) k = tame_strays (suc d)
-  tame_arguments d h c e t (f ∷ fs) tree.Trees.none k = tame_strays (suc d)
+  tame_arguments d h c e t [] (tree.Trees.and x es) k = tame_lost (suc d)
+  tame_arguments d h c e t (f ∷ fs) tree.Trees.none k = tame_lost (suc d)

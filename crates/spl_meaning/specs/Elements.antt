@@ -9,7 +9,7 @@ use Rattle.spl_tree.specs.declared.expressions.Kind.TheVariants as kind
 use Rattle.spl_meaning.specs.Names.{truth_word}
 use Rattle.spl_meaning.specs.References.{Located, read, store}
 use Rattle.spl_meaning.specs.Operations.{related}
-use Rattle.spl_meaning.specs.States.{State, Outcome, done, spent, strays, then_go, stepping}
+use Rattle.spl_meaning.specs.States.{State, Outcome, done, spent, has_no_meaning, then_go, stepping}
 
 -- ---- neighbours
 
@@ -39,7 +39,7 @@ is_upward (negsuc n) = false
 -- the one word of a value
 abbrev pub with_one : {A : Type 0} → List ℕ → State → (ℕ → State → Outcome A) → Outcome A
 with_one (w ∷ []) s go = go w s
-with_one vs s go = strays s
+with_one vs s go = has_no_meaning s
 
 -- how far an end address lies from the first, modulo 65,536
 abbrev pub distance : Located → ℕ → ℕ

@@ -15,7 +15,7 @@ use Rattle.spl_tree.specs.declared.expressions.Kind.{Kind}
 use Rattle.spl_tree.specs.declared.expressions.Kind.TheVariants as kind
 use Rattle.spl_meaning.specs.Names.{truth_word}
 use Rattle.spl_meaning.specs.Kinds.{Operand, of, const, Class, integers, logicals, doubles, class_of, is_relation, relation_number, works_on_bits, lor_operator, xor_operator, plus, minus, times, modulo, positive, negative}
-use Rattle.spl_meaning.specs.States.{State, trapped, Outcome, done, ends, strays}
+use Rattle.spl_meaning.specs.States.{State, trapped, Outcome, done, ends, has_no_meaning}
 
 -- a double as two words
 abbrev pub double_words : ℕ → List ℕ
@@ -98,7 +98,7 @@ abbrev pub by_class : Class → ℕ → List ℕ → List ℕ → State → Outc
 by_class integers op (b ∷ []) (a ∷ []) s = on_integers op b a s
 by_class logicals op (b ∷ []) (a ∷ []) s = on_logicals op b a s
 by_class doubles op (h ∷ l ∷ []) (k ∷ m ∷ []) s = on_doubles op (double h l) (double k m) s
-by_class _ op bs as' s = strays s
+by_class _ op bs as' s = has_no_meaning s
 
 -- ---- bits
 
@@ -116,7 +116,7 @@ on_bits op b a = number_of 16 (λ i. bit_of op (bit i b) (bit i a))
 -- two single words
 abbrev pub bits_done : ℕ → List ℕ → List ℕ → State → Outcome (List ℕ)
 bits_done op (b ∷ []) (a ∷ []) s = done (on_bits op b a ∷ []) s
-bits_done op bs as' s = strays s
+bits_done op bs as' s = has_no_meaning s
 
 -- two operands of an operator but AND and OR, with the operation that their kinds take
 abbrev pub joined : ℕ → Operand → Operand → List ℕ → List ℕ → State → Outcome (List ℕ)
@@ -131,12 +131,12 @@ minus_done const (a ∷ []) s = word_done (negated a) s
 minus_done (of kind.Logical) (a ∷ []) s = done ((logically_subtracted 0 a).value ∷ []) s
 minus_done (of kind.Byte) (a ∷ []) s = done ((logically_subtracted 0 a).value ∷ []) s
 minus_done (of kind.Double) (h ∷ l ∷ []) s = double_done (double_negated (double h l)) s
-minus_done _ vs s = strays s
+minus_done _ vs s = has_no_meaning s
 
 -- NOT: each bit turned
 abbrev pub not_done : List ℕ → State → Outcome (List ℕ)
 not_done (a ∷ []) s = done ((65535 - a) ∷ []) s
-not_done vs s = strays s
+not_done vs s = has_no_meaning s
 
 -- + - NOT, by their numbers
 abbrev pub signed_done : ℕ → Operand → List ℕ → State → Outcome (List ℕ)
@@ -151,12 +151,12 @@ shift_numbered op =
 -- a shift of a single word
 abbrev pub shift_done : ℕ → ℕ → List ℕ → State → Outcome (List ℕ)
 shift_done op count (w ∷ []) s = done (shifted (shift_numbered op) w count ∷ []) s
-shift_done op count vs s = strays s
+shift_done op count vs s = has_no_meaning s
 
 -- a bit field of a single word
 abbrev pub field_done : ℕ → ℕ → List ℕ → State → Outcome (List ℕ)
 field_done start size (w ∷ []) s = done (field w start size % 65536 ∷ []) s
-field_done start size vs s = strays s
+field_done start size vs s = has_no_meaning s
 
 -- ---- transfers
 
@@ -169,7 +169,7 @@ right_byte vs = vs
 abbrev pub with_single : List ℕ → State → (ℕ → Outcome (List ℕ)) → Outcome (List ℕ)
 with_single (w ∷ []) s go = go w
 with_single (h ∷ l ∷ []) s go = go l
-with_single vs s go = strays s
+with_single vs s go = has_no_meaning s
 
 -- a word as a double: INTEGER and constants by their sign, LOGICAL and BYTE by zero; a DOUBLE is one
 abbrev pub extended : Operand → List ℕ → State → Outcome (List ℕ)
@@ -178,7 +178,7 @@ extended const (w ∷ []) s = done ((if nat_lt w 32768 then 0 else 65535) ∷ w 
 extended (of kind.Double) (h ∷ l ∷ []) s = done (h ∷ l ∷ []) s
 extended (of kind.Logical) (w ∷ []) s = done (0 ∷ w ∷ []) s
 extended (of kind.Byte) (w ∷ []) s = done (0 ∷ w ∷ []) s
-extended _ vs s = strays s
+extended _ vs s = has_no_meaning s
 
 -- a value of some kind taken as one of another
 abbrev pub transferred : Kind → Operand → List ℕ → State → Outcome (List ℕ)
@@ -198,7 +198,7 @@ passed (Some kind.Integer) (w ∷ []) s = done (w ∷ []) s
 passed (Some kind.Logical) (w ∷ []) s = done (w ∷ []) s
 passed (Some kind.Byte) (w ∷ []) s = done (256 * (w % 256) ∷ []) s
 passed (Some kind.Double) (h ∷ l ∷ []) s = done (h ∷ l ∷ []) s
-passed _ vs s = strays s
+passed _ vs s = has_no_meaning s
 
 -- the value of a result whose words these are
 abbrev pub left_half : List ℕ → List ℕ

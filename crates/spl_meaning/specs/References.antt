@@ -8,7 +8,7 @@ use Rattle.spl_tree.specs.declared.expressions.Kind.TheVariants as kind
 use Rattle.spl_meaning.specs.Names as n
 use Rattle.spl_meaning.specs.Names.{Names, Sort}
 use Rattle.spl_meaning.specs.Places.{Place, data_word, above_base, below_base, below_return, put}
-use Rattle.spl_meaning.specs.States.{Data, State, trapped, Outcome, done, ends, strays, then_go}
+use Rattle.spl_meaning.specs.States.{Data, State, trapped, Outcome, done, ends, strays, has_no_meaning, then_go}
 
 -- Where the statements of a body stand: in a split procedure or not; inside a subroutine or not; how many words stand below the base in the
 -- live frame (three of the marker, parameters and result); and of a subroutine, how many stand below its return word (its parameters and
@@ -95,16 +95,16 @@ read p s = read_by p.kind p.far p.address s
 -- a value of one word is stored at an address, where a data word stands
 abbrev pub word_stored : Bool → ℕ → List ℕ → State → Outcome (Unit {0})
 word_stored far a (v ∷ []) s = then_go (word_at far a s) (λ _ s1. done tt (placed_word far a v s1))
-word_stored far a vs s = strays s
+word_stored far a vs s = has_no_meaning s
 
 -- A value is stored at a location: a BYTE's word is read first, and its other half stays.
 abbrev pub store_by : Kind → Bool → ℕ → List ℕ → State → Outcome (Unit {0})
 store_by kind.Double far a (high ∷ low ∷ []) s =
     then_go (word_at far a s) (λ _ s1. then_go (word_at far ((a + 1) % 65536) s1) (λ _ s2.
     done tt (placed_word far ((a + 1) % 65536) low (placed_word far a high s2))))
-store_by kind.Double far a vs s = strays s
+store_by kind.Double far a vs s = has_no_meaning s
 store_by kind.Byte far a (v ∷ []) s = then_go (word_at far (a / 2) s) (λ w s1. done tt (placed_word far (a / 2) (with_byte a (v % 256) w) s1))
-store_by kind.Byte far a vs s = strays s
+store_by kind.Byte far a vs s = has_no_meaning s
 store_by kind.Integer far a vs s = word_stored far a vs s
 store_by kind.Logical far a vs s = word_stored far a vs s
 
@@ -116,7 +116,7 @@ store p vs s = store_by p.kind p.far p.address vs s
 abbrev pub store_field : Located → ℕ → ℕ → List ℕ → State → Outcome (Unit {0})
 store_field p start size (v ∷ []) s =
     then_go (word_at p.far p.address s) (λ w s1. done tt (placed_word p.far p.address (with_field w start size v) s1))
-store_field p start size vs s = strays s
+store_field p start size vs s = has_no_meaning s
 
 -- ---- names
 
@@ -128,22 +128,22 @@ index_or_zero (Some i) = i
 -- the location of a variable with words of its own, which has no index
 abbrev pub own_located : Kind → Option Place → Option ℕ → State → Outcome Located
 own_located k (Some p) None s = done (variable_located k (address_of p s.now)) s
-own_located k _ _ s = strays s
+own_located k _ _ s = has_no_meaning s
 
 -- the location to which the word at a place leads
 abbrev pub led_located : Bool → Kind → Option Place → ℕ → State → Outcome Located
 led_located far k (Some p) i s = then_go (word_at false (address_of p s.now) s) (λ cell s1. done (element_located far k cell i) s1)
-led_located far k None i s = strays s
+led_located far k None i s = has_no_meaning s
 
 -- a parameter by reference, which has no index: its word is the address of what it stands for
 abbrev pub passed_located : Kind → Option Place → Option ℕ → State → Outcome Located
 passed_located k p None s = led_located false k p 0 s
-passed_located k p (Some i) s = strays s
+passed_located k p (Some i) s = has_no_meaning s
 
 -- the result of the body that has this name
 abbrev pub result_located : Option (Kind × Place) → Option ℕ → State → Outcome Located
 result_located (Some r) None s = done (variable_located r.0 (address_of r.1 s.now)) s
-result_located _ _ s = strays s
+result_located _ _ s = has_no_meaning s
 
 -- How a name leads to a word: it has words of its own; its word is an address that was passed for it; its cell leads to elements, of a
 -- pointer or not; it is a result that is assigned; or it leads nowhere.
@@ -177,7 +177,7 @@ locate_by h x (its_own k) i s = own_located k (h.places x) i s
 locate_by h x (by_address k) i s = passed_located k (h.places x) i s
 locate_by h x (by_cell is_pointer k) i s = led_located (is_pointer && h.setting.split) k (h.places x) (index_or_zero i) s
 locate_by h x its_result i s = result_located (h.results x) i s
-locate_by h x nowhere i s = strays s
+locate_by h x nowhere i s = has_no_meaning s
 
 -- the location of a name with an index
 abbrev pub locate : Here → List ℕ → Option ℕ → State → Outcome Located

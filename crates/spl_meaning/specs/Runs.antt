@@ -1,5 +1,5 @@
 -- Calls, the main body, and the run of a program alone.
-use Rattle.std.specs.Prelude.{ℕ, zero, suc, ◌<◌, ◌+◌, ◌-◌, false, if◌then◌else◌, nat_lt, replicate, List, [], ◌∷◌, ◌++◌, Option, Some, None}
+use Rattle.std.specs.Prelude.{ℕ, zero, suc, ◌<◌, ◌+◌, ◌-◌, Bool, false, if◌then◌else◌, nat_lt, replicate, List, [], ◌∷◌, ◌++◌, Option, Some, None}
 use Rattle.hp_word.specs.declared.endings.Ending.{Ending}
 use Rattle.hp_word.specs.declared.endings.Ending.TheVariants as ending
 use Rattle.hp_word.specs.declared.endings.Trap.TheVariants.{StackOverflow}
@@ -14,7 +14,7 @@ use Rattle.spl_meaning.specs.Operations.{result_value}
 use Rattle.spl_meaning.specs.Values.{procedure, subroutine, Callee}
 use Rattle.spl_meaning.specs.Statements.{run_all, run_body}
 use Rattle.spl_meaning.specs.Bodies.{Body, Named, Program, subroutine_body, program_of, body_named}
-use Rattle.spl_meaning.specs.States.{Data, State, Begun, End, terminated, quit, trapped, to_label, back, Outcome, done, leaves, spent, ends, strays, then_go, stepping, all_printed}
+use Rattle.spl_meaning.specs.States.{Data, State, Begun, End, terminated, quit, trapped, to_label, back, Outcome, done, leaves, spent, ends, strays, has_no_meaning, then_go, stepping, all_printed}
 
 -- ---- entering
 
@@ -74,7 +74,7 @@ cut_at top mem a = if nat_lt a top then mem a else None
 -- RETURN leaves the body; a jump out of it leads nowhere
 abbrev pub returned : Outcome (Unit {0}) → Outcome (Unit {0})
 returned (leaves back s) = done tt s
-returned (leaves (to_label x) s) = strays s
+returned (leaves (to_label x) s) = has_no_meaning s
 returned o = o
 
 -- the words from an address on
@@ -124,12 +124,12 @@ enter_subroutine call d b ws k s =
 -- a call of a procedure that is there
 abbrev pub call_procedure : Option Body → (Body → Callee) → ℕ → List ℕ → ℕ → State → Outcome (List ℕ)
 call_procedure (Some b) call d ws k s = enter_procedure (call b) d b ws k s
-call_procedure None call d ws k s = strays s
+call_procedure None call d ws k s = has_no_meaning s
 
 -- a call of a subroutine that is there
 abbrev pub call_subroutine : Option Subroutine → Body → Callee → ℕ → List ℕ → ℕ → State → Outcome (List ℕ)
 call_subroutine (Some x) b call d ws k s = enter_subroutine call d (subroutine_body b x) ws k s
-call_subroutine None b call d ws k s = strays s
+call_subroutine None b call d ws k s = has_no_meaning s
 
 -- what a call means in a body, for so many calls one within another
 abbrev pub calls : List Named → ℕ → Body → Callee
@@ -149,7 +149,7 @@ run_main procedures d b s =
 -- a program that has a main body
 abbrev pub run_program : Program → Option Body → ℕ → State → Outcome (Unit {0})
 run_program p (Some b) d s = run_main p.procedures d b s
-run_program p None d s = strays s
+run_program p None d s = has_no_meaning s
 
 -- ---- the run alone
 
@@ -197,6 +197,7 @@ opening p seat n = record {
   code = None;
   left = n;
   begun = [];
+  lost = false;
 }
 
 -- how a run stands: as a session does, or astray
@@ -235,6 +236,14 @@ begun_of (spent s) = s.begun
 begun_of (ends e s) = s.begun
 begun_of (strays s) = s.begun
 
+-- whether an outcome is that of a run that came to what has no meaning
+abbrev pub lost_of : {A : Type 0} → Outcome A → Bool
+lost_of (done a s) = s.lost
+lost_of (leaves x s) = s.lost
+lost_of (spent s) = s.lost
+lost_of (ends e s) = s.lost
+lost_of (strays s) = s.lost
+
 -- the outcome of the units' run within n steps
 abbrev pub run_of : List Source → Seat → ℕ → Outcome (Unit {0})
 run_of us seat n = let p = program_of us in run_program p p.main n (opening p seat n)
@@ -242,6 +251,10 @@ run_of us seat n = let p = program_of us in run_program p p.main n (opening p se
 -- the point of the units' run after n steps
 abbrev pub alone : List Source → Seat → ℕ → Point
 alone us seat n = point_of (run_of us seat n)
+
+-- whether the units' run came to what has no meaning within n steps
+abbrev pub is_lost : List Source → Seat → ℕ → Bool
+is_lost us seat n = lost_of (run_of us seat n)
 
 -- the statements that a debugger may stop at and that the run has begun within n steps, each with its data
 abbrev pub begins : List Source → Seat → ℕ → List Begun

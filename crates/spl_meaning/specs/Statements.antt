@@ -20,14 +20,14 @@ use Rattle.spl_meaning.specs.Operations.{is_odd, kept, word_done, related}
 use Rattle.spl_meaning.specs.Elements.{with_one, distance, moved_by, moved_text, moved_while, scanned}
 use Rattle.spl_meaning.specs.Serving.{served}
 use Rattle.spl_meaning.specs.Values.{Callee, Sense, an_intrinsic, sense_of, small_constant, value, located, index, arguments}
-use Rattle.spl_meaning.specs.States.{State, to_label, back, Outcome, done, leaves, spent, strays, then_go, stepping, without_code, noted, beginning, stopping, code_dropped}
+use Rattle.spl_meaning.specs.States.{State, to_label, back, Outcome, done, leaves, spent, has_no_meaning, then_go, stepping, without_code, noted, beginning, stopping, code_dropped}
 
 -- ---- assignments
 
 -- the index of a target
 abbrev pub target_index : Here → Callee → Tree → ℕ → State → Outcome (Option ℕ)
 target_index h call (tree.Tree.named x es at) k s = index h call es k s
-target_index h call _ k s = strays s
+target_index h call _ k s = has_no_meaning s
 
 -- the name of a reference
 abbrev pub reference_name : Tree → List ℕ
@@ -37,7 +37,7 @@ reference_name _ = []
 -- a word in the cell of a pointer
 abbrev pub cell_stored : Option Place → ℕ → State → Outcome (Unit {0})
 cell_stored (Some p) v s = then_go (word_at false (address_of p s.now) s) (λ _ s1. done tt (placed_word false (address_of p s1.now) v s1))
-cell_stored None v s = strays s
+cell_stored None v s = has_no_meaning s
 
 -- The index of a target is worked out first, then the value; then the cell is read, and the value is stored.
 abbrev pub assigned : Here → Callee → Target → (ℕ → State → Outcome (List ℕ)) → ℕ → State → Outcome (Unit {0})
@@ -89,12 +89,12 @@ target_keeps_code names _ = false
 abbrev pub intrinsic_value : Here → Callee → Sense → Trees → ℕ → State → Outcome (List ℕ)
 intrinsic_value h call (an_intrinsic i) es k s =
     then_go (arguments h call (intrinsic_profile i).formals es (k + result_words (intrinsic_profile i)) s) (λ ws s1. served i ws s1)
-intrinsic_value h call _ es k s = strays s
+intrinsic_value h call _ es k s = has_no_meaning s
 
 -- the value of such an expression
 abbrev pub alone_value : Here → Callee → Tree → ℕ → State → Outcome (List ℕ)
 alone_value h call (tree.Tree.named x es at) k s = intrinsic_value h call (sense_of x (h.names x)) es k s
-alone_value h call _ k s = strays s
+alone_value h call _ k s = has_no_meaning s
 
 -- an assignment
 abbrev pub assign : Here → Callee → Target → Tree → ℕ → State → Outcome (Unit {0})
@@ -206,7 +206,7 @@ landing d has from o = o
 -- the condition code answers a relation by its number
 abbrev pub code_tested : ℕ → Option Code → State → (Bool → State → Outcome (Unit {0})) → Outcome (Unit {0})
 code_tested op (Some c) s go = go (related op c) s
-code_tested op None s go = strays s
+code_tested op None s go = has_no_meaning s
 
 -- a test of the condition code, or of a condition, in the statement with this number
 abbrev pub deciding : Here → Callee → ℕ → Test → At → ℕ → State → (Bool → State → Outcome (Unit {0})) → Outcome (Unit {0})
@@ -249,7 +249,7 @@ abbrev mutual
 
   -- a list from the statement that bears a label on
   pub run_from : Here → Callee → ℕ → ℕ → Statements → List ℕ → ℕ → State → Outcome (Unit {0})
-  run_from h call d i stat.Statements.none x k s = strays s
+  run_from h call d i stat.Statements.none x k s = has_no_meaning s
   run_from h call d i (stat.Statements.and st ss) x k s =
       if bears st x then then_go (run_at h call d i st x k s) (λ _ s1. run_all h call d (i + stops st) ss k s1)
       else run_from h call d (i + stops st) ss x k s
@@ -258,11 +258,11 @@ abbrev mutual
   pub run_at : Here → Callee → ℕ → ℕ → Statement → List ℕ → ℕ → State → Outcome (Unit {0})
   run_at h call d i (stat.Statement.labelled y at st) x k s =
       if same_name x y then beginning s (λ s1. run h call d i st k s1) else run_at h call d i st x k s
-  run_at h call d i _ x k s = strays s
+  run_at h call d i _ x k s = has_no_meaning s
 
   -- the statement of a CASE that bears a label
   pub run_bearer : Here → Callee → ℕ → ℕ → Statements → List ℕ → ℕ → State → Outcome (Unit {0})
-  run_bearer h call d i stat.Statements.none x k s = strays s
+  run_bearer h call d i stat.Statements.none x k s = has_no_meaning s
   run_bearer h call d i (stat.Statements.and st ss) x k s =
       if bears st x then run_at h call d i st x k s else run_bearer h call d (i + stops st) ss x k s
 

@@ -1,5 +1,5 @@
 -- What a run has, and what comes of its parts.
-use Rattle.std.specs.Prelude.{ℕ, zero, suc, ◌+◌, ℤ, List, [], ◌∷◌, ◌++◌, length, Option, None}
+use Rattle.std.specs.Prelude.{ℕ, zero, suc, ◌+◌, Bool, true, ℤ, List, [], ◌∷◌, ◌++◌, length, Option, None}
 use Rattle.hp_word.specs.declared.arithmetic.Code.{Code}
 use Rattle.hp_word.specs.declared.endings.Trap.{Trap}
 use Rattle.spl_tree.specs.declared.names_and_places.At.{At}
@@ -34,13 +34,14 @@ pub record Begun : Type 0 where
   pub data' : Data
   pub code : Option Code
 
--- a run: its data; the condition code, where the statement just done has set one; the steps that are left of its budget; and the
--- statements begun so far
+-- a run: its data; the condition code, where the statement just done has set one; the steps that are left of its budget; the statements
+-- begun so far; and whether it came to what has no meaning
 pub record State : Type 0 where
   pub now : Data
   pub code : Option Code
   pub left : ℕ
   pub begun : List Begun
+  pub lost : Bool
 
 -- how a run ends
 pub data End : Type 0 where
@@ -68,6 +69,11 @@ then_go (leaves x s) go = leaves x s
 then_go (spent s) go = spent s
 then_go (ends e s) go = ends e s
 then_go (strays s) go = strays s
+
+-- What has no meaning: nothing is found where a name or a label leads, say, or a value has not as many words as its use has. The run goes
+-- no further, and is lost; a stray reference leaves it as it is.
+abbrev pub has_no_meaning : {A : Type 0} → State → Outcome A
+has_no_meaning s = strays (record s { lost = true })
 
 -- one step of the budget, and then on; where none is left the steps are spent
 abbrev pub step_of : {A : Type 0} → ℕ → State → (State → Outcome A) → Outcome A

@@ -12,7 +12,7 @@ use Rattle.spl_meaning.specs.References.{Here, Located, read, locate}
 use Rattle.spl_meaning.specs.Operations.{double_words, is_odd, joined, signed_done, shift_done, field_done, transferred, passed}
 use Rattle.spl_meaning.specs.Elements.{with_one, compared_by, compared_text, relation_told}
 use Rattle.spl_meaning.specs.Serving.{served}
-use Rattle.spl_meaning.specs.States.{State, Outcome, done, strays, then_go, stepping, code_dropped}
+use Rattle.spl_meaning.specs.States.{State, Outcome, done, has_no_meaning, then_go, stepping, code_dropped}
 use Rattle.hp_word.specs.Words.{word_of}
 
 -- whom a call calls: a procedure, or a subroutine of the body
@@ -31,12 +31,12 @@ small_constant names c = unsigned_abs (constant_or_zero names c)
 -- a string as a word
 abbrev pub text_done : Option ℕ → State → Outcome (List ℕ)
 text_done (Some w) s = done (w % 65536 ∷ []) s
-text_done None s = strays s
+text_done None s = has_no_meaning s
 
 -- a whole number as a word, where there is one
 abbrev pub constant_done : Option ℤ → State → Outcome (List ℕ)
 constant_done (Some v) s = done (word_of v ∷ []) s
-constant_done None s = strays s
+constant_done None s = has_no_meaning s
 
 -- what a name is in an expression: a constant, an intrinsic that is called, a procedure or a subroutine that is, or a variable
 pub data Sense : Type 0 where
@@ -116,7 +116,7 @@ abbrev mutual
   -- the location of a reference: its index, and then the cell
   pub located : Here → Callee → Tree → ℕ → State → Outcome Located
   located h call (tree.Tree.named x es at) k s = then_go (index h call es k s) (λ i s1. locate h x i s1)
-  located h call _ k s = strays s
+  located h call _ k s = has_no_meaning s
 
   -- the index of a reference, where it has one
   pub index : Here → Callee → Trees → ℕ → State → Outcome (Option ℕ)
@@ -129,4 +129,4 @@ abbrev mutual
   arguments h call (f ∷ fs) (tree.Trees.and e es) k s =
       then_go (argument f (λ s1. value h call e k s1) (λ s1. located h call e k s1) s) (λ ws s1.
       then_go (arguments h call fs es (k + formal_words f) s1) (λ vs s2. done (ws ++ vs) s2))
-  arguments h call _ _ k s = strays s
+  arguments h call _ _ k s = has_no_meaning s
