@@ -1,0 +1,7 @@
+//! The calls in bodies are of procedures that their modules have or want.
+#![tactic(auto)]
+
+mod laws;
+
+pub use laws::covered_lists_are_linked;
+pub use spl_safe_parts;
