@@ -1,0 +1,4 @@
+pub mod Wants
+pub mod Names
+pub mod Frames
+pub mod Programs

@@ -1,0 +1,7 @@
+//! Runs of programs that break no rule are never lost.
+#![tactic(auto)]
+
+mod laws;
+
+pub use laws::sound_programs_are_never_lost;
+pub use spl_sound_programs;
