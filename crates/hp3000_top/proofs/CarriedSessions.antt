@@ -20,9 +20,11 @@ use Rattle.spl_numbered.specs.spl_carries.Segments.{words_from, initial_words}
 use Rattle.spl_numbered.specs.spl_carries.Carries as carries
 use Rattle.spl_numbered.specs.spl_carries.Carries.{Forth, MaySit, IsPrefix, Carries, flat_point}
 use Rattle.spl_linkable.specs.spl_build.Built.{IsBuilt}
-use Rattle.spl_sound_programs.specs.Laws.{SoundProgramsCarry}
+use Rattle.spl_safe_programs.specs.spl_sound_programs.Laws.{SoundProgramsCarry}
 use Rattle.hp3000_top.specs.Programs.{IsMade}
 use Rattle.spl_numbered.specs.spl_bounds.Segments.{NumbersSegments}
+use Rattle.spl_numbered.specs.spl_bounds.Programs.{IsOf}
+use Rattle.spl_safe_programs.specs.Laws.{SoundProgramsAreNeverLost}
 use Rattle.spl_program.specs.spl_cuts.Signs.{Listed}
 use Rattle.spl_program.specs.spl_cuts.Lexemes.{lexemes}
 use Rattle.spl_program.specs.spl_reading.Readers.{Got}
@@ -31,14 +33,14 @@ use Rattle.spl_tree.specs.Symbols.{Lexeme}
 use Rattle.spl_tree.specs.DeclarationTrees.{UnitTree}
 use Rattle.spl_shapes.specs.Shapes.{is_shaped_unit}
 use Rattle.spl_shapes.specs.Laws.{HaveBytes, SpelledUnitsAreShaped, CutTokensHaveBytes}
-use Rattle.spl_sound_programs.specs.spl_ruled_bodies.Laws.{AreShaped}
+use Rattle.spl_safe_programs.specs.spl_sound_programs.spl_ruled_bodies.Laws.{AreShaped}
 use Rattle.spl_numbered.specs.Laws.{TextsNumberSegments}
 use Rattle.spl_linkable.specs.spl_places.Programs.{Each}
 use Rattle.spl_program.specs.Texts.{most_tokens, AreCut, AreUnits}
 use Rattle.spl_program.specs.Programs.{IsProgram}
 use Rattle.spl_program.specs.Texts as t
 use Rattle.spl_program.proofs.ProgramLaws.{programs_unique}
-use Rattle.hp3000_top.specs.Carried.{is_byte, units_seat, FollowsUnits}
+use Rattle.hp3000_top.specs.Carried.{is_byte, units_seat, AreNeverLost, FollowsUnits}
 use Rattle.hp3000_top.proofs.Sureness.{kept_rules}
 
 -- ---- bytes
@@ -91,24 +93,30 @@ all_shaped trees tokens t.AreCut.none t.AreUnits.none = tt
 all_shaped trees tokens {n} (t.AreCut.more {text = text} {x = x} c cs) (t.AreUnits.more {u = u} s ss) =
     (shaped_spelled trees (lexemes x) u.tree s.spelled (tokens n most_tokens text x c), all_shaped trees tokens cs ss)
 
--- what is built of the units of texts carries them
+-- what is built of the units of texts carries them, and they are never lost
 abbrev pub TextsCarry : Type 0
-TextsCarry = (texts : List (List ℕ)) (us : List Source) (q : Program) → IsProgram texts us → IsBuilt us q → Carries q us
+TextsCarry = (texts : List (List ℕ)) (us : List Source) (q : Program) → IsProgram texts us → IsBuilt us q → Carries q us × AreNeverLost us
 
-pub texts_carry : TextsNumberSegments → SpelledUnitsAreShaped → CutTokensHaveBytes → SoundProgramsCarry → TextsCarry
-texts_carry numbers trees tokens law texts us q k b =
+pub texts_carry : TextsNumberSegments → SpelledUnitsAreShaped → CutTokensHaveBytes → SoundProgramsCarry → SoundProgramsAreNeverLost → TextsCarry
+texts_carry numbers trees tokens law found texts us q k b =
     let rules = kept_rules texts us k in
-    law us b.modules b.layout.globals.items q (record {
+    let is : IsOf us b.modules b.layout.globals.items q = record {
       sound = rules.sound;
       spelled = rules.spelled;
       within = rules.limits;
       are_modules = b.are_modules;
       makes = b.linked.makes;
       links = b.linked.links;
-    }) (all_number numbers k.spell.cut k.spell.units) (all_shaped trees tokens k.spell.cut k.spell.units) b.linked.faultless b.is_layout.globals
+    } in
+    let number = all_number numbers k.spell.cut k.spell.units in
+    let shaped = all_shaped trees tokens k.spell.cut k.spell.units in (
+      law us b.modules b.layout.globals.items q is number shaped b.linked.faultless b.is_layout.globals,
+      found us b.modules b.layout.globals.items q is number shaped b.linked.faultless,
+    )
 
 -- what is made of texts carries their units
-pub units_carried : TextsCarry → (texts : List (List ℕ)) (us : List Source) (q : Program) → IsProgram texts us → IsMade texts q → Carries q us
+pub units_carried : TextsCarry → (texts : List (List ℕ)) (us : List Source) (q : Program) → IsProgram texts us → IsMade texts q
+    → Carries q us × AreNeverLost us
 units_carried law texts us q k m = law texts us q k (subst (λ (ys : List Source). IsBuilt ys q) (programs_unique texts m.units us m.are k) m.built)
 
 -- ---- sessions
@@ -130,11 +138,11 @@ sits programs us q seat fit bytes c large =
     }
 
 -- a session that stands where its program's flat run stands
-follows_forth : (us : List Source) (q : Program) (seat : SeatValue) (r : Run) (steps : ℕ)
+follows_forth : (us : List Source) (q : Program) (seat : SeatValue) (r : Run) (steps : ℕ) → AreNeverLost us
     → r.machine ≡ carries.flat q (units_seat seat) steps → Forth q us (units_seat seat) steps → FollowsUnits us seat r
-follows_forth us q seat r steps is (carries.Forth.follows at point soon) = FollowsUnits.follows at (point ∙ ap flat_point (sym is))
-follows_forth us q seat r steps is (carries.Forth.strayed at stray front) =
-    FollowsUnits.strayed at stray (subst (λ (m : Machine). IsPrefix (alone us (units_seat seat) at).printed m.printed) (sym is) front)
+follows_forth us q seat r steps found is (carries.Forth.follows at point soon) = FollowsUnits.follows at (point ∙ ap flat_point (sym is))
+follows_forth us q seat r steps found is (carries.Forth.strayed at stray front) =
+    FollowsUnits.strayed at stray (found (units_seat seat) at) (subst (λ (m : Machine). IsPrefix (alone us (units_seat seat) at).printed m.printed) (sym is) front)
 
 pub follows_units : TextsCarry → (programs : ℕ) (texts : List (List ℕ)) (us : List Source) (q : Program) (seat : Seat) (r : Run)
     → IsProgram texts us → IsMade texts q → SeatFits programs (seat_value seat) → list_all (λ l. list_all is_byte l) (seat_value seat).lines ≡ true
@@ -142,5 +150,5 @@ pub follows_units : TextsCarry → (programs : ℕ) (texts : List (List ℕ)) (u
     → r.machine ≡ flat.after (segments_of q) r.steps (opened_of q seat.lines.items seat.stack seat.extra seat.room) → FollowsUnits us (seat_value seat) r
 follows_units law programs texts us q seat r k m fit bytes large is =
     let c = units_carried law texts us q k m in
-    follows_forth us q (seat_value seat) r r.steps is
-    (c.forth (units_seat (seat_value seat)) (sits programs us q seat fit bytes c large) r.steps)
+    follows_forth us q (seat_value seat) r r.steps c.1 is
+    (c.0.forth (units_seat (seat_value seat)) (sits programs us q seat fit bytes c.0 large) r.steps)

@@ -32,7 +32,7 @@ use Rattle.std.specs.List.{list_all}
 use Rattle.spl_program.specs.spl_meaning.Tables.{Source}
 use Rattle.job_gen.proofs.job_text_proofs.LineBytes.{lines_of_texts}
 use Rattle.spl_program.specs.Programs.{IsProgram}
-use Rattle.hp3000_top.specs.Carried.{is_byte, CarryTheirs, FollowsUnits}
+use Rattle.hp3000_top.specs.Carried.{is_byte, AreNeverLost, CarryTheirs, FollowsUnits}
 use Rattle.hp3000_top.proofs.CarriedSessions.{TextsCarry, units_carried, follows_units}
 use Rattle.hp3000_top.proofs.Loops.{each_slice}
 use Rattle.hp3000_top.proofs.Sureness.{some_is}
@@ -138,7 +138,7 @@ flat_run ps q seat r e g =
 pub carry_theirs : TextsCarry → (ts : List TextValue) (ps : List Program) → AreMade ts ps → CarryTheirs ts ps
 carry_theirs law ts ps made k t p of_text at us c =
     made_at k t made of_text
-    (λ q there is. subst (λ (x : Program). Carries x us) (some_is (sym there ∙ at)) (units_carried law t.units us q c is))
+    (λ q there is. subst (λ (x : Program). Carries x us × AreNeverLost us) (some_is (sym there ∙ at)) (units_carried law t.units us q c is))
 
 -- each follows the run of its units
 each_follows : TextsCarry → (bytes : List ℕ) → list_all is_byte bytes ≡ true → (job : JobValue) (made : List Program) (w : World)

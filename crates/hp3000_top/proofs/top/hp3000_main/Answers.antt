@@ -56,7 +56,7 @@ returns-clause-headline g c =
     subst (λ (bs : List ℕ). list_all is_byte bs ≡ true) c.deref-3.ensures.value c.are_bytes.ensures in
     let verb_is = asked_so c.deref.result.now c.args.words.now.items c.in-Some.verb c.in-Some.ensures c.deref.ensures.value in
     λ w. subst (λ (v : Option Verb). AreAsAlone v (g.I.Source.left c.args.input.now) c.deliver.new.made.items (g.O.Sink.written c.args.output.now) (g.O.Sink.written c.deliver.new.output)) verb_is
-    (headline_so (texts_carry c.texts_number_segments.ensures c.spelled_units_are_shaped.ensures c.cut_tokens_have_bytes.ensures c.sound_programs_carry.ensures) c.in-Some.verb _ _ c.in-Ok.bytes.items small c.in-Ok-answer_of.answer _ _ _ _ _ _ _ _ c.in-Ok.ensures.ok told c.deliver.ensures w)
+    (headline_so (texts_carry c.texts_number_segments.ensures c.spelled_units_are_shaped.ensures c.cut_tokens_have_bytes.ensures c.sound_programs_carry.ensures c.sound_programs_are_never_lost.ensures) c.in-Some.verb _ _ c.in-Ok.bytes.items small c.in-Ok-answer_of.answer _ _ _ _ _ _ _ _ c.in-Ok.ensures.ok told c.deliver.ensures w)
 
 pub returns-clause-complete : goal.returns-clause-complete
 returns-clause-complete g c =
@@ -89,4 +89,4 @@ returns-clause-programs g c =
     subst (λ (bs : List ℕ). IsAnswered bs c.in-Some.verb c.in-Ok-answer_of.answer) c.deref-2.ensures.value c.in-Ok-answer_of.ensures in
     let verb_is = asked_so c.deref.result.now c.args.words.now.items c.in-Some.verb c.in-Some.ensures c.deref.ensures.value in
     subst (λ (v : Option Verb). MadeAt c.deliver.result v (g.I.Source.left c.args.input.now) (g.O.Sink.written c.args.output.now) (g.O.Sink.written c.deliver.new.output) c.args.made.now.items c.deliver.new.made.items) verb_is
-    (made_so (texts_carry c.texts_number_segments.ensures c.spelled_units_are_shaped.ensures c.cut_tokens_have_bytes.ensures c.sound_programs_carry.ensures) c.in-Some.verb _ _ c.in-Ok.bytes.items c.in-Ok-answer_of.answer _ _ _ _ _ _ _ _ c.in-Ok.ensures.ok told c.deliver.ensures)
+    (made_so (texts_carry c.texts_number_segments.ensures c.spelled_units_are_shaped.ensures c.cut_tokens_have_bytes.ensures c.sound_programs_carry.ensures c.sound_programs_are_never_lost.ensures) c.in-Some.verb _ _ c.in-Ok.bytes.items c.in-Ok-answer_of.answer _ _ _ _ _ _ _ _ c.in-Ok.ensures.ok told c.deliver.ensures)
