@@ -1,25 +1,12 @@
 //! The listing of a unit's program, by the way that `prep` and `list` go.
-ghost use Rattle.std.specs.Prelude.{◌≤◌, length, IfOk};
-
 use crate::cases::CASES;
+use crate::texts::text;
 use job_report::listing;
 use mpe_progfile::{read, write};
 use spl_build::build;
 use spl_program::read_program;
-use spl_tree::Chars;
-use std::alloc::{AllocError, Global};
+use std::alloc::Global;
 use std::test::Fail;
-
-/// The text of a unit; one of more bytes than may be is cut.
-fn text(alloc: Global, unit: &str) -> Result<Chars, AllocError>
-    ensures { IfOk result (λ t. length t.bytes.items ≤ 1048576) }
-{
-    let bytes = unit.as_bytes();
-    let most = bytes.len().min(1_048_576);
-    Ok(Chars {
-        bytes: Vec::from_slice(alloc, &bytes[..most])?,
-    })
-}
 
 /// The listing of the program that a unit makes alone.
 fn listed(alloc: Global, unit: &str) -> Result<Vec<u8>, Fail> {
