@@ -28,10 +28,21 @@ fn words(rt: &HostRuntime) -> Result<Vec<String>, Exit> {
     Ok(words)
 }
 
+/// The status with which the program ends. Where the words are those of no verb, standard error is told which there are; whether it takes
+/// that does not matter, since the status says the same.
+fn end(rt: &HostRuntime, exit: Exit) -> ExitCode {
+    if let Exit::Usage = exit {
+        let _told = eprintln!(rt;
+            "usage: hp3000 run | prep | list, with an input, or hp3000 gen NUMBER"
+        );
+    }
+    ExitCode::from(exit.status())
+}
+
 fn main(rt: HostRuntime) -> ExitCode {
     let words = match words(&rt) {
         Ok(words) => words,
-        Err(exit) => return ExitCode::from(exit.status()),
+        Err(exit) => return end(&rt, exit),
     };
     let mut input = StdSource {
         reader: rt.stdin(),
@@ -51,5 +62,5 @@ fn main(rt: HostRuntime) -> ExitCode {
         &mut made,
         &mut ran,
     );
-    ExitCode::from(exit.status())
+    end(&rt, exit)
 }
