@@ -5,6 +5,7 @@ pub mod KnownStatement
 pub mod KnownCall
 pub mod KnownEffect
 pub mod KnownBegun
+pub mod KnownLost
 pub mod KnownFaults
 pub mod KnownRight
 pub mod KnownLimits

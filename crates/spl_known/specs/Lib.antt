@@ -5,6 +5,7 @@ pub mod StatementRuns
 pub mod CallRuns
 pub mod EffectRuns
 pub mod BegunRuns
+pub mod LostRuns
 pub mod FaultRuns
 pub mod LimitRuns
 pub mod BoundRuns

@@ -7,6 +7,7 @@ ghost use Rattle.spl_known.specs.StatementRuns.{statement_runs};
 ghost use Rattle.spl_known.specs.CallRuns.{call_runs};
 ghost use Rattle.spl_known.specs.EffectRuns.{effect_runs};
 ghost use Rattle.spl_known.specs.BegunRuns.{begun_runs};
+ghost use Rattle.spl_known.specs.LostRuns.{AllLostSo, lost_runs};
 
 /// Arithmetic, constants and tokens.
 pub fn arithmetic_is_done()
@@ -36,4 +37,9 @@ pub fn effects_are_done()
 /// The statements that a run begins, with its data there.
 pub fn statements_are_begun()
     ensures { AllBegunSo begun_runs }
+{}
+
+/// What has no meaning, told from stray references.
+pub fn losses_are_told()
+    ensures { AllLostSo lost_runs }
 {}

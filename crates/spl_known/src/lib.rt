@@ -8,6 +8,6 @@ pub use known_rules::{
     bounds_are_counted, faults_are_found, known_programs_are_right, limits_are_counted,
 };
 pub use known_runs::{
-    arithmetic_is_done, calls_are_done, effects_are_done, references_are_made,
+    arithmetic_is_done, calls_are_done, effects_are_done, losses_are_told, references_are_made,
     statements_are_begun, statements_are_run,
 };
