@@ -1,5 +1,5 @@
 -- Runs that come to what has no meaning, and others that stray at a reference alone: each program by its text, with how its run stands after some steps,
--- and whether it is lost. What is lost breaks a rule, each program here another.
+-- and whether it is lost. What is lost breaks a rule, or calls a procedure that no unit defines.
 use Rattle.std.specs.Prelude.{ℕ, ◌≡◌, Bool, true, false, List, [], ◌∷◌, Option, Some, None}
 use Prim.Native.String.{String}
 use Rattle.spl_meaning.specs.hp_word.declared.endings.Ending.TheVariants.{Running, Trapped}
