@@ -52,6 +52,13 @@ IsSilent e.Refused = ⊥
 IsSilent e.WriteFault = ⊥
 IsSilent _ = Unit {0}
 
+-- what is answered by what was read: it was delivered, or its writing broke off
+abbrev pub IsAnswer : Exit → Type 0
+IsAnswer e.Done = Unit {0}
+IsAnswer e.Refused = Unit {0}
+IsAnswer e.WriteFault = Unit {0}
+IsAnswer _ = ⊥
+
 -- This holds of the bytes that were read: those that were left, where the input tells them.
 abbrev pub Read : Option (List ℕ) → (List ℕ → Type 0) → Type 0
 Read left P = (bytes : List ℕ) × IfSome left (λ all. bytes ≡ all) × P bytes
@@ -156,7 +163,7 @@ Certain _ None P = ⊥
 Certain _ (Some bytes) P = (length bytes ≤ 1048576) × P bytes
 
 -- The bytes are a job whose programs no line refuses and whose sessions open whichever form each branch takes; or one whose only program no line
--- refuses; or a program's file.
+-- refuses, and that a program can be made of; or a program's file.
 abbrev pub IsSurelyDoneOf : Verb → List ℕ → Type 0
 IsSurelyDoneOf verb.Run bytes = SurelyOpens bytes
 IsSurelyDoneOf verb.Prep bytes = (job : JobValue) × (p : Program) × IsPrepared bytes job p × AreSure job.programs

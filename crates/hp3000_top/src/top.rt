@@ -1,10 +1,10 @@
 //! The top call.
-ghost use Rattle.std.specs.Prelude.{◌≡◌, ◌↔◌, ◌⊎◌, ℕ, true, List, None, Some, Err, map, string_bytes, IfOk};
+ghost use Rattle.std.specs.Prelude.{◌≡◌, ◌↔◌, ℕ, true, List, None, Some, Err, map, string_bytes, IfOk};
 ghost use Rattle.hp_outside.specs.Faults.{Rose};
 ghost use Rattle.std.specs.List.{list_all};
 ghost use Rattle.hp3000_top.specs.Verbs.{asked};
 ghost use Rattle.hp3000_top.specs.Carried.{is_byte};
-ghost use Rattle.hp3000_top.specs.Answers.{TakesNone, IsWhole, IsTooLong, IsSilent, Delivers, Refuses, BreaksOff, AreAsAlone, IsSurelyDone, IsDone, IsSurelyRefused, IsRefusedBy, MadeAt, RanAt};
+ghost use Rattle.hp3000_top.specs.Answers.{TakesNone, IsWhole, IsTooLong, IsSilent, IsAnswer, Delivers, Refuses, BreaksOff, AreAsAlone, IsSurelyDone, IsDone, IsSurelyRefused, IsRefusedBy, MadeAt, RanAt};
 ghost use Rattle.hp3000_top.specs.Decided.{IsLeftToWords, IsDecided};
 ghost use Rattle.hp3000_top.specs.Steps.{IsInput, IsTaken};
 
@@ -110,7 +110,7 @@ pub fn hp3000_main<I: Source, O: Sink>(
 
     // What was read.
     ensures unread { TakesNone (asked (map (λ w. string_bytes w) words.now.items)) → input.new ≡ input.old }
-    ensures whole { (result ≡ Exit.Done) ⊎ (result ≡ Exit.Refused) → IsWhole 1048576 (asked (map (λ w. string_bytes w) words.now.items)) (I.left input.old) (I.left input.new) }
+    ensures whole { IsAnswer result → IsWhole 1048576 (asked (map (λ w. string_bytes w) words.now.items)) (I.left input.old) (I.left input.new) }
 
     // What was written.
     ensures silent { IsSilent result → output.new ≡ output.old }
