@@ -19,10 +19,10 @@ impl Cpu {
     ///
     /// What the store holds are segments of one program, of as many segments as the processor's number says: the step is then
     /// the flat machine's in that program. It needs one segment. Where the store does not hold that one the answer is `Absent`,
-    /// as often as the step is tried, and nothing at all has changed. A trap, and the call of an intrinsic, leave the list of
-    /// words, the extra segment, all registers and the mode as they were; words may have moved between registers and memory by
-    /// then. An intrinsic that is called finds whole mode and every word in memory, so it can be served at once. Takes no
-    /// memory.
+    /// as often as the step is tried, and nothing at all has changed. A trap, and the call of an intrinsic, leave the flat state
+    /// that the processor stands for as it was: the list of words, the extra segment, the registers and the mode. A transfer that
+    /// was under way is finished by then, and words may have moved between registers and memory. An intrinsic that is called
+    /// finds whole mode and every word in memory, so it can be served at once. Takes no memory.
     #[inline(always)]
     pub fn step<C: CodeStore>(&mut self, code: &C) -> Stepped
         ensures steps { (program : List (List ℕ)) → HoldsOf program (C.held code.now) → length program ≡ self.old.segments

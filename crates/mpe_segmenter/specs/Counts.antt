@@ -44,7 +44,8 @@ is_below size (Some offset) = nat_lt offset size
 abbrev pub is_gate_or_name : Want → Bool
 is_gate_or_name w = if w.gate then nat_lt 0 (gate_of w.name.text.items) else true
 
--- a module is well formed: it has words, its entries stand at them, and each want for an intrinsic names one
+-- a module is well formed: it is not empty, its entries stand at its words, and each want for an intrinsic names one. That its words, marks and
+-- places are in order is kept by its type
 abbrev pub is_well_formed : Module → Bool
 is_well_formed m = nat_lt 0 m.size && list_all (λ (d : Define). nat_lt d.offset m.size) m.defines.items && is_below m.size m.main && list_all is_gate_or_name m.wants.items
 

@@ -238,7 +238,7 @@ is_wanted (v ∷ vs) w = if same_flag v.gate w.gate && same_name v.name w.name t
 abbrev pub with_want : List Want → Want → List Want
 with_want ws w = if is_wanted ws w then ws else ws ++ w ∷ []
 
--- the procedures that stand in a segment
+-- whether a name is one of these
 abbrev pub stands_in : List (List ℕ) → List ℕ → Bool
 stands_in [] x = false
 stands_in (y ∷ ys) x = if same_name x y then true else stands_in ys x
@@ -289,7 +289,7 @@ abbrev pub names_in_segment : List Source → List ℕ → List (List ℕ)
 names_in_segment [] x = []
 names_in_segment (u ∷ us) x = names_of_routines (routines_in u x) ++ names_in_segment us x
 
--- the wants of procedures, and of a main body, which wants TERMINATE at its end
+-- the wants behind procedures
 abbrev pub with_routines : List (List ℕ) → List Want → List Routine → List Want
 with_routines here ws [] = ws
 with_routines here ws (r ∷ rs) =
@@ -298,7 +298,7 @@ with_routines here ws (r ∷ rs) =
     (statements_names (statements r.statements)))
     rs
 
--- the wants behind a main body
+-- the wants behind a main body, which wants TERMINATE at its end
 abbrev pub with_main : List (List ℕ) → List Want → Source → List Want
 with_main here ws u =
     with_want

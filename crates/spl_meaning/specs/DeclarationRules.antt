@@ -57,7 +57,7 @@ base_faults outer table own k base at =
     ++ unless (not (is_some (within table outer base)) || is_base own (find table base)) 16 at ++ unless (not (is_double_kind k)) 16 at
 
 -- the shape of an item
--- 17: OWN outside a procedure. 27: an array or OWN in a split procedure. 28: data in a subprogram.
+-- 15: the lower bound of an array above its upper one. 27: an array or a view in a split procedure.
 abbrev pub shape_faults : Around → Table Sort → Bool → Kind → decl.Shape → At → List Fault
 shape_faults a table own k decl.Shape.simple at = []
 shape_faults a table own k (decl.Shape.array low high) at =

@@ -45,7 +45,7 @@ with_one vs s go = has_no_meaning s
 abbrev pub distance : Located → ℕ → ℕ
 distance p first = (p.address + 65536 - first) % 65536
 
--- ---- MOVE. Each answers the location behind the last element that was stored.
+-- ---- MOVE. Each answers the location next to the last element that was stored: behind it, or before it where the move goes down.
 
 -- so many elements: the source is read, then the target is stored
 abbrev pub moved : Bool → ℕ → Located → Located → State → Outcome Located

@@ -16,11 +16,11 @@ abbrev pub unless : Bool → ℕ → At → List Fault
 unless true rule at = []
 unless false rule at = fault rule at ∷ []
 
--- the earlier of two places, by unit, line and column; at one place the lower rule
+-- whether one number is lower than another; where they are the same the answer is given
 abbrev pub is_lower : ℕ → ℕ → Bool → Bool
 is_lower a b if_same = nat_lt a b || (a == b && if_same)
 
--- whether one fault comes before another
+-- whether one fault comes before another: by unit, line and column, and at one place by the lower rule
 abbrev pub is_before : Fault → Fault → Bool
 is_before f g =
     is_lower f.at.unit g.at.unit (is_lower f.at.line g.at.line (is_lower f.at.column g.at.column (nat_lt f.rule g.rule)))

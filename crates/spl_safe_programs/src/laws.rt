@@ -15,7 +15,7 @@ use spl_sound_beginnings::spl_piece_kinds::modules_have_kinds;
 use spl_sound_programs::sound_programs_are_covered;
 use spl_sound_programs::spl_linked_names::linked_names_are_unique;
 
-/// Runs of units that break no rule, and that are linked, never come to what has no meaning.
+/// Runs of units that break no rule, and are linked without a fault, never come to what has no meaning.
 pub fn sound_programs_are_never_lost()
     ensures { SoundProgramsAreNeverLost }
 {

@@ -1,4 +1,4 @@
-//! Runs of programs that break no rule are never lost.
+//! Runs of programs that break no rule, and are linked without a fault, are never lost.
 #![tactic(auto)]
 
 mod laws;
