@@ -7,4 +7,4 @@ mod limits;
 pub use gather::{all_globals, all_locals, list_items};
 pub use limits::{program_globals, program_locals};
 pub use spl_places;
-pub use spl_places::{spl_depths, spl_lists};
+pub use spl_places::{spl_lists, spl_spots};

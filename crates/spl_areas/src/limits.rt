@@ -14,7 +14,7 @@ ghost use Rattle.spl_places.specs.Passed.{local_passed};
 ghost use Rattle.spl_areas.specs.Gathered.{items_under, passed_in, passed_among, passed_in_units};
 
 use crate::gather::{all_globals, all_locals, list_items, nothing};
-use spl_places::spl_depths::FirstFull;
+use spl_places::spl_spots::FirstFull;
 use spl_places::{declare_all, global_limits, local_limits};
 use spl_sorts::Table;
 use spl_tree::{Decl, Heading, SplUnit};

@@ -8,7 +8,7 @@ use Rattle.spl_gen_expr.specs.spl_found.OwnNames.{with_name}
 use Rattle.spl_places.proofs.spl_lists_proofs.NameWalks.{onward, onward_end}
 use Rattle.spl_sorts.specs.declared.profiles.Formal.{Formal}
 use Rattle.spl_sorts.specs.Profiles.{formal_of}
-use Rattle.spl_places.specs.declared.places.Place as code
+use Rattle.spl_places.specs.spl_spots.declared.places.Place as code
 use Rattle.spl_places.specs.Spots.{spot_of}
 use Rattle.spl_places.specs.NameMaps.{behind_table, shown}
 use Rattle.spl_places.proofs.NameMapLemmas.{behind_more, behind_none, behind_nothing, shown_none, shown_added}

@@ -6,7 +6,7 @@ use Rattle.spl_tree.specs.Views.{letters}
 use Rattle.spl_sorts.specs.spl_meaning.Names.{Names, same_name, or_else, profile_of}
 use Rattle.spl_sorts.specs.spl_meaning.Places.{Place}
 use Rattle.spl_sorts.specs.spl_meaning.Bodies.{result_by, result_place}
-use Rattle.spl_places.specs.declared.places.Place as code
+use Rattle.spl_places.specs.spl_spots.declared.places.Place as code
 use Rattle.spl_places.specs.Spots.{spot_of}
 use Rattle.spl_scopes.specs.Scopes.{Results}
 use Rattle.spl_body_scopes.specs.declared.places.Base.{Base}

@@ -20,8 +20,8 @@ ghost use Rattle.spl_body_scopes.specs.Found.{calls_in, ShowsRoutine, ShowsInner
 
 use crate::places::{Base, item_places, parameter_places};
 use spl_gen_expr::{Entries, Places, Scope};
-use spl_places::spl_depths::plus;
 use spl_places::spl_lists::{formals, parameters};
+use spl_places::spl_spots::plus;
 use spl_places::{Area, Datum, NameMap, Part, Place, declarations, declare_all, total};
 use spl_sorts::{Formal, Names, Table};
 use spl_tree::{Decl, Heading, SplUnit};
@@ -135,7 +135,7 @@ pub fn inner_level(alloc: Global, heading: &Heading) -> Result<Level, AllocError
 
 /// The scope of three levels, of which the first hides the second, and that the third. The levels may be the same: a
 /// procedure's own is its first and its second, and the main body's is all three.
-#[tactic(auto, unfolding(spl_places::specs::NameMaps::shown))]
+#[tactic(auto, unfolding(spl_spots::specs::NameMaps::shown))]
 pub fn scope<'t>(
     inner: &'t Level,
     own: &'t Level,

@@ -13,7 +13,7 @@ ghost use Rattle.spl_places.specs.Spots.{spot_of, place_in, and_place};
 ghost use Rattle.spl_body_scopes.specs.Bases.{below_in, gap_of};
 
 use spl_formals::{formal_words, formals_words};
-use spl_places::spl_depths::plus;
+use spl_places::spl_spots::plus;
 use spl_places::{Area, Datum, NameMap, Place, is_own, item_words};
 use spl_sorts::{Formal, Sort};
 use spl_tree::Name;

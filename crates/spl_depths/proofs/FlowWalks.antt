@@ -7,7 +7,7 @@ use Rattle.spl_sorts.specs.spl_meaning.Names.{Names}
 use Rattle.spl_sorts.specs.spl_meaning.Limits.{Full}
 use Rattle.spl_depths.specs.Reach.{Reach}
 use Rattle.spl_depths.specs.Reached.{reached_statement, reached_statements}
-use Rattle.spl_depths.proofs.WordWalks.{onward, onward_end}
+use Rattle.spl_spots.proofs.ListWalks.{onward, onward_end}
 
 statement_turn : (names : Names) (r : Reach) (s : Statement) (ss : Statements) (k : ℕ) (f : Option Full)
     → reached_statements names r (and s ss) k f ≡ reached_statements names r ss k (reached_statement names r s k f)

@@ -8,7 +8,7 @@ use Rattle.spl_sorts.specs.spl_meaning.Pending.{formal_words, by_value, value_wo
 use Rattle.spl_sorts.specs.spl_meaning.Limits.{passing, parameter_sizes}
 use Rattle.spl_sorts.specs.declared.profiles.Formal.{Formal}
 use Rattle.spl_sorts.specs.Profiles.{formal_of}
-use Rattle.spl_depths.proofs.WordWalks.{onward, onward_end}
+use Rattle.spl_spots.proofs.ListWalks.{onward, onward_end}
 
 -- a parameter has words
 some_words : (f : n.Formal) → nat_lt 0 (formal_words f) ≡ true

@@ -14,7 +14,7 @@ use Rattle.spl_sorts.specs.Profiles.{formal_of}
 use Rattle.spl_depths.specs.declared.reach.Reach as code
 use Rattle.spl_depths.specs.Reach.{parameters_below, result_below, reach_of}
 use Rattle.spl_depths.specs.Places.{entry_of, places_of, behind_formals, shown}
-use Rattle.spl_depths.proofs.WordWalks.{onward, onward_end}
+use Rattle.spl_spots.proofs.ListWalks.{onward, onward_end}
 
 -- names are equal as their letters are
 abbrev pub equal_names : ArrayVec ℕ → ArrayVec ℕ → Bool

@@ -11,7 +11,7 @@ use Rattle.spl_tree.specs.StatementTrees as stat
 use Rattle.spl_tree.specs.StatementTrees.{Statement, statements, and, none}
 use Rattle.spl_sorts.specs.spl_meaning.Names.{Names}
 use Rattle.spl_sorts.specs.spl_meaning.Pending.{statement_most, statements_most}
-use Rattle.spl_depths.proofs.WordWalks.{onward, onward_end}
+use Rattle.spl_spots.proofs.ListWalks.{onward, onward_end}
 
 pub statement_step : (names : Names) (list : List Stmt) (i : ℕ) (s : Stmt) → i < length list → s ≡ get_or list i s
     → statements_most names (statements (map view.statement (drop i list)))

@@ -8,7 +8,7 @@ use Rattle.spl_sorts.specs.spl_meaning.Pending.{first_formal, other_formals, arg
 use Rattle.spl_sorts.specs.spl_meaning.Limits.{Full}
 use Rattle.spl_depths.specs.Reach.{Reach}
 use Rattle.spl_depths.specs.Reached.{reached, reached_among}
-use Rattle.spl_depths.proofs.WordWalks.{onward, onward_end}
+use Rattle.spl_spots.proofs.ListWalks.{onward, onward_end}
 
 argument_turn : (names : Names) (r : Reach) (fs : List Formal) (e : Tree) (es : Trees) (k : ℕ) (f : Option Full)
     → reached_among names r fs (and e es) k f

@@ -5,7 +5,7 @@ use Rattle.spl_tree.specs.Views as view
 use Rattle.spl_tree.specs.Trees.{Tree, trees, and, none}
 use Rattle.spl_sorts.specs.spl_meaning.Names.{Names, Formal}
 use Rattle.spl_sorts.specs.spl_meaning.Pending.{most, most_of, first_formal, other_formals, argument_words}
-use Rattle.spl_depths.proofs.WordWalks.{onward, onward_end}
+use Rattle.spl_spots.proofs.ListWalks.{onward, onward_end}
 
 pub argument_step : (names : Names) (fs : List Formal) (k : ℕ) (list : List Expr) (i : ℕ) (e : Expr) → i < length list → e ≡ get_or list i e
     → most_of names fs k (trees (map view.expression (drop i list)))

@@ -1,6 +1,5 @@
 pub mod Calls
 pub mod Parts
-pub mod Fulls
 pub mod Reach
 pub mod Reached
 pub mod Places

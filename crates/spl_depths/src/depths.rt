@@ -9,8 +9,9 @@ ghost use Rattle.spl_depths.specs.Parts as parts;
 
 use crate::effects::{effect, step, target, tested, waiting_for};
 use crate::expressions::{call, measure};
-use crate::words::{larger, plus};
+use crate::words::larger;
 use spl_sorts::Names;
+use spl_spots::plus;
 use spl_tree::{Expr, Stmt};
 use std::alloc::AllocError;
 

@@ -6,8 +6,9 @@ ghost use Rattle.spl_sorts.specs.spl_meaning.Pending as pending;
 ghost use Rattle.spl_sorts.specs.Tables.{names_of};
 
 use crate::expressions::{measure, reference};
-use crate::words::{larger, plus};
+use crate::words::larger;
 use spl_sorts::Names;
+use spl_spots::plus;
 use spl_tree::{Effect, Expr, Ref, Source, Target, Test};
 use std::alloc::AllocError;
 

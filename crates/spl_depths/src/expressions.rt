@@ -12,9 +12,10 @@ ghost use Rattle.spl_sorts.specs.Tables.{names_of};
 ghost use Rattle.spl_depths.specs.Calls as calls;
 
 use crate::words::{
-    argument_words, formals_words, larger, link_words, operand_width, plus, result_words,
+    argument_words, formals_words, larger, link_words, operand_width, result_words,
 };
 use spl_sorts::{Formal, Names, Operand, Sort, callable};
+use spl_spots::plus;
 use spl_tree::{Expr, Kind, Ref, binary};
 use spl_uses::compares_text;
 use std::alloc::AllocError;

@@ -9,10 +9,9 @@ ghost use Rattle.spl_depths.specs.Places.{shown};
 ghost use Rattle.spl_depths.specs.Reached as reached;
 
 use crate::effects::waiting_for;
-use crate::full::FirstFull;
 use crate::parts::{effect, step, target, tested};
 use crate::uses::{Inside, call, expression, used};
-use crate::words::plus;
+use spl_spots::{FirstFull, plus};
 use spl_tree::{At, Expr, Name, Stmt};
 use std::alloc::AllocError;
 

@@ -5,7 +5,6 @@ mod depths;
 mod effects;
 mod expressions;
 mod flow;
-mod full;
 mod laws;
 mod parts;
 mod reach;
@@ -14,7 +13,5 @@ mod uses;
 mod words;
 
 pub use depths::{depth, subroutine_depth};
-pub use full::{FirstFull, Full};
 pub use laws::{first_use_is_found, headings_have_few_words};
 pub use subroutines::{heading_limits, subroutine_limits};
-pub use words::plus;

@@ -7,8 +7,8 @@ ghost use Rattle.spl_depths.specs.Places.{shown};
 ghost use Rattle.spl_depths.specs.Reached as reached;
 
 use crate::effects::{behind_first, behind_second};
-use crate::full::FirstFull;
 use crate::uses::{Inside, expression, reference, used};
+use spl_spots::FirstFull;
 use spl_tree::{Effect, Expr, Ref, Source, Target, Test};
 use std::alloc::AllocError;
 

@@ -7,10 +7,11 @@ ghost use Rattle.spl_sorts.specs.Profiles.{formal_of, profile_of};
 ghost use Rattle.spl_depths.specs.Reach.{parameters_below, reach_of};
 ghost use Rattle.spl_depths.specs.Places.{places_of, shown};
 
-use crate::words::{formal_words, formals_words, plus, result_words};
+use crate::words::{formal_words, formals_words, result_words};
 use arrayvec::ArrayVec;
 use indexmap::IndexMap;
 use spl_sorts::{Formal, Profile};
+use spl_spots::plus;
 use spl_tree::Name;
 use std::alloc::{AllocError, Global};
 

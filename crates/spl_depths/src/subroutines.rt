@@ -7,15 +7,15 @@ ghost use Rattle.spl_sorts.specs.spl_meaning.Limits as limits;
 ghost use Rattle.spl_sorts.specs.spl_meaning.Pending as pending;
 ghost use Rattle.spl_sorts.specs.Profiles.{profile_of};
 ghost use Rattle.spl_sorts.specs.Tables.{names_of};
-ghost use Rattle.spl_depths.specs.Fulls.{full_of, listed};
+ghost use Rattle.spl_spots.specs.Fulls.{full_of, listed};
 ghost use Rattle.spl_depths.specs.ReachLaws.{body_limits};
 
 use crate::flow::statement;
-use crate::full::{FirstFull, Full};
 use crate::reach::Reach;
 use crate::uses::Inside;
 use crate::words::{formal_words, result_words};
 use spl_sorts::{Names, Profile};
+use spl_spots::{FirstFull, Full};
 use spl_tree::{Heading, Stmt};
 use std::alloc::{AllocError, Global};
 

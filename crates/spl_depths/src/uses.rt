@@ -15,10 +15,10 @@ ghost use Rattle.spl_depths.specs.Reach.{reached_by};
 ghost use Rattle.spl_depths.specs.Reached as reached;
 
 use crate::expressions::{formals_of, left_words, next_formal, other_formals, result_of};
-use crate::full::{FirstFull, Full};
 use crate::reach::Reach;
-use crate::words::{argument_words, plus};
+use crate::words::argument_words;
 use spl_sorts::{Formal, Names, Operand};
+use spl_spots::{FirstFull, Full, plus};
 use spl_tree::{At, Expr, Kind, Name, Ref};
 use std::alloc::AllocError;
 

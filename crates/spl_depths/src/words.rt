@@ -1,11 +1,12 @@
 //! The words of values, parameters, results and links.
-ghost use Rattle.std.specs.Prelude.{◌≡◌, ◌≤◌, ◌+◌, max, IfOk, map, option_map};
+ghost use Rattle.std.specs.Prelude.{◌≡◌, ◌≤◌, max, IfOk, map, option_map};
 ghost use Rattle.spl_sorts.specs.spl_meaning.Kinds as kinds;
 ghost use Rattle.spl_sorts.specs.spl_meaning.Pending as pending;
 ghost use Rattle.spl_sorts.specs.Profiles.{formal_of, profile_of};
 ghost use Rattle.spl_sorts.specs.Sorts.{sort_of, operand_of};
 
 use spl_sorts::{Formal, Operand, Profile, Sort};
+use spl_spots::plus;
 use spl_tree::Kind;
 use std::alloc::AllocError;
 
@@ -14,16 +15,6 @@ const MARKER_WORDS: u64 = 4;
 
 /// The words of a return word.
 const RETURN_WORDS: u64 = 1;
-
-/// A sum of words. One beyond `u64` is an error, as want of memory is: no tree in memory has so many.
-pub fn plus(a: u64, b: u64) -> Result<u64, AllocError>
-    ensures { IfOk result (λ sum. sum ≡ a + b) }
-{
-    match a.checked_add(b) {
-        Some(sum) => Ok(sum),
-        None => Err(AllocError),
-    }
-}
 
 /// The greater of two numbers of words.
 pub fn larger(a: u64, b: u64) -> u64

@@ -7,7 +7,7 @@ ghost use Rattle.spl_entries.specs.Entries as entries;
 
 use crate::place_type::Place;
 use spl_formals::above;
-use spl_formals::spl_depths::plus;
+use spl_formals::spl_spots::plus;
 use spl_globals::spl_places::{Datum, Starts, array_words, is_own, item_words};
 use spl_sorts::Sort;
 use std::alloc::AllocError;

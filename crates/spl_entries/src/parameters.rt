@@ -6,8 +6,8 @@ ghost use Rattle.spl_sorts.specs.Profiles.{formal_of};
 ghost use Rattle.spl_entries.specs.Entries as entries;
 
 use crate::place_type::Place;
-use spl_formals::spl_depths::plus;
 use spl_formals::spl_lists::formals;
+use spl_formals::spl_spots::plus;
 use spl_formals::{below, formal_words, formals_words};
 use spl_sorts::Formal;
 use spl_tree::Heading;

@@ -10,7 +10,7 @@ use Rattle.spl_globals.specs.spl_meaning.Pending.{formals_words, result_words}
 use Rattle.spl_globals.specs.spl_meaning.Bodies.{all_routines, primary_words, data_words, global_words, own_words}
 use Rattle.spl_globals.specs.spl_meaning.Faults.{fault, is_before}
 use Rattle.spl_globals.specs.spl_meaning.Limits.{Full, Sized, passing, joined, first_among, first_full, all_limits, global_limits, local_limits, heading_limits, subroutine_limits, routine_limits, unit_limits, most_primary, most_locals, most_parameters, most_data}
-use Rattle.spl_globals.proofs.spl_depths_proofs.HeadingLaws.{few_in_heading}
+use Rattle.spl_depths.proofs.HeadingLaws.{few_in_heading}
 use Rattle.spl_globals.specs.spl_places.ListedData.{Datum}
 use Rattle.spl_globals.specs.spl_places.Counters.{sizes, total_words}
 use Rattle.spl_globals.specs.spl_places.Passed.{local_passed}

@@ -1,3 +1,3 @@
 pub mod ResultWords
 -- Passed on from the crates below.
-pub use Rattle.spl_depths.specs.spl_found
+pub use Rattle.spl_spots.specs.spl_found

@@ -5,6 +5,6 @@ mod lists;
 mod two_complement;
 
 pub use lists::{formal_words, formals_words, result_word};
-pub use spl_depths;
 pub use spl_lists;
+pub use spl_spots;
 pub use two_complement::{above, below};

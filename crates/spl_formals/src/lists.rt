@@ -6,8 +6,8 @@ ghost use Rattle.spl_sorts.specs.Profiles.{formal_of, profile_of};
 ghost use Rattle.spl_formals.specs.ResultWords.{result_at};
 
 use crate::two_complement::below;
-use spl_depths::plus;
 use spl_sorts::{Formal, Profile};
+use spl_spots::plus;
 use spl_tree::Kind;
 use std::alloc::AllocError;
 

@@ -3,8 +3,8 @@ use Rattle.std.specs.Prelude.{ℕ, List, option_map, Option}
 use Rattle.spl_sorts.specs.spl_meaning.Names.{find, or_else}
 use Rattle.spl_sorts.specs.spl_meaning.Places.{Place}
 use Rattle.spl_sorts.specs.Tables.{names_of}
-use Rattle.spl_operations.specs.spl_places.NameMaps.{entries_of}
-use Rattle.spl_operations.specs.spl_places.Spots.{spot_of}
+use Rattle.spl_operations.specs.spl_spots.NameMaps.{entries_of}
+use Rattle.spl_operations.specs.spl_spots.Spots.{spot_of}
 use Rattle.spl_operations.specs.spl_code.Calls as code
 use Rattle.spl_gen_expr.specs.declared.scopes.Places as declared
 use Rattle.spl_gen_expr.specs.declared.scopes.Scope.{Scope}

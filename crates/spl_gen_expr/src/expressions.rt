@@ -32,7 +32,7 @@ use crate::words::{
     small_constant, text_bytes,
 };
 use spl_branch::Code;
-use spl_operations::spl_depths::plus;
+use spl_operations::spl_spots::plus;
 use spl_operations::{
     Access, Class, address_at, compare, convert, extract, index_to_x, load_at, mode_of,
     operate_on_one, operate_on_two, pass, push_double, push_number, push_text, push_word,

@@ -2,11 +2,11 @@
 ghost use Rattle.std.specs.Prelude.{◌≡◌, option_map};
 ghost use Rattle.spl_tree.specs.Views.{letters};
 ghost use Rattle.spl_sorts.specs.spl_meaning.Names.{find};
-ghost use Rattle.spl_operations.specs.spl_places.NameMaps.{entries_of};
-ghost use Rattle.spl_operations.specs.spl_places.Spots.{spot_of};
+ghost use Rattle.spl_operations.specs.spl_spots.NameMaps.{entries_of};
+ghost use Rattle.spl_operations.specs.spl_spots.Spots.{spot_of};
 ghost use Rattle.spl_gen_expr.specs.Scopes.{places_of};
 
-use spl_operations::spl_places::{NameMap, Place};
+use spl_operations::spl_spots::{NameMap, Place};
 use spl_sorts::Names;
 use spl_tree::Name;
 

@@ -23,12 +23,12 @@ use spl_layout::spl_rooms::Room;
 use spl_tree::{Body, Decl, Heading, Stmt};
 use spl_unit_laws::Cursor;
 use spl_unit_laws::spl_body_scopes::{Level, declare, routine_level};
-use spl_unit_laws::spl_depths::plus;
 use spl_unit_laws::spl_gen_expr::Entries;
 use spl_unit_laws::spl_gen_routines::{
     Around, Declared, inner_count, listed_items, room_at, routine, subroutine,
 };
 use spl_unit_laws::spl_places::{NameMap, Part, total};
+use spl_unit_laws::spl_spots::plus;
 use spl_unit_laws::spl_unit_codes::Growing;
 use std::alloc::{AllocError, Global};
 

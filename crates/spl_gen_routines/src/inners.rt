@@ -20,7 +20,7 @@ use spl_gen_body::spl_rooms::Room;
 use spl_statement_scopes::spl_body_scopes::{
     BodyResult, Level, Results, inner_level, inner_result,
 };
-use spl_statement_scopes::spl_depths::plus;
+use spl_statement_scopes::spl_spots::plus;
 use spl_statement_scopes::{statement_scope, with_results};
 use spl_tree::{Decl, Heading, Stmt};
 use std::alloc::{AllocError, Global};

@@ -1,8 +1,8 @@
 -- What the code of statements is made with, as the definition has it.
 use Rattle.std.specs.Prelude.{ℕ, List, Option, option_map}
 use Rattle.spl_sorts.specs.spl_meaning.Names.{find}
-use Rattle.spl_operations.specs.spl_places.declared.name_maps.NameMap.{NameMap}
-use Rattle.spl_operations.specs.spl_places.NameMaps.{entries_of}
+use Rattle.spl_operations.specs.spl_spots.declared.name_maps.NameMap.{NameMap}
+use Rattle.spl_operations.specs.spl_spots.NameMaps.{entries_of}
 use Rattle.spl_gen_expr.specs.declared.scopes.Scope.{Scope}
 use Rattle.spl_gen_expr.specs.Scopes.{scope_of}
 use Rattle.spl_statement_code.specs.Landings as code

@@ -18,7 +18,7 @@ use crate::fields::{Bits, deposit_at};
 use crate::stores::{store, store_at};
 use spl_branch::Code;
 use spl_gen_expr::{Aim, Scope, small_constant, write};
-use spl_operations::spl_depths::plus;
+use spl_operations::spl_spots::plus;
 use spl_operations::{Access, mode_of};
 use spl_sorts::Sort;
 use spl_tree::{Kind, Name, Ref, Target};

@@ -1,6 +1,6 @@
 //! What the code of the statements of a body is made with.
 use spl_gen_expr::Scope;
-use spl_operations::spl_places::NameMap;
+use spl_operations::spl_spots::NameMap;
 
 /// Where a label leads.
 #[derive(Clone, Copy, Debug, PartialEq, Eq, Drop)]

@@ -13,7 +13,7 @@ use crate::puts::control_by;
 use hp_instr::{Op, control, shift};
 use spl_branch::Code;
 use spl_gen_expr::{Aim, Scope, push_text_offset, reference, write};
-use spl_operations::spl_depths::plus;
+use spl_operations::spl_spots::plus;
 use spl_operations::{operate, push_word, shift_by};
 use spl_sorts::variable_kind;
 use spl_tree::{Effect, Kind, Ref, Source};

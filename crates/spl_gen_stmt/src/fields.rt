@@ -1,7 +1,7 @@
 //! What puts the word on top into a bit field of what a name leads to. The field lies within a word.
 ghost use Rattle.std.specs.Prelude.{◌≡◌, ◌≤◌, ◌+◌, ◌++◌, ◌∷◌, [], true, false, OnOk};
 ghost use Rattle.hp_instr.specs.Given.{is_mode};
-ghost use Rattle.spl_operations.specs.spl_places.Spots.{spot_of};
+ghost use Rattle.spl_operations.specs.spl_spots.Spots.{spot_of};
 ghost use Rattle.spl_statement_code.specs.spl_code.Instructions as i;
 ghost use Rattle.spl_statement_code.specs.spl_code.Parts.{piece, pieces};
 ghost use Rattle.spl_statement_code.specs.spl_code.Stores as stores;
@@ -11,7 +11,7 @@ ghost use Rattle.spl_operations.specs.Views.{access_view};
 use crate::stores::{bring_under, from_top, index_below, store};
 use hp_instr::{Instr, Mode, Op, immediate};
 use spl_branch::Code;
-use spl_operations::spl_places::Place;
+use spl_operations::spl_spots::Place;
 use spl_operations::{Access, immediate as put_immediate, instruct, load_at, mode_of, operate};
 use spl_tree::Kind;
 use std::alloc::AllocError;

@@ -14,7 +14,7 @@ use crate::contexts::{Context, Landing};
 use crate::statements::{listed, statement};
 use spl_branch::Code;
 use spl_gen_expr::Scope;
-use spl_operations::spl_places::NameMap;
+use spl_operations::spl_spots::NameMap;
 use spl_tree::Stmt;
 use std::alloc::AllocError;
 

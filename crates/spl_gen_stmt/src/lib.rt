@@ -15,4 +15,4 @@ mod stores;
 pub use contexts::Landing;
 pub use generator::{gen_statement, gen_statements};
 pub use spl_gen_expr;
-pub use spl_operations::{spl_depths, spl_places};
+pub use spl_operations::spl_spots;

@@ -23,7 +23,7 @@ use crate::stores::{bring_under, from_top, store, store_own};
 use hp_instr::{Mode, Op, immediate};
 use spl_branch::Code;
 use spl_gen_expr::{Aim, Scope, named, relate, write};
-use spl_operations::spl_depths::plus;
+use spl_operations::spl_spots::plus;
 use spl_operations::{Access, address_at, immediate as put_immediate, load_at, mode_of, operate};
 use spl_sorts::{Sort, callable};
 use spl_tree::{Effect, Expr, Kind, Name, Target, Test};

@@ -3,7 +3,7 @@ ghost use Rattle.std.specs.Prelude.{◌≡◌, true, false, OnOk};
 ghost use Rattle.hp_instr.specs.Given.{is_mode};
 ghost use Rattle.hp_instr.specs.declared.instruction.Mode.TheVariants as mode;
 ghost use Rattle.spl_sorts.specs.spl_meaning.Kinds as kinds;
-ghost use Rattle.spl_operations.specs.spl_places.Spots.{spot_of};
+ghost use Rattle.spl_operations.specs.spl_spots.Spots.{spot_of};
 ghost use Rattle.spl_statement_code.specs.spl_code.Instructions as i;
 ghost use Rattle.spl_statement_code.specs.spl_code.Parts.{piece, pieces};
 ghost use Rattle.spl_statement_code.specs.spl_code.Stores as stores;
@@ -12,7 +12,7 @@ ghost use Rattle.spl_operations.specs.Views.{access_view};
 
 use hp_instr::{Instr, Mode, Op, immediate, major};
 use spl_branch::Code;
-use spl_operations::spl_places::Place;
+use spl_operations::spl_spots::Place;
 use spl_operations::{Access, immediate as put_immediate, instruct, load_at, mode_of, operate};
 use spl_tree::Kind;
 use std::alloc::AllocError;

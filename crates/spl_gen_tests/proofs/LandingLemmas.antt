@@ -7,8 +7,8 @@ use Rattle.spl_tree.specs.declared.statements.Stmt as stmt
 use Rattle.spl_tree.specs.Views as view
 use Rattle.spl_tree.specs.StatementTrees as stat
 use Rattle.spl_sorts.specs.spl_meaning.Names.{find}
-use Rattle.spl_gen_stmt.specs.spl_places.declared.name_maps.NameMap.{NameMap}
-use Rattle.spl_gen_stmt.specs.spl_places.NameMaps.{entries_of}
+use Rattle.spl_gen_stmt.specs.spl_spots.declared.name_maps.NameMap.{NameMap}
+use Rattle.spl_gen_stmt.specs.spl_spots.NameMaps.{entries_of}
 use Rattle.spl_gen_stmt.specs.spl_gen_expr.declared.scopes.Scope.{Scope}
 use Rattle.spl_gen_stmt.specs.spl_statement_code.Landings as code
 use Rattle.spl_gen_stmt.specs.spl_statement_code.Landings.{Context, IsMade}

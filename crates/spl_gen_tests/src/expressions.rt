@@ -4,7 +4,7 @@ use spl_branch::{Code, Piece};
 use spl_gen_stmt::spl_gen_expr::{
     Aim, Entries, Places, Scope, gen_condition, gen_expr, reference, write,
 };
-use spl_gen_stmt::spl_places::{NameMap, Place};
+use spl_gen_stmt::spl_spots::{NameMap, Place};
 use spl_sorts::{Names, Sort, Table};
 use spl_tree::{At, Expr, Kind, Name, Ref, binary};
 use std::alloc::Global;

@@ -2,7 +2,7 @@
 use crate::expressions::{PLACE, empty, make_maps, scope_in};
 use hp_instr::{Instr, control};
 use spl_branch::Piece;
-use spl_gen_stmt::spl_places::NameMap;
+use spl_gen_stmt::spl_spots::NameMap;
 use spl_gen_stmt::{Landing, gen_statement};
 use spl_tree::Stmt;
 use std::test::Fail;

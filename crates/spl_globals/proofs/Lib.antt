@@ -2,5 +2,4 @@ pub mod StoredWalks
 pub mod StoredLaws
 pub mod ZeroLemmas
 -- Passed on from the crates below.
-pub use Rattle.spl_initials.proofs.spl_depths_proofs
 pub use Rattle.spl_initials.proofs.spl_places_proofs

@@ -7,8 +7,8 @@ ghost use Rattle.spl_initials.specs.spl_places.ListedData.{datum_of};
 ghost use Rattle.spl_globals.specs.Stored.{first_areas, areas_of, words_of, behind_owns, behind_globals};
 
 use spl_areas::{all_globals, all_locals};
-use spl_initials::spl_depths::plus;
 use spl_initials::spl_places::{Datum, Part, total};
+use spl_initials::spl_spots::plus;
 use spl_tree::SplUnit;
 use std::alloc::{AllocError, Global};
 

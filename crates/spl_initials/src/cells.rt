@@ -64,7 +64,7 @@ fn put_cell(words: &mut [u16], place: Option<Place>, as_bytes: bool, array: Opti
 }
 
 /// The place of a name in a list, where it has one.
-#[tactic(auto, unfolding(spl_places::specs::NameMaps::shown))]
+#[tactic(auto, unfolding(spl_spots::specs::NameMaps::shown))]
 pub fn place_named(list: &ListPlaces, name: &Name) -> Option<Place>
     ensures { option_map spot_of result ≡ (found_in list.now).place (letters name.now) }
 {
@@ -72,7 +72,7 @@ pub fn place_named(list: &ListPlaces, name: &Name) -> Option<Place>
 }
 
 /// The data of the array of a name in a list, where it is one.
-#[tactic(auto, unfolding(spl_places::specs::NameMaps::shown))]
+#[tactic(auto, unfolding(spl_spots::specs::NameMaps::shown))]
 pub fn array_named(list: &ListPlaces, name: &Name) -> Option<Array>
     ensures { option_map array_of result ≡ (found_in list.now).array (letters name.now) }
 {

@@ -14,5 +14,5 @@ pub use laws::lists_are_laid;
 pub use lists::{list_cells, list_initials};
 pub use memory::{put_byte, store, word_at};
 pub use spl_places;
-pub use spl_places::{spl_depths, spl_lists};
+pub use spl_places::{spl_lists, spl_spots};
 pub use values::{put_constants, put_value};

@@ -5,9 +5,9 @@ use Rattle.spl_gen_stmt.specs.spl_meaning.Names.{find}
 use Rattle.spl_gen_stmt.specs.spl_found.OwnNames.{with_name}
 use Rattle.spl_branch.specs.declared.buffer.Code.{Code}
 use Rattle.spl_branch.specs.Codes.{SameFrame}
-use Rattle.spl_label_marks.specs.spl_places.declared.name_maps.NameMap.{NameMap}
+use Rattle.spl_label_marks.specs.spl_places.spl_spots.declared.name_maps.NameMap.{NameMap}
 use Rattle.spl_label_marks.specs.spl_places.NameMaps.{entries_of, shown, behind_table}
-use Rattle.spl_gen_stmt.proofs.spl_places_proofs.NameMapLemmas.{shown_added, behind_more, behind_none, behind_empty}
+use Rattle.spl_gen_stmt.proofs.spl_spots_proofs.NameMapLemmas.{shown_added, behind_more, behind_none, behind_empty}
 use Rattle.spl_label_marks.specs.spl_statement_code.Landings as there
 use Rattle.spl_gen_stmt.specs.declared.contexts.Landing.{Landing}
 use Rattle.spl_gen_stmt.specs.Contexts.{landing_of, landings_of}
@@ -15,7 +15,7 @@ use Rattle.spl_label_marks.specs.spl_module_code.LabelsOfBodies.{landed_from}
 use Rattle.spl_label_marks.specs.spl_module_code.LabelsOfBodies as code
 use Rattle.spl_landings.specs.declared.label_lists.Label.{Label}
 use Rattle.spl_landings.specs.Labels.{label_of}
-use Rattle.spl_gen_stmt.proofs.spl_depths_proofs.WordWalks.{onward, onward_end}
+use Rattle.spl_gen_stmt.proofs.spl_spots_proofs.ListWalks.{onward, onward_end}
 
 -- a code with marks for some labels, where others are left
 pub record Landed (from now : Code) (m : NameMap Landing) (left all : List code.Label) : Type 0 where

@@ -10,7 +10,7 @@ ghost use Rattle.spl_label_marks.specs.spl_module_code.LabelsOfBodies.{labels_am
 use crate::label_lists::labels;
 use spl_branch::Code;
 use spl_gen_stmt::Landing;
-use spl_gen_stmt::spl_places::NameMap;
+use spl_gen_stmt::spl_spots::NameMap;
 use spl_tree::Stmt;
 use std::alloc::{AllocError, Global};
 

@@ -7,7 +7,7 @@ use Rattle.spl_sound.specs.spl_meaning.Names.{Names, find, nothing_declared, par
 use Rattle.spl_sound.specs.spl_meaning.Tables.{Source}
 use Rattle.spl_sound.specs.spl_meaning.Limits.{Full, first_among, heading_limits}
 use Rattle.spl_areas.specs.spl_found.OwnNames.{over, behind_declaration, behind_declarations}
-use Rattle.spl_areas.specs.spl_depths.ReachLaws.{body_limits}
+use Rattle.spl_depths.specs.ReachLaws.{body_limits}
 use Rattle.spl_areas.specs.spl_places.ListedData.{list_data}
 use Rattle.spl_areas.specs.spl_places.Passed.{local_passed}
 

@@ -12,9 +12,10 @@ ghost use Rattle.spl_areas.specs.spl_found.OwnNames.{over, behind_declarations};
 ghost use Rattle.spl_areas.specs.spl_places.ListedData.{datum_of, list_data};
 ghost use Rattle.spl_limits.specs.FirstPassed as passed;
 
-use spl_areas::spl_depths::{FirstFull, heading_limits, subroutine_limits};
 use spl_areas::spl_lists::{formals, parameters, profile};
 use spl_areas::spl_places::{Datum, declarations, local_limits};
+use spl_areas::spl_spots::FirstFull;
+use spl_depths::{heading_limits, subroutine_limits};
 use spl_sorts::{Names, Table};
 use spl_tree::{Decl, Heading, Stmt};
 use std::alloc::{AllocError, Global};

@@ -2,13 +2,13 @@
 ghost use Rattle.std.specs.Prelude.{◌≡◌, OnOk, IfOk, IfErr, map, None, option_map};
 ghost use Rattle.spl_sound.specs.spl_meaning.Limits.{first_full};
 ghost use Rattle.spl_sound.specs.Spelled.{source_of};
-ghost use Rattle.spl_areas.specs.spl_depths.Fulls.{full_of};
+ghost use Rattle.spl_areas.specs.spl_spots.Fulls.{full_of};
 ghost use Rattle.spl_limits.specs.Answers.{IsFull};
 
 use crate::faults::LimitFault;
 use crate::units::bodies_passed;
 use spl_areas::program_globals;
-use spl_areas::spl_depths::{FirstFull, Full};
+use spl_areas::spl_spots::{FirstFull, Full};
 use spl_sound::Sound;
 use std::alloc::{AllocError, Global};
 

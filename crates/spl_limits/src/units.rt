@@ -9,8 +9,8 @@ ghost use Rattle.spl_areas.specs.spl_found.OwnNames.{behind_declarations};
 ghost use Rattle.spl_limits.specs.FirstPassed as passed;
 
 use crate::bodies::{procedure, subroutines};
-use spl_areas::spl_depths::FirstFull;
 use spl_areas::spl_places::declare_all;
+use spl_areas::spl_spots::FirstFull;
 use spl_sorts::Table;
 use spl_tree::{Decl, SplUnit};
 use std::alloc::{AllocError, Global};

@@ -15,7 +15,7 @@ use Rattle.spl_places.proofs.spl_lists_proofs.NameWalks.{onward, onward_end}
 use Rattle.spl_scopes.specs.Entries.{main, inner_entry, inner_entries}
 use Rattle.spl_sound.specs.spl_meaning.Names.{Table, find}
 use Rattle.spl_places.specs.NameMaps.{entries_of, behind_table}
-use Rattle.spl_places.specs.declared.name_maps.NameMap.{NameMap}
+use Rattle.spl_places.specs.spl_spots.declared.name_maps.NameMap.{NameMap}
 use Rattle.spl_places.proofs.NameMapLemmas.{behind_none, behind_nothing}
 use Rattle.spl_modules.specs.declared.walk.UnitEntries.{UnitEntries}
 use Rattle.spl_modules.specs.Walks.{walk_of}

@@ -4,7 +4,7 @@ use Rattle.spl_tree.specs.DeclarationTrees as decl
 use Rattle.spl_tree.specs.DeclarationTrees.{Declaration, Declarations}
 use Rattle.spl_sound.specs.spl_meaning.Names.{Table, find}
 use Rattle.spl_places.specs.spl_found.OwnNames.{with_name}
-use Rattle.spl_places.specs.declared.name_maps.NameMap.{NameMap}
+use Rattle.spl_places.specs.spl_spots.declared.name_maps.NameMap.{NameMap}
 use Rattle.spl_places.specs.NameMaps.{entries_of}
 use Rattle.spl_scopes.specs.Entries.{Entry, main, is_callable, inner_entry, inner_entries}
 use Rattle.spl_modules.specs.declared.modules.ModuleEntries.{ModuleEntries}

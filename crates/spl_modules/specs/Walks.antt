@@ -1,7 +1,7 @@
 -- What a unit's entries are, seen as a walk that has come to its end.
 use Rattle.std.specs.Prelude.{ℕ, [], Option, Some, None}
 use Rattle.spl_sound.specs.spl_meaning.Names.{find}
-use Rattle.spl_places.specs.declared.name_maps.NameMap.{NameMap}
+use Rattle.spl_places.specs.spl_spots.declared.name_maps.NameMap.{NameMap}
 use Rattle.spl_places.specs.NameMaps.{entries_of}
 use Rattle.spl_modules.specs.declared.walk.UnitEntries.{UnitEntries}
 use Rattle.spl_modules.specs.Entered.{Indexes, Walk, entered_of, maps_of}

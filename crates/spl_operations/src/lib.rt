@@ -12,5 +12,4 @@ pub use operators::{
     Class, compare, convert, extract, operate_on_one, operate_on_two, pass, shift_value,
 };
 pub use puts::{branch, immediate, instruct, lay, operate, operate_all, shift_by};
-pub use spl_places;
-pub use spl_places::spl_depths;
+pub use spl_spots;

@@ -8,7 +8,7 @@ use Rattle.spl_tree.specs.Views.{letters}
 use Rattle.spl_tree.specs.Spells.{item_tree, shape_tree, declaration}
 use Rattle.spl_sorts.specs.spl_meaning.Names.{Names}
 use Rattle.spl_sorts.specs.spl_meaning.Tables.{shaped}
-use Rattle.spl_depths.specs.spl_found.OwnNames.{over, with_name, behind_items, behind_declaration, behind_declarations}
+use Rattle.spl_spots.specs.spl_found.OwnNames.{over, with_name, behind_items, behind_declaration, behind_declarations}
 use Rattle.spl_lists.proofs.NameWalks.{onward, onward_end}
 use Rattle.spl_places.specs.ListedData.{items_data, declaration_data, list_data}
 

@@ -10,7 +10,7 @@ use Rattle.spl_sorts.specs.spl_meaning.Names.{Names, Sort, Table, find, within, 
 use Rattle.spl_sorts.specs.spl_meaning.Tables.{declared, shaped, intrinsic_sort, with_items, with_equates, with_intrinsics, with_labels, with_declaration, with_declarations}
 use Rattle.spl_sorts.specs.spl_meaning.Places.{only}
 use Rattle.spl_sorts.specs.spl_meaning.Limits.{sorted_items, data_of, all_data}
-use Rattle.spl_depths.proofs.spl_found_proofs.OwnNames.{find_declared, find_declaration}
+use Rattle.spl_spots.proofs.spl_found_proofs.OwnNames.{find_declared, find_declaration}
 use Rattle.spl_places.specs.ListedData.{items_data, declaration_data, list_data}
 use Rattle.spl_places.specs.Counters.{entry}
 use Rattle.spl_places.specs.Held.{is_data, held, named, NewItems, NewIn, NewNames}

@@ -7,16 +7,16 @@ use Rattle.spl_sorts.specs.spl_meaning.Names.{Sort, Table, find}
 use Rattle.spl_sorts.specs.spl_meaning.Places.{Place, Array, is_own, item_words, array_words, where_own, only, place_of, array_at, places_from, arrays_from}
 use Rattle.spl_sorts.specs.Sorts.{sort_of}
 use Rattle.spl_lists.proofs.NameWalks.{onward, onward_end}
-use Rattle.spl_depths.specs.spl_found.OwnNames.{with_name}
+use Rattle.spl_spots.specs.spl_found.OwnNames.{with_name}
 use Rattle.spl_places.specs.declared.data.Datum.{Datum}
 use Rattle.spl_places.specs.declared.places.Starts.{Starts}
 use Rattle.spl_places.specs.ListedData as d
 use Rattle.spl_places.specs.ListedData.{datum_of}
 use Rattle.spl_places.specs.Counters.{total_words}
-use Rattle.spl_places.specs.NameMaps.{behind_table}
+use Rattle.spl_spots.specs.NameMaps.{behind_table}
 use Rattle.spl_places.specs.Held.{named}
 use Rattle.spl_places.specs.Spots.{and_place, and_array, behind_item, behind_data}
-use Rattle.spl_places.proofs.NameMapLemmas.{behind_more, behind_none, behind_nothing, shown_none}
+use Rattle.spl_spots.proofs.NameMapLemmas.{behind_more, behind_none, behind_nothing, shown_none}
 
 -- ---- one item
 

@@ -7,7 +7,7 @@ use Rattle.spl_tree.specs.DeclarationTrees.{Item, Declaration, Declarations}
 use Rattle.spl_tree.specs.Views.{letters}
 use Rattle.spl_sorts.specs.spl_meaning.Names.{Names, Sort}
 use Rattle.spl_sorts.specs.spl_meaning.Tables.{shaped}
-use Rattle.spl_depths.specs.spl_found.OwnNames.{over, with_name, behind_declaration}
+use Rattle.spl_spots.specs.spl_found.OwnNames.{over, with_name, behind_declaration}
 use Rattle.spl_sorts.specs.Sorts.{sort_of}
 use Rattle.spl_places.specs.declared.data.Datum as code
 

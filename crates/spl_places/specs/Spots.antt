@@ -1,25 +1,17 @@
--- Places as the code has them, and where the items of a list stand.
+-- Arrays as the code has them, and where the items of a list stand.
 use Rattle.std.specs.Prelude.{ℕ, ◌+◌, true, false, nat_lt, if◌then◌else◌, List, [], ◌∷◌, Option}
 use Rattle.spl_sorts.specs.spl_meaning.Names as n
 use Rattle.spl_sorts.specs.spl_meaning.Names.{Sort, Table, find}
 use Rattle.spl_sorts.specs.spl_meaning.Places as p
-use Rattle.spl_sorts.specs.spl_meaning.Places.{data_word, above_base, below_base, below_return, is_own, item_words, array_words, where_own, place_of}
-use Rattle.spl_depths.specs.spl_found.OwnNames.{with_name}
-use Rattle.spl_places.specs.declared.places.Place as code
-use Rattle.spl_places.specs.declared.places.Place.TheVariants as place
+use Rattle.spl_sorts.specs.spl_meaning.Places.{data_word, above_base, is_own, item_words, array_words, where_own, place_of}
+use Rattle.spl_spots.specs.spl_found.OwnNames.{with_name}
+pub use Rattle.spl_spots.specs.Spots.{spot_of}
 use Rattle.spl_places.specs.declared.places.Area.{Area}
 use Rattle.spl_places.specs.declared.places.Area.TheVariants as area
 use Rattle.spl_places.specs.declared.places.Array as array
 use Rattle.spl_places.specs.declared.places.Starts as starts
 use Rattle.spl_places.specs.ListedData.{Datum}
 use Rattle.spl_places.specs.Counters.{total_words}
-
--- a place
-abbrev pub spot_of : code.Place → p.Place
-spot_of (place.DataWord a) = data_word a
-spot_of (place.AboveBase a) = above_base a
-spot_of (place.BelowBase a) = below_base a
-spot_of (place.BelowReturn a) = below_return a
 
 -- an array's data
 abbrev pub array_of : array.Array → p.Array

@@ -7,8 +7,8 @@ ghost use Rattle.spl_places.specs.Counters.{part_words, sizes, total_words, behi
 
 use crate::data::Datum;
 use crate::words::{array_words, is_own, item_words};
-use spl_depths::{FirstFull, Full, plus};
 use spl_sorts::Sort;
+use spl_spots::{FirstFull, Full, plus};
 use spl_tree::At;
 use std::alloc::AllocError;
 

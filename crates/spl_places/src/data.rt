@@ -7,7 +7,7 @@ ghost use Rattle.spl_tree.specs.Views as trees;
 ghost use Rattle.spl_sorts.specs.spl_meaning.Names as n;
 ghost use Rattle.spl_sorts.specs.spl_meaning.Names.{find};
 ghost use Rattle.spl_sorts.specs.spl_meaning.Tables as t;
-ghost use Rattle.spl_depths.specs.spl_found.OwnNames.{over, behind_items, behind_declaration, behind_declarations};
+ghost use Rattle.spl_spots.specs.spl_found.OwnNames.{over, behind_items, behind_declaration, behind_declarations};
 ghost use Rattle.spl_sorts.specs.Sorts.{sort_of};
 ghost use Rattle.spl_sorts.specs.Tables.{table_of, names_of};
 ghost use Rattle.spl_places.specs.ListedData.{datum_of, items_data, declaration_data, list_data};

@@ -5,7 +5,6 @@ mod counters;
 mod data;
 mod laws;
 mod limits;
-mod name_maps;
 mod places;
 mod words;
 
@@ -16,8 +15,8 @@ pub use laws::{
     sound_items_are_new,
 };
 pub use limits::{global_limits, local_limits};
-pub use name_maps::NameMap;
-pub use places::{Area, Array, ListPlaces, Place, Starts, frame_starts, list_places};
-pub use spl_depths;
+pub use places::{Area, Array, ListPlaces, Starts, frame_starts, list_places};
 pub use spl_lists;
+pub use spl_spots;
+pub use spl_spots::{NameMap, Place};
 pub use words::{array_words, elements, elements_words, is_own, item_words};

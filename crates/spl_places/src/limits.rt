@@ -6,7 +6,7 @@ ghost use Rattle.spl_places.specs.Passed.{global_passed, local_passed};
 
 use crate::counters::{Counter, Part, total};
 use crate::data::Datum;
-use spl_depths::{FirstFull, plus};
+use spl_spots::{FirstFull, plus};
 use std::alloc::AllocError;
 
 /// The most words of the primary area.

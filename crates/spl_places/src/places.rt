@@ -5,33 +5,20 @@ ghost use Rattle.spl_sorts.specs.spl_meaning.Names.{find};
 ghost use Rattle.spl_sorts.specs.spl_meaning.Places as places;
 ghost use Rattle.spl_sorts.specs.Sorts.{sort_of};
 ghost use Rattle.spl_places.specs.ListedData.{datum_of};
-ghost use Rattle.spl_places.specs.NameMaps.{entries_of, shown};
+ghost use Rattle.spl_spots.specs.NameMaps.{entries_of, shown};
 ghost use Rattle.spl_places.specs.Held.{named};
 ghost use Rattle.spl_places.specs.Spots.{spot_of, array_of, place_in, and_place, and_array, behind_item, behind_data, frame_starts};
 
 use crate::counters::{Part, counted_words, total};
 use crate::data::Datum;
-use crate::name_maps::NameMap;
 use crate::words::{is_own, item_words};
-use spl_depths::plus;
 use spl_sorts::Sort;
+use spl_spots::{NameMap, Place, plus};
 use spl_tree::{Kind, Name};
 use std::alloc::{AllocError, Global};
 
 /// The first local item stands so many words above the last word of a marker.
 const FIRST_LOCAL: u64 = 1;
-
-/// The place of a word, in words.
-#[derive(Clone, Copy, Debug, PartialEq, Eq)]
-pub enum Place {
-    /// The address of a data word.
-    DataWord(u64),
-    /// Above the base of a frame, the last word of its marker.
-    AboveBase(u64),
-    BelowBase(u64),
-    /// Below the return word of a subroutine.
-    BelowReturn(u64),
-}
 
 /// Where the items of a list that are not OWN stand: among the data words, or above the base of a frame.
 #[derive(Clone, Copy, Debug, PartialEq, Eq)]

@@ -4,8 +4,8 @@ ghost use Rattle.spl_sorts.specs.spl_meaning.Kinds.{width};
 ghost use Rattle.spl_sorts.specs.spl_meaning.Places as places;
 ghost use Rattle.spl_sorts.specs.Sorts.{sort_of};
 
-use spl_depths::plus;
 use spl_sorts::Sort;
+use spl_spots::plus;
 use spl_tree::Kind;
 use std::alloc::AllocError;
 

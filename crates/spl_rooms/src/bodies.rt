@@ -13,9 +13,10 @@ ghost use Rattle.spl_places.specs.ListedData.{datum_of, list_data};
 ghost use Rattle.spl_rooms.specs.Walked as walked;
 
 use crate::room_type::Room;
+use spl_depths::{depth, subroutine_depth};
 use spl_formals::result_word;
-use spl_places::spl_depths::{depth, plus, subroutine_depth};
 use spl_places::spl_lists::{formals, parameters, profile};
+use spl_places::spl_spots::plus;
 use spl_places::{Datum, Part, declarations, total};
 use spl_sorts::{Names, Table};
 use spl_tree::{Decl, Heading, Stmt};

@@ -18,7 +18,7 @@ use spl_tree::Name;
 use std::alloc::{AllocError, Global};
 
 /// A level without names: the first of a procedure and of a main body.
-#[tactic(auto, unfolding(spl_places::specs::NameMaps::shown))]
+#[tactic(auto, unfolding(spl_spots::specs::NameMaps::shown))]
 pub fn no_names(alloc: Global) -> Level
     ensures { level_of result ≡ l.no_names }
 {

@@ -8,7 +8,7 @@ use Rattle.spl_tree.specs.declared.units.SplUnit.{SplUnit}
 use Rattle.spl_tree.specs.Views.{letters}
 use Rattle.spl_module_code.specs.spl_meaning.Names.{Table, find}
 use Rattle.spl_module_code.specs.spl_sound.Spelled.{source_of}
-use Rattle.spl_module_code.specs.spl_places.declared.name_maps.NameMap.{NameMap}
+use Rattle.spl_module_code.specs.spl_places.spl_spots.declared.name_maps.NameMap.{NameMap}
 use Rattle.spl_module_code.specs.spl_places.NameMaps.{entries_of, behind_table}
 use Rattle.spl_module_code.proofs.spl_places_proofs.NameMapLemmas.{behind_none, behind_nothing}
 use Rattle.spl_module_code.specs.Modules.{in_list, named_segment, numbered}

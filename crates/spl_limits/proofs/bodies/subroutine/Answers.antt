@@ -10,7 +10,7 @@ use Rattle.spl_sorts.specs.declared.profiles.Formal.{Formal}
 use Rattle.spl_sorts.specs.Profiles.{formal_of}
 use Rattle.spl_sorts.specs.Tables.{table_of}
 use Rattle.spl_areas.specs.spl_found.OwnNames.{over}
-use Rattle.spl_areas.specs.spl_depths.ReachLaws.{body_limits}
+use Rattle.spl_depths.specs.ReachLaws.{body_limits}
 use Rattle.spl_limits.proofs.bodies.subroutine.Goals as goal
 
 pub returns : goal.returns

@@ -3,7 +3,7 @@ use Rattle.std.proofs.Common.{◌≡◌, ◌++◌, map, drop}
 use Rattle.spl_tree.specs.DeclarationTrees as decl
 use Rattle.spl_tree.specs.Spells.{declaration}
 use Rattle.spl_sorts.specs.spl_meaning.Names.{find}
-use Rattle.spl_depths.specs.spl_found.OwnNames.{behind_declarations}
+use Rattle.spl_spots.specs.spl_found.OwnNames.{behind_declarations}
 use Rattle.spl_sorts.specs.Tables.{table_of}
 use Rattle.spl_places.specs.ListedData.{datum_of, list_data}
 use Rattle.spl_places.proofs.data.declarations.Given as goal

@@ -2,7 +2,7 @@
 use Rattle.std.proofs.Common.{◌≡◌, ◌++◌, map, drop}
 use Rattle.spl_tree.specs.Spells.{item_tree}
 use Rattle.spl_sorts.specs.spl_meaning.Names.{find}
-use Rattle.spl_depths.specs.spl_found.OwnNames.{behind_items}
+use Rattle.spl_spots.specs.spl_found.OwnNames.{behind_items}
 use Rattle.spl_sorts.specs.Tables.{table_of}
 use Rattle.spl_places.specs.ListedData.{datum_of, items_data}
 use Rattle.spl_places.proofs.data.items.Given as goal

@@ -2,10 +2,10 @@
 use Rattle.std.proofs.Common.{map, refl}
 use Rattle.spl_sorts.specs.spl_meaning.Places.{places_from, arrays_from}
 use Rattle.spl_places.specs.ListedData.{datum_of}
-use Rattle.spl_places.specs.NameMaps.{entries_of}
+use Rattle.spl_spots.specs.NameMaps.{entries_of}
 use Rattle.spl_places.specs.Held.{named}
 use Rattle.spl_places.specs.Spots.{spot_of, array_of, place_in}
-use Rattle.spl_places.proofs.NameMapLemmas.{behind_empty}
+use Rattle.spl_spots.proofs.NameMapLemmas.{behind_empty}
 use Rattle.spl_places.proofs.places.list_places.Goals as goal
 
 pub loop-datum-init : goal.loop-datum-init

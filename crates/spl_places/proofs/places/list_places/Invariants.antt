@@ -3,7 +3,7 @@ use Rattle.std.proofs.Common.{◌≡◌, map, drop}
 use Rattle.spl_sorts.specs.spl_meaning.Names.{find}
 use Rattle.spl_sorts.specs.spl_meaning.Places.{places_from, arrays_from}
 use Rattle.spl_places.specs.ListedData.{datum_of}
-use Rattle.spl_places.specs.NameMaps.{entries_of, shown, behind_table}
+use Rattle.spl_spots.specs.NameMaps.{entries_of, shown, behind_table}
 use Rattle.spl_places.specs.Held.{named}
 use Rattle.spl_places.specs.Spots.{spot_of, array_of, place_in, behind_data}
 use Rattle.spl_places.proofs.places.list_places.Given as goal

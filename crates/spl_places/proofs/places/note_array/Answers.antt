@@ -6,11 +6,11 @@ use mir.Val.{SFits}
 use Rattle.spl_tree.specs.Views.{letters}
 use Rattle.spl_sorts.specs.spl_meaning.Names.{find}
 use Rattle.spl_sorts.specs.declared.sorts.Sort.{Sort}
-use Rattle.spl_depths.specs.spl_found.OwnNames.{with_name}
+use Rattle.spl_spots.specs.spl_found.OwnNames.{with_name}
 use Rattle.spl_sorts.specs.Sorts.{sort_of}
-use Rattle.spl_places.specs.NameMaps.{entries_of, shown}
+use Rattle.spl_spots.specs.NameMaps.{entries_of, shown}
 use Rattle.spl_places.specs.Spots.{spot_of, array_of, and_array}
-use Rattle.spl_places.proofs.NameMapLemmas.{shown_added}
+use Rattle.spl_spots.proofs.NameMapLemmas.{shown_added}
 use Rattle.spl_places.proofs.places.note_array.Goals as goal
 
 pub returns-in_ok-add-in-Array : goal.returns-in_ok-add-in-Array

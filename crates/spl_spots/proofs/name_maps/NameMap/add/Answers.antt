@@ -3,10 +3,10 @@ use Rattle.std.proofs.Common.{rules, ◌≡◌, is_some, None, true, ap, ◌∙�
 use Rattle.indexmap.proofs.CallerLemmas.{insert_entry-new}
 use Rattle.spl_tree.specs.Views.{letters}
 use Rattle.spl_sorts.specs.spl_meaning.Names.{find}
-use Rattle.spl_depths.proofs.spl_found_proofs.OwnNames.{still}
-use Rattle.spl_places.specs.NameMaps.{entries_of}
-use Rattle.spl_places.proofs.NameMapLemmas.{equal_names, entry_found, found_last}
-use Rattle.spl_places.proofs.name_maps.NameMap.add.Goals as goal
+use Rattle.spl_found.proofs.OwnNames.{still}
+use Rattle.spl_spots.specs.NameMaps.{entries_of}
+use Rattle.spl_spots.proofs.NameMapLemmas.{equal_names, entry_found, found_last}
+use Rattle.spl_spots.proofs.name_maps.NameMap.add.Goals as goal
 
 pub returns-in_ok-insert : goal.returns-in_ok-insert
 returns-in_ok-insert g c =

@@ -2,8 +2,8 @@
 ghost use Rattle.std.specs.Prelude.{◌≡◌, OnOk, []};
 ghost use Rattle.spl_tree.specs.Views.{letters};
 ghost use Rattle.spl_sorts.specs.spl_meaning.Names.{find};
-ghost use Rattle.spl_depths.specs.spl_found.OwnNames.{with_name};
-ghost use Rattle.spl_places.specs.NameMaps.{entries_of};
+ghost use Rattle.spl_found.specs.OwnNames.{with_name};
+ghost use Rattle.spl_spots.specs.NameMaps.{entries_of};
 
 use arrayvec::ArrayVec;
 use indexmap::IndexMap;

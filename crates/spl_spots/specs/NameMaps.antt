@@ -2,7 +2,7 @@
 use Rattle.std.specs.Prelude.{ℕ, List, map, Option, option_map}
 use Rattle.arrayvec.specs.ArrayVec.{ArrayVec}
 use Rattle.spl_sorts.specs.spl_meaning.Names.{Table, find, or_else}
-use Rattle.spl_places.specs.declared.name_maps.NameMap.{NameMap}
+use Rattle.spl_spots.specs.declared.name_maps.NameMap.{NameMap}
 
 -- a name with its value
 abbrev pub entry_of : {V : Type 0} → ArrayVec ℕ × V → List ℕ × V

@@ -1,7 +1,7 @@
 -- Limits that are passed, as the meaning of sources has them.
 use Rattle.std.specs.Prelude.{List, [], ◌∷◌, Option, Some, None}
 use Rattle.spl_sorts.specs.spl_meaning.Limits as limits
-use Rattle.spl_depths.specs.declared.full.Full.{Full}
+use Rattle.spl_spots.specs.declared.full.Full.{Full}
 
 -- a limit, a place and a count
 abbrev pub full_of : Full → limits.Full

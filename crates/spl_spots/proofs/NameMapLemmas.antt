@@ -6,9 +6,9 @@ use Rattle.std.proofs.lemmas.List.{map_push}
 use lib.Pointwise.{pointwise}
 use Rattle.arrayvec.specs.ArrayVec.{ArrayVec}
 use Rattle.spl_sorts.specs.spl_meaning.Names.{Table, find, or_else, same_name}
-use Rattle.spl_depths.specs.spl_found.OwnNames.{with_name}
-use Rattle.spl_depths.proofs.spl_found_proofs.OwnNames.{find_pushed}
-use Rattle.spl_places.specs.NameMaps.{entry_of, shown, behind_table}
+use Rattle.spl_found.specs.OwnNames.{with_name}
+use Rattle.spl_found.proofs.OwnNames.{find_pushed}
+use Rattle.spl_spots.specs.NameMaps.{entry_of, shown, behind_table}
 
 -- names are equal as their letters are
 abbrev pub equal_names : ArrayVec ℕ → ArrayVec ℕ → Bool

@@ -2,7 +2,7 @@
 ghost use Rattle.std.specs.Prelude.{◌≡◌, None, option_map};
 ghost use Rattle.spl_sorts.specs.spl_meaning.Faults as faults;
 ghost use Rattle.spl_sorts.specs.spl_meaning.Limits as limits;
-ghost use Rattle.spl_depths.specs.Fulls.{full_of};
+ghost use Rattle.spl_spots.specs.Fulls.{full_of};
 
 use spl_sorts::Fault;
 use spl_tree::At;
@@ -45,7 +45,7 @@ pub struct FirstFull {
 impl Model for FirstFull {
     ghost use Rattle.std.specs.Prelude.{Option, option_map};
     ghost use Rattle.spl_sorts.specs.spl_meaning.Limits as limits;
-    ghost use Rattle.spl_depths.specs.Fulls.{full_of};
+    ghost use Rattle.spl_spots.specs.Fulls.{full_of};
 
     ghost Value = { Option limits.Full };
 
