@@ -1,6 +1,6 @@
--- Many steps of a session, over one view and over several.
+-- Many steps of a session, over views of its program.
 -- 1. it begins, goes on by a step, and is over               (begins, one_more, one_last)
--- 2. what views hold, one after another                      (holds_by, over_twice)
+-- 2. what views hold                                         (views_of, runs_over)
 -- 3. all steps of a turn were made                           (all_made, none_left)
 use Rattle.std.proofs.Common.{◌≡◌, ℕ, suc, ◌+◌, ◌-◌, ◌<◌, ◌≤◌, Bool, true, false, List, Option, None, Some, refl, sym, ap, ◌∙◌, arith}
 use Rattle.std.specs.Prelude.{◌&&◌, IfSome, slice_get, option_map}
@@ -22,7 +22,7 @@ use Rattle.mpe_worlds.specs.RunSteps.{can_step, key_needed, stepped, stepping}
 use Rattle.mpe_worlds.proofs.RunLaws.{stepping-more, stepping-none, stepping-one, stepping-stays}
 use Rattle.mpe_turns.specs.declared.session.Session.{Session}
 use Rattle.mpe_turns.specs.Stands.{IsSessionOf, run_of}
-use Rattle.mpe_turns.specs.Steps.{MakesOne, MakesSome, RunsOver, area_of, held_by}
+use Rattle.mpe_turns.specs.Steps.{MakesOne, MakesSome, RunsOver, Views, area_of, held_by}
 
 module _ (p : Program) (a : Area) (until : ℕ) where
   pub begins : (s : Session) → IsSessionOf p s → MakesSome p a until s true s
@@ -65,10 +65,6 @@ module _ (p : Program) (a : Area) (until : ℕ) where
           session = one.session;
         }
 
-  -- some steps, and then some more
-  pub over_twice : (s t u : Session) (on : Bool) → MakesSome p a until s true t → MakesSome p a until t on u → MakesSome p a until s on u
-  over_twice s t u on first second = record { rest = second.rest ∙ first.rest; over = second.over; session = second.session }
-
   -- a session that can make no step more has made them all, and so has one that has made `until`
   pub none_left : (s u : Session) → MakesSome p a until s false u
       → run_of (segments_of p) u ≡ stepping (segments_of p) a (until - s.steps) (run_of (segments_of p) s)
@@ -95,19 +91,24 @@ area_seen overlay view code first second =
     let same : code.view.regions.now ≡ overlay.regions = rw first second in
     ap (λ (k : Kept). k.area) same
 
--- a session of a program runs over the view of that program
-pub runs_over : (overlay : Overlay) (view : View) (code : SegmentView) (p : Program) (s : Session)
-    → code.view.area ≡ view.area → code.view.regions ≡ view.regions → code.view.program ≡ view.program → view.program ≡ s.program
-    → ((segments : List (List ℕ)) (seg : ℕ) (words : List ℕ) → slice_get (codes_of overlay.programs.items) s.program ≡ Some segments
+-- the segments of an overlay's view of a program are segments of it
+pub views_of : (overlay : Overlay) (view : View) (code : SegmentView) (program : ℕ)
+    → code.view.area ≡ view.area → code.view.regions ≡ view.regions → code.view.program ≡ view.program → view.program ≡ program → view.regions.now ≡ overlay.regions
+    → ((segments : List (List ℕ)) (seg : ℕ) (words : List ℕ) → slice_get (codes_of overlay.programs.items) program ≡ Some segments
     → held_in view.area.now.items view.regions.now.area view.program seg ≡ Some words → slice_get segments seg ≡ Some words)
-    → slice_get overlay.programs.items s.program ≡ Some p → IsSessionOf p s → RunsOver p code s
-runs_over overlay view code p s area regions program same holds of session = record {
-  session = session;
-  holds = holds_by (segments_of p) (held_by code) (λ seg words h. holds (segments_of p) seg words at (sym (shown seg) ∙ h));
-  same_program = sym (program ∙ same);
+    → Views overlay program code
+views_of overlay view code program area regions same its sees holds = record {
+  area = area_seen overlay view code regions sees;
+  program = same ∙ its;
+  holds = λ p of. holds_by (segments_of p) (held_by code) (λ seg words h. holds (segments_of p) seg words (at p of) (sym (shown seg) ∙ h));
 } where
-  at : slice_get (codes_of overlay.programs.items) s.program ≡ Some (segments_of p)
-  at = slice_get-map segments_of overlay.programs.items s.program ∙ ap (option_map segments_of) of
+  at : (p : Program) → slice_get overlay.programs.items program ≡ Some p → slice_get (codes_of overlay.programs.items) program ≡ Some (segments_of p)
+  at p of = slice_get-map segments_of overlay.programs.items program ∙ ap (option_map segments_of) of
 
   shown : (seg : ℕ) → held_by code seg ≡ held_in view.area.now.items view.regions.now.area view.program seg
-  shown seg = rw (area, regions, program) refl
+  shown seg = rw (area, regions, same) refl
+
+-- a session of a program runs over such a view
+pub runs_over : (overlay : Overlay) (code : SegmentView) (p : Program) (s : Session) → Views overlay s.program code
+    → slice_get overlay.programs.items s.program ≡ Some p → IsSessionOf p s → RunsOver p code s
+runs_over overlay code p s views of session = record { session = session; holds = views.holds p of; same_program = sym views.program }

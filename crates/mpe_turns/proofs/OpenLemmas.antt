@@ -7,12 +7,10 @@ use Rattle.std.proofs.Common.{◌≡◌, ℕ, zero, suc, ◌+◌, ◌-◌, ◌/�
 use Rattle.std.specs.Prelude.{slice_get, option_map, ◌⊎◌}
 use Rattle.std.proofs.lemmas.Bool.{cases_lt, le-ltb, lt-ltb}
 use Rattle.std.proofs.lemmas.Bool.Decides.{nat_tests}
-use Rattle.std.proofs.lemmas.List.{append-nil, append_assoc, map-append, length-append, drop-replicate, replicate-append-replicate, take_at, take-take, at_drop_more, length-map}
+use Rattle.std.proofs.lemmas.List.{append-nil, append_assoc, map-append, length-append, drop-replicate, replicate-append-replicate, take_at, take-take, at_drop_more}
 use Rattle.std.proofs.lemmas.Option.{same_Some, get_or_from_slice_get, slice_get-map, slice_get_read, slice_get_within, option_and_then_some}
 use Rattle.hp_program.specs.declared.program.Program.{Program}
 use Rattle.hp_program.specs.Programs.{segments_of}
-use Rattle.hp_program.specs.Valid.{is_head}
-use Rattle.hp_program.proofs.ValidLaws.{right_head}
 use Rattle.hp_word.specs.declared.arithmetic.Code.TheVariants.{Equal}
 use Rattle.hp_word.specs.declared.endings.Ending.TheVariants.{Running}
 use Rattle.mpe_gate.specs.hp_tos.declared.stack.Stack.{Stack}
@@ -33,6 +31,7 @@ use Rattle.mpe_turns.specs.declared.session.Session.{Session}
 use Rattle.mpe_turns.specs.Opening.{AreSeats, first_of_two, small_stack, small_stack_from, stack_needed}
 use Rattle.mpe_turns.specs.Opened.{AreOpened}
 use Rattle.mpe_turns.specs.Stands.{IsKept, IsSessionOf, run_of, runs_of}
+use Rattle.mpe_turns.proofs.StepLemmas.{few_segments}
 use Rattle.mpe_turns.proofs.TurnLemmas.{program_segments}
 
 -- Seats within the limits.
@@ -120,14 +119,6 @@ pub segment_read : (p : Program) (i : ℕ) (v : Vec ℕ Global) → i < length p
     → slice_get (segments_of p) i ≡ Some v.items
 segment_read p i v lt is = slice_get-map (λ (w : Vec ℕ Global). w.items) p.segments.items i
     ∙ ap (option_map (λ (w : Vec ℕ Global). w.items)) (slice_get_read p.segments.items (length p.segments.items) i v refl lt is)
-
--- a program has at most 62 segments
-pub few_segments : (p : Program) → length p.segments.items ≤ 62
-unfolding is_head
-few_segments p =
-    let head = right_head (segments_of p) p.main p.entry p.globals.items p.valid in
-    let same : length (segments_of p) ≡ length p.segments.items = length-map p.segments.items (λ (w : Vec ℕ Global). w.items) in
-    grind (arith, nat_tests)
 
 -- no segment of a program is larger than its largest
 within_segment : (segments : List (List ℕ)) (k : ℕ) (words : List ℕ) → slice_get segments k ≡ Some words → length words ≤ largest_segment segments

@@ -1,10 +1,14 @@
 -- One step of a session is one step of its world's session.
 -- 1. what the view holds is what is loaded                     (held_live, needed_live)
--- 2. the numbers after a step are those of the definition      (counted)
--- 3. a step by what the processor answered                     (went, waited, trapped, served)
-use Rattle.std.proofs.Common.{◌≡◌, ℕ, ◌+◌, ◌<◌, Bool, true, false, List, length, Option, None, Some, refl, sym, ap, subst, ◌∙◌}
+-- 2. a session of a program needs one of its segments          (needed_within, needed_small)
+-- 3. the numbers after a step are those of the definition      (counted)
+-- 4. a step by what the processor answered                     (went, waited, trapped, served)
+use Rattle.std.proofs.Common.{◌≡◌, ℕ, ◌+◌, ◌<◌, ◌≤◌, Bool, true, false, List, length, Vec, Global, Option, None, Some, refl, sym, ap, subst, ◌∙◌, arith}
 use Rattle.std.specs.Prelude.{◌&&◌, is_some, IsSome, option_map, slice_get, unwrap_or, Result, Ok, Err}
 use Rattle.std.proofs.lemmas.Bool.{lt-ltb}
+use Rattle.std.proofs.lemmas.Bool.Decides.{nat_tests}
+use Rattle.std.proofs.lemmas.List.{length-map}
+use Rattle.std.proofs.lemmas.Option.{slice_get_within}
 use Rattle.hp_word.specs.declared.endings.Ending.{Ending}
 use Rattle.hp_word.specs.declared.endings.Ending.TheVariants.{Running, Terminated, Quit, Trapped as StoodTrapped}
 use Rattle.hp_word.specs.declared.endings.Trap.{Trap}
@@ -24,7 +28,8 @@ use Rattle.mpe_worlds.specs.hp_calls.declared.phases.Phase.{Phase}
 use Rattle.mpe_worlds.specs.hp_calls.declared.phases.Phase.TheVariants.{Ready, Entering, Returning}
 use Rattle.mpe_worlds.specs.hp_calls.Phases.{destination, finished}
 use Rattle.mpe_gate.specs.hp_rows.Flushes.{flush_moved}
-use Rattle.hp_program.proofs.ValidLaws.{program_labels_lead}
+use Rattle.hp_program.specs.Valid.{is_head, is_local_entry}
+use Rattle.hp_program.proofs.ValidLaws.{program_labels_lead, right_head}
 use Rattle.mpe_worlds.proofs.hp_flat_proofs.StepKeeping.{step-continues}
 use Rattle.mpe_worlds.specs.hp_flat.Step.{ended, is_running, step}
 use Rattle.mpe_worlds.specs.hp_cpu.declared.cpu.Cpu.{Cpu}
@@ -79,6 +84,34 @@ can_step-held segments words a s runs lt =
     ∙ sym (held_live words a s.program (needed s.cpu) lt)
 
 -- A program's session.
+
+-- a program has at most 62 segments
+pub few_segments : (p : Program) → length p.segments.items ≤ 62
+unfolding is_head
+few_segments p =
+    let head = right_head (segments_of p) p.main p.entry p.globals.items p.valid in
+    let same : length (segments_of p) ≡ length p.segments.items = length-map p.segments.items (λ (w : Vec ℕ Global). w.items) in
+    grind (arith, nat_tests)
+
+-- the segment that a session needs is one of its program
+pub needed_within : (p : Program) (s : Session) → IsSessionOf p s → needed s.cpu < length (segments_of p)
+unfolding is_local_entry
+needed_within p s is = by s.cpu.phase refl where
+  entry_there : (o : Option (List ℕ)) (seg entry : ℕ) → slice_get (segments_of p) seg ≡ o → is_local_entry o entry ≡ true → seg < length (segments_of p)
+  entry_there None seg entry at leads = cc
+  entry_there (Some words) seg entry at leads = slice_get_within (segments_of p) seg words at
+
+  by : (phase : Phase) → s.cpu.phase ≡ phase → unwrap_or (destination phase) s.cpu.regs.seg < length (segments_of p)
+  by Ready e = is.current
+  by (Entering seg entry) e = entry_there (slice_get (segments_of p) seg) seg entry refl (is.entering seg entry e)
+  by (Returning seg offset) e = is.returning seg offset e
+
+pub needed_small : (p : Program) (s : Session) → IsSessionOf p s → needed s.cpu < 256
+needed_small p s is =
+    let within = needed_within p s is in
+    let few = few_segments p in
+    let same : length (segments_of p) ≡ length p.segments.items = length-map p.segments.items (λ (w : Vec ℕ Global). w.items) in
+    omega (arith, within, few, same)
 
 -- what is kept of it is that its processor suits the program
 pub suits_of : (p : Program) (s : Session) → IsSessionOf p s → Suits (segments_of p) s.cpu
@@ -258,9 +291,9 @@ ends_so o seat new Went is e ended runs = cc
 ends_so o seat new (Ended ending) is e ended runs = is.0 cc
 ends_so o seat new (Trapped t) is e ended runs = cc
 
-module _ (p : Program) (code : SegmentView) (old : Session) (over : RunsOver p code old) (runs : old.ending ≡ Running) (lt : needed old.cpu < 256) where
+module _ (p : Program) (code : SegmentView) (old : Session) (over : RunsOver p code old) (runs : old.ending ≡ Running) where
   can_is : can_step (area_of code) (run_of (segments_of p) old) ≡ is_some (held_by code (needed old.cpu))
-  can_is = can_step-held (segments_of p) code.view.area.now.items (area_of code) old runs lt
+  can_is = can_step-held (segments_of p) code.view.area.now.items (area_of code) old runs (needed_small p old over.session)
       ∙ ap (λ (k : ℕ). is_some (held_in code.view.area.now.items (area_of code) k (needed old.cpu))) over.same_program
 
   pub one_went : (cpu : Cpu) → Goes (segments_of p) (held_by code) old.cpu cpu → Suits (segments_of p) cpu

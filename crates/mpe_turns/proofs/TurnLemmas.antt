@@ -11,10 +11,6 @@ use Rattle.hp_word.specs.declared.endings.Ending.{Ending}
 use Rattle.hp_word.specs.declared.endings.Ending.TheVariants.{Running}
 use Rattle.hp_program.specs.declared.program.Program.{Program}
 use Rattle.hp_program.specs.Programs.{segments_of}
-use Rattle.hp_program.specs.Valid.{is_local_entry}
-use Rattle.mpe_worlds.specs.hp_calls.declared.phases.Phase.{Phase}
-use Rattle.mpe_worlds.specs.hp_calls.declared.phases.Phase.TheVariants.{Ready, Entering, Returning}
-use Rattle.mpe_worlds.specs.hp_calls.Phases.{destination}
 use Rattle.mpe_worlds.specs.hp_flat.Step.{is_running}
 use Rattle.mpe_worlds.specs.hp_cpu.Stood.{needed}
 use Rattle.mpe_overlay.specs.mpe_regions.Area.{Area, is_live}
@@ -31,7 +27,7 @@ use Rattle.mpe_turns.specs.declared.session.Session.{Session}
 use Rattle.mpe_turns.specs.declared.session.Turned.{Turned}
 use Rattle.mpe_turns.specs.Stands.{IsKept, IsSessionOf, run_of, runs_of}
 use Rattle.mpe_turns.specs.Answers.{Advances, answer_at, answer_by, answer_of}
-use Rattle.mpe_turns.proofs.StepLemmas.{segment_needed}
+use Rattle.mpe_turns.proofs.StepLemmas.{needed_within, segment_needed}
 
 -- a session that lives, where it was read
 pub live_session : (sessions : List Session) (who : ℕ) (s : Session) → IsSomeAnd (slice_get sessions who) (λ x. x.ending ≡ Running) → s ≡ get_or sessions who s
@@ -49,19 +45,7 @@ program_there [] k lt = absurd (omega arith)
 program_there (p ∷ programs) zero lt = (p, refl)
 program_there (p ∷ programs) (suc k) lt = program_there programs k (omega arith)
 
--- the segment that a session needs is one of its program, so it fits into the area
-needed_within : (p : Program) (s : Session) → IsSessionOf p s → needed s.cpu < length (segments_of p)
-unfolding is_local_entry
-needed_within p s is = by s.cpu.phase refl where
-  entry_there : (o : Option (List ℕ)) (seg entry : ℕ) → slice_get (segments_of p) seg ≡ o → is_local_entry o entry ≡ true → seg < length (segments_of p)
-  entry_there None seg entry at leads = cc
-  entry_there (Some words) seg entry at leads = slice_get_within (segments_of p) seg words at
-
-  by : (phase : Phase) → s.cpu.phase ≡ phase → unwrap_or (destination phase) s.cpu.regs.seg < length (segments_of p)
-  by Ready e = is.current
-  by (Entering seg entry) e = entry_there (slice_get (segments_of p) seg) seg entry refl (is.entering seg entry e)
-  by (Returning seg offset) e = is.returning seg offset e
-
+-- the segment that a session needs fits into the area
 pub needed_fits : (programs : List Program) (size : ℕ) (sessions : List Session) (loads turns spent who seg : ℕ) (s : Session) (p : Program)
     → IsKept programs size sessions loads turns spent → slice_get sessions who ≡ Some s → slice_get programs s.program ≡ Some p
     → seg ≡ needed s.cpu → seg < 256

@@ -1,20 +1,21 @@
-//! The steps of a turn: one step of a session, many over the segment at hand, and all of them.
-ghost use Rattle.std.specs.Prelude.{◌≡◌, ℕ, ◌+◌, ◌-◌, ◌<◌, ◌≤◌, ◌^◌, ◌==◌, List, true, false, slice_get, Some};
+//! The steps of a turn: one step of a session, and all of them.
+ghost use Rattle.std.specs.Prelude.{◌≡◌, ◌≢◌, ◌↔◌, ◌+◌, ◌-◌, ◌<◌, ◌≤◌, ◌^◌, ◌==◌, true, false, slice_get, Some, IsSomeAnd, IsTrue};
 ghost use Rattle.hp_word.specs.declared.endings.Ending.TheVariants.{Running};
 ghost use Rattle.hp_program.specs.declared.program.Program.{Program};
 ghost use Rattle.hp_program.specs.Programs.{segments_of};
 ghost use Rattle.mpe_gate.specs.hp_tos.StackView.{seen};
+ghost use Rattle.mpe_worlds.specs.hp_calls.Phases.{destination};
 ghost use Rattle.mpe_worlds.specs.hp_cpu.Stood.{needed};
 ghost use Rattle.mpe_worlds.specs.RunSteps.{stepping};
 ghost use Rattle.mpe_turns.specs.Stands.{IsSessionOf, run_of};
 ghost use Rattle.mpe_turns.specs.Answers.{answer_by};
-ghost use Rattle.mpe_turns.specs.Steps.{MakesOne, MakesSome, RunsOver, ServesCall, area_of};
+ghost use Rattle.mpe_turns.specs.Steps.{MakesOne, RunsOver, ServesCall, Views, area_of};
 
 use crate::session::{Session, Turned};
 use hp_word::{Ending, Intrinsic};
 use mpe_gate::{Served, serve};
 use mpe_overlay::{Overlay, SegmentView};
-use mpe_worlds::hp_cpu::Stepped;
+use mpe_worlds::hp_cpu::{Phase, Stepped};
 
 /// Counts a step after which the session goes on.
 #[inline(always)]
@@ -62,12 +63,9 @@ fn serve_call(session: &mut Session, intrinsic: Intrinsic) -> bool
 fn make_step(session: &mut Session, code: &SegmentView<'_>) -> bool
     requires running { session.old.ending ≡ Running }
     requires few { session.old.steps < 2 ^ 60 }
-    requires here { needed session.old.cpu ≡ code.now.seg }
-    requires small { needed session.old.cpu < 256 }
     ensures steps { (p : Program) → RunsOver p code.now session.old → MakesOne p (area_of code.now) session.old result session.new }
     ensures on { result ≡ true → (session.new.steps ≡ session.old.steps + 1) × (session.new.ending ≡ Running) }
     ensures few { session.new.steps ≤ session.old.steps + 1 }
-    ensures later { session.old.steps ≤ session.new.steps }
     ensures program { session.new.program ≡ session.old.program }
 {
     match session.cpu.step(code) {
@@ -78,29 +76,28 @@ fn make_step(session: &mut Session, code: &SegmentView<'_>) -> bool
     }
 }
 
-/// Steps over the segment at hand, until the session has made `until` steps in all or needs another segment. Whether it goes on
-/// is the answer.
-fn run_in(session: &mut Session, code: &SegmentView<'_>, until: u64) -> bool
-    requires running { session.old.ending ≡ Running }
-    requires until { until ≤ 2 ^ 60 }
-    requires below { session.old.steps ≤ until }
-    ensures steps { (p : Program) → RunsOver p code.now session.old → MakesSome p (area_of code.now) until session.old result session.new }
-    ensures on { result ≡ true → session.new.ending ≡ Running }
-    ensures more { result ≡ true → needed session.old.cpu ≡ code.now.seg → session.old.steps < until → session.old.steps < session.new.steps }
-    ensures later { session.old.steps ≤ session.new.steps }
-    ensures until { session.new.steps ≤ until }
-    ensures program { session.new.program ≡ session.old.program }
+/// The loaded segments of a session's program, with the one at hand that its next step needs.
+fn code_for<'a>(session: &Session, overlay: &'a Overlay) -> SegmentView<'a>
+    ensures { Views overlay.now session.now.program result }
 {
-    'stepping: while session.steps < until && session.cpu.needed_segment() == code.seg {
-        if !make_step(session, code) {
-            return false;
-        }
-    }
-    true
+    overlay
+        .view(session.program)
+        .segment(session.cpu.needed_segment())
 }
 
-/// Steps until the session has made `until` steps in all, has ended, or needs a segment that is not loaded. Where it goes on in
-/// another segment, that one is looked up once.
+/// Whether a transfer is under way to another segment than the one at hand.
+#[inline(always)]
+fn leaves(phase: Phase, seg: u8) -> bool
+    ensures { IsTrue result ↔ IsSomeAnd (destination phase) (λ to. to ≢ seg) }
+{
+    match phase {
+        Phase::Ready => false,
+        Phase::Entering { seg: to, .. } | Phase::Returning { seg: to, .. } => to != seg,
+    }
+}
+
+/// Steps until the session has made `until` steps in all, has ended, or needs a segment that is not loaded. The segment that it
+/// runs in is looked up once, and so is each that a transfer leads to.
 pub(crate) fn run(session: &mut Session, overlay: &Overlay, until: u64)
     requires running { session.old.ending ≡ Running }
     requires until { until ≤ 2 ^ 60 }
@@ -111,10 +108,13 @@ pub(crate) fn run(session: &mut Session, overlay: &Overlay, until: u64)
     ensures until { session.new.steps ≤ until }
     ensures program { session.new.program ≡ session.old.program }
 {
-    'turn: while session.steps < until {
-        let seg = session.cpu.needed_segment();
-        let code = overlay.view(session.program).segment(seg);
-        if !run_in(session, &code, until) {
+    let mut code = code_for(session, overlay);
+    'stepping: while session.steps < until {
+        // where none does, a word of another segment would still be found, by its region
+        if leaves(session.cpu.phase, code.seg) {
+            code = code_for(session, overlay);
+        }
+        if !make_step(session, &code) {
             return;
         }
     }

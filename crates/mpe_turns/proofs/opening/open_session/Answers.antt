@@ -4,7 +4,8 @@ use Rattle.std.proofs.lemmas.List.{length-map}
 use Rattle.hp_program.specs.Programs.{segments_of}
 use Rattle.hp_program.specs.Valid.{label_of}
 use Rattle.hp_program.proofs.ValidLaws.{main_there}
-use Rattle.mpe_turns.proofs.OpenLemmas.{few_segments, opened_run}
+use Rattle.mpe_turns.proofs.StepLemmas.{few_segments}
+use Rattle.mpe_turns.proofs.OpenLemmas.{opened_run}
 use Rattle.mpe_turns.proofs.opening.open_session.Goals as goal
 
 pub overflow_cast-cpu : goal.overflow_cast-cpu
