@@ -1,2 +1,3 @@
 pub mod NestLemmas
+pub mod PieceLemmas
 pub mod ViewLemmas

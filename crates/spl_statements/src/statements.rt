@@ -1,6 +1,10 @@
 //! Statements. The rule that reads the statement inside another is a parameter, so that each rule is proved by itself.
+//!
+//! At a fault what was read is dropped by a call of `drop`, as in the levels of operators: a `?` writes out the drop of all that
+//! it lets go. So what is read behind a part is read by a function that holds none.
 ghost use Rattle.std.specs.Prelude.{◌≡◌, ◌<◌, ◌≤◌, ◌-◌, [], ◌∷◌, IsTrue, length};
 ghost use Rattle.spl_tree.specs.declared.symbols.Symbol.{Symbol};
+ghost use Rattle.spl_tree.specs.declared.symbols.Reserved.{Reserved};
 ghost use Rattle.spl_tree.specs.Trees as tree;
 ghost use Rattle.spl_tree.specs.StatementTrees as stat;
 ghost use Rattle.spl_tree.specs.Views as view;
@@ -11,10 +15,11 @@ ghost use Rattle.spl_tokens.specs.Reads.{Reads, lexeme, paired};
 ghost use Rattle.spl_effects.specs.References.{behind, statements};
 ghost use Rattle.spl_statements.specs.Nests.{Nests};
 ghost use Rattle.spl_statements.specs.Nests as nests;
+ghost use Rattle.spl_statements.specs.Pieces as pieces;
 
 use crate::trees::{
-    Values, block, call, case_of, done, empty, for_values, go_to, if_else, if_then, labelled,
-    returned, until_true, while_true,
+    Values, block, call, case_of, done, empty, for_values, go_to, if_test, labelled, pushed,
+    returned, single, until_true, while_true,
 };
 use spl_effects::{assigned, behind_reference, effect, element, test, variable};
 use spl_levels::{arguments_within, condition_within, enter, expression_within};
@@ -41,6 +46,54 @@ fn stepped(alloc: Global, tokens: &mut Tokens<'_>, room: u8) -> Result<Option<Ex
         Ok(Some(expression_within(alloc, tokens, room)?))
     } else {
         Ok(None)
+    }
+}
+
+/// The condition behind UNTIL.
+#[tactic(auto, using(spl_tokens::proofs::Steps::steps), unfolding(spl_reading::specs::Readers::pure, spl_reading::specs::Readers::refuse, spl_reading::specs::Readers::followed, spl_reading::specs::Readers::and_then, crate::specs::Pieces::until_condition))]
+fn until_condition(alloc: Global, tokens: &mut Tokens<'_>, room: u8) -> Result<Expr, Fault>
+    ensures { Reads view.expression (pieces.until_condition room tokens.old) result tokens.new }
+{
+    tokens.expect(Symbol::Word(Reserved::Until))?;
+    condition_within(alloc, tokens, room)
+}
+
+/// The value behind UNTIL.
+#[tactic(auto, using(spl_tokens::proofs::Steps::steps), unfolding(spl_reading::specs::Readers::pure, spl_reading::specs::Readers::refuse, spl_reading::specs::Readers::followed, spl_reading::specs::Readers::and_then, crate::specs::Pieces::limit))]
+fn limit(alloc: Global, tokens: &mut Tokens<'_>, room: u8) -> Result<Expr, Fault>
+    ensures { Reads view.expression (pieces.limit room tokens.old) result tokens.new }
+{
+    tokens.expect(Symbol::Word(Reserved::Until))?;
+    expression_within(alloc, tokens, room)
+}
+
+/// The step of a FOR, where there is one, and its last value.
+#[tactic(auto, using(spl_tokens::proofs::Steps::steps), unfolding(spl_reading::specs::Readers::pure, spl_reading::specs::Readers::refuse, spl_reading::specs::Readers::followed, spl_reading::specs::Readers::and_then, crate::specs::Pieces::bounds))]
+fn bounds(alloc: Global, tokens: &mut Tokens<'_>, room: u8) -> Result<(Option<Expr>, Expr), Fault>
+    ensures { Reads pieces.step_and_last (pieces.bounds room tokens.old) result tokens.new }
+{
+    let step = stepped(alloc, tokens, room)?;
+    match limit(alloc, tokens, room) {
+        Ok(last) => Ok((step, last)),
+        Err(fault) => {
+            drop(step);
+            Err(fault)
+        }
+    }
+}
+
+/// The values of a FOR.
+#[tactic(auto, using(spl_tokens::proofs::Steps::steps), unfolding(spl_reading::specs::Readers::pure, spl_reading::specs::Readers::refuse, spl_reading::specs::Readers::followed, spl_reading::specs::Readers::and_then, crate::specs::Pieces::values))]
+fn values(alloc: Global, tokens: &mut Tokens<'_>, room: u8) -> Result<Values, Fault>
+    ensures { Reads pieces.all_of (pieces.values room tokens.old) result tokens.new }
+{
+    let first = expression_within(alloc, tokens, room)?;
+    match bounds(alloc, tokens, room) {
+        Ok((step, last)) => Ok(Values { first, step, last }),
+        Err(fault) => {
+            drop(first);
+            Err(fault)
+        }
     }
 }
 
@@ -91,20 +144,45 @@ impl<F: Fn(Global, &mut Tokens<'_>, u8) -> Result<Stmt, Fault> + Copy> Statement
         (self.statement)(self.alloc, tokens, self.room - 1)
     }
 
+    /// The statement inside, in a box.
+    #[tactic(auto, using(spl_tokens::proofs::Steps::steps))]
+    fn boxed(&self, tokens: &mut Tokens<'_>) -> Result<Box<Stmt>, Fault>
+        requires nests { Nests self.now.room (F.pre self.now.statement) (F.post self.now.statement) }
+        requires room { 0 < self.now.room }
+        ensures { Reads pieces.in_box (nests.inner self.now.room tokens.old) result tokens.new }
+    {
+        Ok(Box::new(self.alloc, self.inside(tokens)?)?)
+    }
+
+    /// The statement behind a semicolon, where there is one.
+    #[tactic(auto, using(spl_tokens::proofs::Steps::steps), unfolding(spl_reading::specs::Readers::pure, spl_reading::specs::Readers::refuse, spl_reading::specs::Readers::followed, spl_reading::specs::Readers::and_then, crate::specs::Pieces::marked))]
+    fn following(&self, tokens: &mut Tokens<'_>) -> Result<Option<Stmt>, Fault>
+        requires nests { Nests self.now.room (F.pre self.now.statement) (F.post self.now.statement) }
+        requires room { 0 < self.now.room }
+        ensures { Reads pieces.optional (pieces.marked self.now.room Symbol.Semicolon tokens.old) result tokens.new }
+    {
+        if same(tokens.peek()?, Symbol::Semicolon) {
+            tokens.take()?;
+            Ok(Some(self.inside(tokens)?))
+        } else {
+            Ok(None)
+        }
+    }
+
     /// A further statement, and whether another may follow.
-    #[tactic(auto, using(spl_tokens::proofs::Steps::steps, spl_tokens::proofs::Steps::pushed), unfolding(spl_reading::specs::Readers::pure, spl_reading::specs::Readers::refuse, spl_reading::specs::Readers::followed, spl_reading::specs::Readers::and_then, spl_reading::specs::ReadStatements::more_statements))]
+    #[tactic(auto, using(spl_tokens::proofs::Steps::steps, crate::proofs::PieceLemmas::further_is), unfolding(spl_reading::specs::Readers::pure, spl_reading::specs::Readers::refuse, spl_reading::specs::Readers::followed, spl_reading::specs::Readers::and_then))]
     fn further(&self, tokens: &mut Tokens<'_>, read: Vec<Stmt>) -> Result<(bool, Vec<Stmt>), Fault>
         requires nests { Nests self.now.room (F.pre self.now.statement) (F.post self.now.statement) }
         requires room { 0 < self.now.room }
         ensures { Reads (paired statements) (spec.more_statements (nests.inner self.now.room) (statements read) tokens.old) result tokens.new }
     {
-        let mut read = read;
-        if same(tokens.peek()?, Symbol::Semicolon) {
-            tokens.take()?;
-            read.push(self.inside(tokens)?)?;
-            Ok((true, read))
-        } else {
-            Ok((false, read))
+        match self.following(tokens) {
+            Ok(None) => Ok((false, read)),
+            Ok(Some(next)) => Ok((true, pushed(read, next)?)),
+            Err(fault) => {
+                drop(read);
+                Err(fault)
+            }
         }
     }
 
@@ -134,7 +212,7 @@ impl<F: Fn(Global, &mut Tokens<'_>, u8) -> Result<Stmt, Fault> + Copy> Statement
         ensures { Reads statements (spec.statement_list (nests.inner self.now.room) tokens.old) result tokens.new }
     {
         let first = self.inside(tokens)?;
-        self.more(tokens, vec![in self.alloc; first]?)
+        self.more(tokens, single(self.alloc, first)?)
     }
 
     /// A statement behind its label, from the colon on.
@@ -145,8 +223,8 @@ impl<F: Fn(Global, &mut Tokens<'_>, u8) -> Result<Stmt, Fault> + Copy> Statement
         ensures { Reads view.statement (nests.labelled self.now.room (lexeme token.now) tokens.old) result tokens.new }
     {
         enter(tokens, self.room, 0)?;
-        let body = self.inside(tokens)?;
-        Ok(labelled(self.alloc, name(token), token.at, body)?)
+        let body = self.boxed(tokens)?;
+        Ok(labelled(name(token), token.at, body))
     }
 
     /// A statement that begins with a name and a parenthesis.
@@ -201,74 +279,117 @@ impl<F: Fn(Global, &mut Tokens<'_>, u8) -> Result<Stmt, Fault> + Copy> Statement
     {
         enter(tokens, self.room, 0)?;
         let inside = self.list(tokens)?;
-        tokens.expect(Symbol::Word(Reserved::End))?;
-        Ok(block(inside))
+        match tokens.expect(Symbol::Word(Reserved::End)) {
+            Ok(_) => Ok(block(inside)),
+            Err(fault) => {
+                drop(inside);
+                Err(fault)
+            }
+        }
+    }
+
+    /// The statement inside, behind a word.
+    #[tactic(auto, using(spl_tokens::proofs::Steps::steps), unfolding(spl_reading::specs::Readers::pure, spl_reading::specs::Readers::refuse, spl_reading::specs::Readers::followed, spl_reading::specs::Readers::and_then, crate::specs::Pieces::behind))]
+    fn behind(&self, tokens: &mut Tokens<'_>, word: Reserved) -> Result<Box<Stmt>, Fault>
+        requires nests { Nests self.now.room (F.pre self.now.statement) (F.post self.now.statement) }
+        requires room { 0 < self.now.room }
+        ensures { Reads pieces.in_box (pieces.behind self.now.room word tokens.old) result tokens.new }
+    {
+        tokens.expect(Symbol::Word(word))?;
+        self.boxed(tokens)
+    }
+
+    /// The statement of ELSE, where there is one.
+    #[tactic(auto, using(spl_tokens::proofs::Steps::steps), unfolding(spl_reading::specs::Readers::pure, spl_reading::specs::Readers::refuse, spl_reading::specs::Readers::followed, spl_reading::specs::Readers::and_then, crate::specs::Pieces::marked))]
+    fn otherwise(&self, tokens: &mut Tokens<'_>) -> Result<Option<Box<Stmt>>, Fault>
+        requires nests { Nests self.now.room (F.pre self.now.statement) (F.post self.now.statement) }
+        requires room { 0 < self.now.room }
+        ensures { Reads pieces.boxed (pieces.marked self.now.room (Symbol.Word Reserved.Else) tokens.old) result tokens.new }
+    {
+        if same(tokens.peek()?, Symbol::Word(Reserved::Else)) {
+            tokens.take()?;
+            Ok(Some(self.boxed(tokens)?))
+        } else {
+            Ok(None)
+        }
     }
 
     /// An IF behind the statement of its THEN.
-    #[tactic(auto, using(spl_tokens::proofs::Steps::steps), unfolding(spl_reading::specs::Readers::pure, spl_reading::specs::Readers::refuse, spl_reading::specs::Readers::followed, spl_reading::specs::Readers::and_then, spl_reading::specs::ReadStatements::else_behind))]
+    #[tactic(auto, using(spl_tokens::proofs::Steps::steps, crate::proofs::PieceLemmas::else_is), unfolding(spl_reading::specs::Readers::pure, spl_reading::specs::Readers::refuse, spl_reading::specs::Readers::followed, spl_reading::specs::Readers::and_then))]
     fn else_behind(
         &self,
         tokens: &mut Tokens<'_>,
         token: &Token,
         test: Test,
-        yes: Stmt,
+        yes: Box<Stmt>,
     ) -> Result<Stmt, Fault>
         requires nests { Nests self.now.room (F.pre self.now.statement) (F.post self.now.statement) }
         requires room { 0 < self.now.room }
-        ensures { Reads view.statement (nests.else_behind self.now.room (lexeme token.now) (view.test_tree test) (view.statement yes) tokens.old) result tokens.new }
+        ensures { Reads view.statement (nests.else_behind self.now.room (lexeme token.now) (view.test_tree test) (view.statement yes.value) tokens.old) result tokens.new }
     {
-        let at = token.at;
-        if same(tokens.peek()?, Symbol::Word(Reserved::Else)) {
-            tokens.take()?;
-            let no = self.inside(tokens)?;
-            Ok(if_else(self.alloc, test, yes, no, at)?)
-        } else {
-            Ok(if_then(self.alloc, test, yes, at)?)
+        match self.otherwise(tokens) {
+            Ok(no) => Ok(if_test(test, yes, no, token.at)),
+            Err(fault) => {
+                drop(test);
+                drop(yes);
+                Err(fault)
+            }
         }
     }
 
     /// IF.
-    #[tactic(auto, using(spl_tokens::proofs::Steps::steps, crate::proofs::NestLemmas::below_is), unfolding(spl_reading::specs::Readers::pure, spl_reading::specs::Readers::refuse, spl_reading::specs::Readers::followed, spl_reading::specs::Readers::and_then, spl_reading::specs::ReadStatements::if_statement))]
+    #[tactic(auto, using(spl_tokens::proofs::Steps::steps, crate::proofs::NestLemmas::below_is, crate::proofs::PieceLemmas::if_is), unfolding(spl_reading::specs::Readers::pure, spl_reading::specs::Readers::refuse, spl_reading::specs::Readers::followed, spl_reading::specs::Readers::and_then))]
     fn if_statement(&self, tokens: &mut Tokens<'_>) -> Result<Stmt, Fault>
         requires nests { Nests self.now.room (F.pre self.now.statement) (F.post self.now.statement) }
         ensures { Reads view.statement (nests.if_statement self.now.room tokens.old) result tokens.new }
     {
         let token = enter(tokens, self.room, 0)?;
         let test = test(self.alloc, tokens, self.room - 1)?;
-        tokens.expect(Symbol::Word(Reserved::Then))?;
-        let yes = self.inside(tokens)?;
-        self.else_behind(tokens, token, test, yes)
+        match self.behind(tokens, Reserved::Then) {
+            Ok(yes) => self.else_behind(tokens, token, test, yes),
+            Err(fault) => {
+                drop(test);
+                Err(fault)
+            }
+        }
     }
 
     /// WHILE.
-    #[tactic(auto, using(spl_tokens::proofs::Steps::steps, crate::proofs::NestLemmas::below_is), unfolding(spl_reading::specs::Readers::pure, spl_reading::specs::Readers::refuse, spl_reading::specs::Readers::followed, spl_reading::specs::Readers::and_then, spl_reading::specs::ReadStatements::while_statement))]
+    #[tactic(auto, using(spl_tokens::proofs::Steps::steps, crate::proofs::NestLemmas::below_is, crate::proofs::PieceLemmas::while_is), unfolding(spl_reading::specs::Readers::pure, spl_reading::specs::Readers::refuse, spl_reading::specs::Readers::followed, spl_reading::specs::Readers::and_then))]
     fn while_statement(&self, tokens: &mut Tokens<'_>) -> Result<Stmt, Fault>
         requires nests { Nests self.now.room (F.pre self.now.statement) (F.post self.now.statement) }
         ensures { Reads view.statement (nests.while_statement self.now.room tokens.old) result tokens.new }
     {
         let at = enter(tokens, self.room, 0)?.at;
         let test = condition_within(self.alloc, tokens, self.room - 1)?;
-        tokens.expect(Symbol::Word(Reserved::Do))?;
-        let body = self.inside(tokens)?;
-        Ok(while_true(self.alloc, test, body, at)?)
+        match self.behind(tokens, Reserved::Do) {
+            Ok(body) => Ok(while_true(test, body, at)),
+            Err(fault) => {
+                drop(test);
+                Err(fault)
+            }
+        }
     }
 
     /// DO and UNTIL.
-    #[tactic(auto, using(spl_tokens::proofs::Steps::steps, crate::proofs::NestLemmas::below_is), unfolding(spl_reading::specs::Readers::pure, spl_reading::specs::Readers::refuse, spl_reading::specs::Readers::followed, spl_reading::specs::Readers::and_then, spl_reading::specs::ReadStatements::do_statement))]
+    #[tactic(auto, using(spl_tokens::proofs::Steps::steps, crate::proofs::NestLemmas::below_is, crate::proofs::PieceLemmas::do_is), unfolding(spl_reading::specs::Readers::pure, spl_reading::specs::Readers::refuse, spl_reading::specs::Readers::followed, spl_reading::specs::Readers::and_then))]
     fn do_statement(&self, tokens: &mut Tokens<'_>) -> Result<Stmt, Fault>
         requires nests { Nests self.now.room (F.pre self.now.statement) (F.post self.now.statement) }
         ensures { Reads view.statement (nests.do_statement self.now.room tokens.old) result tokens.new }
     {
         let at = enter(tokens, self.room, 0)?.at;
-        let body = self.inside(tokens)?;
-        tokens.expect(Symbol::Word(Reserved::Until))?;
-        let test = condition_within(self.alloc, tokens, self.room - 1)?;
-        Ok(until_true(self.alloc, body, test, at)?)
+        let body = self.boxed(tokens)?;
+        match until_condition(self.alloc, tokens, self.room - 1) {
+            Ok(test) => Ok(until_true(body, test, at)),
+            Err(fault) => {
+                drop(body);
+                Err(fault)
+            }
+        }
     }
 
     /// FOR.
-    #[tactic(auto, using(spl_tokens::proofs::Steps::steps, crate::proofs::NestLemmas::below_is), unfolding(spl_reading::specs::Readers::pure, spl_reading::specs::Readers::refuse, spl_reading::specs::Readers::followed, spl_reading::specs::Readers::and_then, spl_reading::specs::ReadStatements::for_statement))]
+    #[tactic(auto, using(spl_tokens::proofs::Steps::steps, crate::proofs::NestLemmas::below_is, crate::proofs::PieceLemmas::for_is), unfolding(spl_reading::specs::Readers::pure, spl_reading::specs::Readers::refuse, spl_reading::specs::Readers::followed, spl_reading::specs::Readers::and_then))]
     fn for_statement(&self, tokens: &mut Tokens<'_>) -> Result<Stmt, Fault>
         requires nests { Nests self.now.room (F.pre self.now.statement) (F.post self.now.statement) }
         ensures { Reads view.statement (nests.for_statement self.now.room tokens.old) result tokens.new }
@@ -276,29 +397,50 @@ impl<F: Fn(Global, &mut Tokens<'_>, u8) -> Result<Stmt, Fault> + Copy> Statement
         let at = enter(tokens, self.room, 0)?.at;
         let token = tokens.expect(Symbol::Name)?;
         tokens.expect(Symbol::Assign)?;
-        let first = expression_within(self.alloc, tokens, self.room - 1)?;
-        let step = stepped(self.alloc, tokens, self.room - 1)?;
-        tokens.expect(Symbol::Word(Reserved::Until))?;
-        let last = expression_within(self.alloc, tokens, self.room - 1)?;
-        tokens.expect(Symbol::Word(Reserved::Do))?;
-        let body = self.inside(tokens)?;
-        let values = Values { first, step, last };
-        Ok(for_values(self.alloc, name(token), values, body, at)?)
+        let values = values(self.alloc, tokens, self.room - 1)?;
+        match self.behind(tokens, Reserved::Do) {
+            Ok(body) => Ok(for_values(name(token), values, body, at)),
+            Err(fault) => {
+                drop(values);
+                Err(fault)
+            }
+        }
+    }
+
+    /// What a CASE chooses from, between BEGIN and END.
+    #[tactic(auto, using(spl_tokens::proofs::Steps::steps), unfolding(spl_reading::specs::Readers::pure, spl_reading::specs::Readers::refuse, spl_reading::specs::Readers::followed, spl_reading::specs::Readers::and_then, crate::specs::Pieces::arms))]
+    fn arms(&self, tokens: &mut Tokens<'_>) -> Result<Vec<Stmt>, Fault>
+        requires nests { Nests self.now.room (F.pre self.now.statement) (F.post self.now.statement) }
+        requires room { 0 < self.now.room }
+        ensures { Reads statements (pieces.arms self.now.room tokens.old) result tokens.new }
+    {
+        tokens.expect(Symbol::Word(Reserved::Of))?;
+        tokens.expect(Symbol::Word(Reserved::Begin))?;
+        let arms = self.list(tokens)?;
+        match tokens.expect(Symbol::Word(Reserved::End)) {
+            Ok(_) => Ok(arms),
+            Err(fault) => {
+                drop(arms);
+                Err(fault)
+            }
+        }
     }
 
     /// CASE.
-    #[tactic(auto, using(spl_tokens::proofs::Steps::steps, crate::proofs::NestLemmas::below_is), unfolding(spl_reading::specs::Readers::pure, spl_reading::specs::Readers::refuse, spl_reading::specs::Readers::followed, spl_reading::specs::Readers::and_then, spl_reading::specs::ReadStatements::case_statement))]
+    #[tactic(auto, using(spl_tokens::proofs::Steps::steps, crate::proofs::NestLemmas::below_is, crate::proofs::PieceLemmas::case_is), unfolding(spl_reading::specs::Readers::pure, spl_reading::specs::Readers::refuse, spl_reading::specs::Readers::followed, spl_reading::specs::Readers::and_then))]
     fn case_statement(&self, tokens: &mut Tokens<'_>) -> Result<Stmt, Fault>
         requires nests { Nests self.now.room (F.pre self.now.statement) (F.post self.now.statement) }
         ensures { Reads view.statement (nests.case_statement self.now.room tokens.old) result tokens.new }
     {
         let at = enter(tokens, self.room, 0)?.at;
         let of = expression_within(self.alloc, tokens, self.room - 1)?;
-        tokens.expect(Symbol::Word(Reserved::Of))?;
-        tokens.expect(Symbol::Word(Reserved::Begin))?;
-        let arms = self.list(tokens)?;
-        tokens.expect(Symbol::Word(Reserved::End))?;
-        Ok(case_of(of, arms, at))
+        match self.arms(tokens) {
+            Ok(arms) => Ok(case_of(of, arms, at)),
+            Err(fault) => {
+                drop(of);
+                Err(fault)
+            }
+        }
     }
 
     /// GO or GO TO.

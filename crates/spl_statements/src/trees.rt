@@ -1,9 +1,10 @@
 //! The trees of statements.
-ghost use Rattle.std.specs.Prelude.{◌≡◌, [], ◌∷◌, map, IfOk};
+ghost use Rattle.std.specs.Prelude.{◌≡◌, [], ◌∷◌, map, IfOk, ◌++◌};
 ghost use Rattle.spl_tree.specs.Trees as tree;
 ghost use Rattle.spl_tree.specs.StatementTrees as stat;
 ghost use Rattle.spl_tree.specs.Views as view;
 ghost use Rattle.spl_effects.specs.References.{statements};
+ghost use Rattle.spl_statements.specs.Pieces.{boxed};
 
 use spl_tree::{At, Effect, Expr, Name, Stmt, Test};
 use std::alloc::{AllocError, Global};
@@ -22,11 +23,10 @@ pub fn empty() -> Stmt
     Stmt::Empty
 }
 
-pub fn labelled(alloc: Global, name: Name, at: At, body: Stmt) -> Result<Stmt, AllocError>
-    ensures { IfOk result (λ s. view.statement s ≡ stat.Statement.labelled (view.letters name) at (view.statement body)) }
+pub fn labelled(name: Name, at: At, body: Box<Stmt>) -> Stmt
+    ensures { view.statement result ≡ stat.Statement.labelled (view.letters name) at (view.statement body.value) }
 {
-    let body = Box::new(alloc, body)?;
-    Ok(Stmt::Labelled { name, at, body })
+    Stmt::Labelled { name, at, body }
 }
 
 pub fn block(inside: Vec<Stmt>) -> Stmt
@@ -35,64 +35,36 @@ pub fn block(inside: Vec<Stmt>) -> Stmt
     Stmt::Block(inside)
 }
 
-pub fn if_then(alloc: Global, test: Test, yes: Stmt, at: At) -> Result<Stmt, AllocError>
-    ensures { IfOk result (λ s. view.statement s ≡ stat.Statement.if_test (view.test_tree test) (view.statement yes) (stat.statements []) at) }
+pub fn if_test(test: Test, yes: Box<Stmt>, no: Option<Box<Stmt>>, at: At) -> Stmt
+    ensures { view.statement result ≡ stat.Statement.if_test (view.test_tree test) (view.statement yes.value) (stat.statements (boxed no)) at }
 {
-    let yes = Box::new(alloc, yes)?;
-    Ok(Stmt::If {
-        test,
-        yes,
-        no: None,
-        at,
-    })
+    Stmt::If { test, yes, no, at }
 }
 
-pub fn if_else(alloc: Global, test: Test, yes: Stmt, no: Stmt, at: At) -> Result<Stmt, AllocError>
-    ensures { IfOk result (λ s. view.statement s ≡ stat.Statement.if_test (view.test_tree test) (view.statement yes) (stat.statements (view.statement no ∷ [])) at) }
+pub fn while_true(test: Expr, body: Box<Stmt>, at: At) -> Stmt
+    ensures { view.statement result ≡ stat.Statement.while_true (view.expression test) (view.statement body.value) at }
 {
-    let yes = Box::new(alloc, yes)?;
-    let no = Box::new(alloc, no)?;
-    Ok(Stmt::If {
-        test,
-        yes,
-        no: Some(no),
-        at,
-    })
+    Stmt::While { test, body, at }
 }
 
-pub fn while_true(alloc: Global, test: Expr, body: Stmt, at: At) -> Result<Stmt, AllocError>
-    ensures { IfOk result (λ s. view.statement s ≡ stat.Statement.while_true (view.expression test) (view.statement body) at) }
+pub fn until_true(body: Box<Stmt>, test: Expr, at: At) -> Stmt
+    ensures { view.statement result ≡ stat.Statement.until_true (view.statement body.value) (view.expression test) at }
 {
-    let body = Box::new(alloc, body)?;
-    Ok(Stmt::While { test, body, at })
+    Stmt::Until { body, test, at }
 }
 
-pub fn until_true(alloc: Global, body: Stmt, test: Expr, at: At) -> Result<Stmt, AllocError>
-    ensures { IfOk result (λ s. view.statement s ≡ stat.Statement.until_true (view.statement body) (view.expression test) at) }
-{
-    let body = Box::new(alloc, body)?;
-    Ok(Stmt::Until { body, test, at })
-}
-
-pub fn for_values(
-    alloc: Global,
-    name: Name,
-    values: Values,
-    body: Stmt,
-    at: At,
-) -> Result<Stmt, AllocError>
-    ensures { IfOk result (λ s. view.statement s ≡ stat.Statement.for_values (view.letters name) (view.expression values.first) (tree.trees (view.optional values.step)) (view.expression values.last) (view.statement body) at) }
+pub fn for_values(name: Name, values: Values, body: Box<Stmt>, at: At) -> Stmt
+    ensures { view.statement result ≡ stat.Statement.for_values (view.letters name) (view.expression values.first) (tree.trees (view.optional values.step)) (view.expression values.last) (view.statement body.value) at }
 {
     let Values { first, step, last } = values;
-    let body = Box::new(alloc, body)?;
-    Ok(Stmt::For {
+    Stmt::For {
         name,
         first,
         step,
         last,
         body,
         at,
-    })
+    }
 }
 
 pub fn case_of(of: Expr, arms: Vec<Stmt>, at: At) -> Stmt
@@ -123,4 +95,26 @@ pub fn call(name: Name, args: Vec<Expr>, at: At) -> Stmt
     ensures { view.statement result ≡ stat.Statement.call (view.letters name) (tree.trees (map view.expression args.items)) at }
 {
     Stmt::Call { name, args, at }
+}
+
+/// A list of one statement.
+pub fn single(alloc: Global, only: Stmt) -> Result<Vec<Stmt>, AllocError>
+    ensures { IfOk result (λ xs. statements xs ≡ view.statement only ∷ []) }
+{
+    pushed(Vec::new(alloc), only)
+}
+
+/// A list with one statement more.
+#[tactic(auto, using(spl_tokens::proofs::Steps::pushed))]
+pub fn pushed(read: Vec<Stmt>, next: Stmt) -> Result<Vec<Stmt>, AllocError>
+    ensures { IfOk result (λ xs. statements xs ≡ statements read ++ view.statement next ∷ []) }
+{
+    let mut read = read;
+    match read.push(next) {
+        Ok(()) => Ok(read),
+        Err(error) => {
+            drop(read);
+            Err(error.into())
+        }
+    }
 }
