@@ -1,2 +1,1 @@
 pub mod UnitParts
-pub mod Nests

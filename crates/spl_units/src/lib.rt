@@ -1,7 +1,6 @@
-//! Declarations, bodies and units, read from the tokens of a text.
+//! Bodies and units, read from the tokens of a text.
 #![tactic(auto)]
 
-mod declarations;
 mod units;
 
 pub use spl_statements;

@@ -1,20 +1,21 @@
 //! Bodies and units.
-ghost use Rattle.std.specs.Prelude.{◌≡◌, ◌<◌, [], ◌∷◌, false, true};
+ghost use Rattle.std.specs.Prelude.{◌≡◌, ◌<◌, [], ◌∷◌, false, true, IfOk};
 ghost use Rattle.spl_tree.specs.Views as view;
 ghost use Rattle.spl_tree.specs.Spells as spells;
 ghost use Rattle.spl_reading.specs.Readers as readers;
+ghost use Rattle.spl_reading.specs.ReadStatements as stat;
 ghost use Rattle.spl_reading.specs.ReadDeclarations as spec;
 ghost use Rattle.spl_reading.specs.ReadDeclarations.{bodies};
-ghost use Rattle.spl_tokens.specs.Reads.{Reads};
+ghost use Rattle.spl_tokens.specs.Reads.{Reads, shown};
 ghost use Rattle.spl_items.specs.Lists as lists;
 ghost use Rattle.spl_units.specs.UnitParts as parts;
 
-use crate::declarations::Declarations;
+use spl_declarations::Declarations;
 use spl_items::{all_in_segment, can_be_body};
 use spl_statements::{statement, statement_list};
 use spl_tokens::{Fault, Tokens, same};
-use spl_tree::{At, Decl, Reserved, Stmt, Symbol};
-use std::alloc::Global;
+use spl_tree::{At, Decl, Reserved, Stmt, Symbol, Token};
+use std::alloc::{AllocError, Global};
 
 /// The parts of a unit that its tokens spell.
 #[derive(Debug, Drop)]
@@ -39,8 +40,31 @@ fn no_body(
     Err(Fault::Syntax)
 }
 
+/// The statement of a subroutine.
+fn subroutine_statement(alloc: Global, tokens: &mut Tokens<'_>, room: u8) -> Result<Stmt, Fault>
+    ensures { Reads view.statement (stat.statement room tokens.old) result tokens.new }
+{
+    statement(alloc, tokens, room)
+}
+
+/// Statements with the END behind them.
+#[tactic(auto, using(spl_tokens::proofs::Steps::steps), unfolding(spl_reading::specs::Readers::pure, spl_reading::specs::Readers::refuse, spl_reading::specs::Readers::followed, spl_reading::specs::Readers::and_then, crate::specs::UnitParts::ended))]
+fn ended(alloc: Global, tokens: &mut Tokens<'_>, room: u8) -> Result<Vec<Stmt>, Fault>
+    requires { room < 255 }
+    ensures { Reads lists.statements (parts.ended room tokens.old) result tokens.new }
+{
+    let statements = statement_list(alloc, tokens, room)?;
+    match tokens.expect(Symbol::Word(Reserved::End)) {
+        Ok(_) => Ok(statements),
+        Err(fault) => {
+            drop(statements);
+            Err(fault)
+        }
+    }
+}
+
 /// Declarations and statements between BEGIN and END.
-#[tactic(auto, using(spl_tokens::proofs::Steps::steps), unfolding(spl_reading::specs::Readers::pure, spl_reading::specs::Readers::refuse, spl_reading::specs::Readers::followed, spl_reading::specs::Readers::and_then))]
+#[tactic(auto, using(spl_tokens::proofs::Steps::steps, crate::proofs::PartLemmas::block_is), unfolding(spl_reading::specs::Readers::pure, spl_reading::specs::Readers::refuse, spl_reading::specs::Readers::followed, spl_reading::specs::Readers::and_then))]
 fn block_body(
     alloc: Global,
     tokens: &mut Tokens<'_>,
@@ -56,11 +80,16 @@ fn block_body(
         room,
         unit: false,
         body: no_body,
+        statement: subroutine_statement,
     };
     let items = declarations.list(tokens, segment)?;
-    let statements = statement_list(alloc, tokens, room)?;
-    tokens.expect(Symbol::Word(Reserved::End))?;
-    Ok((items, statements))
+    match ended(alloc, tokens, room) {
+        Ok(statements) => Ok((items, statements)),
+        Err(fault) => {
+            drop(items);
+            Err(fault)
+        }
+    }
 }
 
 /// A statement as a body.
@@ -108,28 +137,74 @@ fn unit_declarations(alloc: Global, tokens: &mut Tokens<'_>, room: u8) -> Result
         room,
         unit: true,
         body,
+        statement: subroutine_statement,
     };
     declarations.list(tokens, 0)
 }
 
+/// The dot of a unit, and the end of its tokens.
+#[tactic(auto, using(spl_tokens::proofs::Steps::steps), unfolding(spl_reading::specs::Readers::pure, spl_reading::specs::Readers::refuse, spl_reading::specs::Readers::followed, spl_reading::specs::Readers::and_then, crate::specs::UnitParts::stopped))]
+fn stopped<'a>(tokens: &mut Tokens<'a>) -> Result<&'a Token, Fault>
+    ensures { Reads shown (parts.stopped tokens.old) result tokens.new }
+{
+    tokens.expect(Symbol::Dot)?;
+    tokens.expect(Symbol::Stop)
+}
+
+/// The main body of a unit, with the segment in force at its first token.
+#[tactic(auto, using(spl_tokens::proofs::Steps::steps), unfolding(spl_reading::specs::Readers::pure, spl_reading::specs::Readers::refuse, spl_reading::specs::Readers::followed, spl_reading::specs::Readers::and_then, crate::specs::UnitParts::main_body))]
+fn main_body(alloc: Global, tokens: &mut Tokens<'_>, room: u8) -> Result<(u16, Vec<Stmt>), Fault>
+    requires { room < 255 }
+    ensures { Reads parts.main (parts.main_body room tokens.old) result tokens.new }
+{
+    let segment = tokens.segment()?;
+    let statements = ended(alloc, tokens, room)?;
+    match stopped(tokens) {
+        Ok(_) => Ok((segment, statements)),
+        Err(fault) => {
+            drop(statements);
+            Err(fault)
+        }
+    }
+}
+
+/// The parts of a unit by what was read; its subroutines get the segment of the main body.
+fn unit_parts(
+    alloc: Global,
+    declared: Vec<Decl>,
+    main: (u16, Vec<Stmt>),
+    at: At,
+) -> Result<UnitParts, AllocError>
+    ensures { IfOk result (λ u. parts.parts u ≡ parts.unit_of (lists.declarations declared) (parts.main main) at) }
+{
+    let (segment, statements) = main;
+    match all_in_segment(alloc, declared, segment) {
+        Ok(items) => Ok(UnitParts {
+            items,
+            statements,
+            segment,
+            at,
+        }),
+        Err(error) => {
+            drop(statements);
+            Err(error)
+        }
+    }
+}
+
 /// A unit, where so many constructs may be opened.
-#[tactic(auto, using(spl_tokens::proofs::Steps::steps), unfolding(spl_reading::specs::Readers::pure, spl_reading::specs::Readers::refuse, spl_reading::specs::Readers::followed, spl_reading::specs::Readers::and_then, spl_reading::specs::ReadDeclarations::unit))]
+#[tactic(auto, using(spl_tokens::proofs::Steps::steps, crate::proofs::PartLemmas::unit_is), unfolding(spl_reading::specs::Readers::pure, spl_reading::specs::Readers::refuse, spl_reading::specs::Readers::followed, spl_reading::specs::Readers::and_then))]
 pub fn unit(alloc: Global, tokens: &mut Tokens<'_>, room: u8) -> Result<UnitParts, Fault>
     requires { room < 255 }
     ensures { Reads parts.parts (spec.unit room tokens.old) result tokens.new }
 {
     let at = tokens.expect(Symbol::Word(Reserved::Begin))?.at;
     let declared = unit_declarations(alloc, tokens, room)?;
-    let segment = tokens.segment()?;
-    let statements = statement_list(alloc, tokens, room)?;
-    tokens.expect(Symbol::Word(Reserved::End))?;
-    tokens.expect(Symbol::Dot)?;
-    tokens.expect(Symbol::Stop)?;
-    let items = all_in_segment(alloc, declared, segment)?;
-    Ok(UnitParts {
-        items,
-        statements,
-        segment,
-        at,
-    })
+    match main_body(alloc, tokens, room) {
+        Ok(main) => Ok(unit_parts(alloc, declared, main, at)?),
+        Err(fault) => {
+            drop(declared);
+            Err(fault)
+        }
+    }
 }

@@ -1,5 +1,6 @@
-//! Declarations. The rule that reads the body of a procedure is a parameter: in a procedure none is declared.
-ghost use Rattle.std.specs.Prelude.{◌≡◌, if◌then◌else◌};
+//! Declarations. The rules that read the body of a procedure and the statement of a subroutine are parameters: in a
+//! procedure no procedure is declared, and what is declared is proved apart from what a statement is.
+ghost use Rattle.std.specs.Prelude.{◌≡◌, ◌++◌, [], ◌∷◌, if◌then◌else◌, IfOk};
 ghost use Rattle.spl_tree.specs.Views as view;
 ghost use Rattle.spl_tree.specs.Spells as spells;
 ghost use Rattle.spl_reading.specs.Readers as readers;
@@ -7,27 +8,29 @@ ghost use Rattle.spl_reading.specs.ReadDeclarations as spec;
 ghost use Rattle.spl_tokens.specs.Reads.{Reads, lexeme, paired};
 ghost use Rattle.spl_items.specs.Lists as lists;
 ghost use Rattle.spl_items.specs.Headings as headings;
-ghost use Rattle.spl_units.specs.Nests.{ReadsBodies};
-ghost use Rattle.spl_units.specs.Nests as nests;
+ghost use Rattle.spl_declarations.specs.Nests.{ReadsBodies, ReadsStatements};
+ghost use Rattle.spl_declarations.specs.Nests as nests;
+ghost use Rattle.spl_declarations.specs.Pieces as pieces;
 
 use spl_items::{
     Options, arrays, declared_data, equals, equate, external, forward, heading, intrinsic,
     is_subroutine, items, label, names, option_list, pointers, procedure, subroutine, with_split,
 };
-use spl_statements::statement;
 use spl_tokens::{Fault, Tokens, same};
 use spl_tree::{Decl, Heading, Kind, Reserved, Stmt, Symbol};
-use std::alloc::Global;
+use std::alloc::{AllocError, Global};
 
 /// The rules of declarations, where so many constructs may be opened.
 #[derive(Clone, Copy)]
-pub struct Declarations<B> {
+pub struct Declarations<B, S> {
     pub alloc: Global,
     pub room: u8,
     /// Whether procedures are declared.
     pub unit: bool,
     /// Reads the body of a procedure of a segment.
     pub body: B,
+    /// Reads the statement of a subroutine.
+    pub statement: S,
 }
 
 /// A list of arrays, from the word ARRAY on.
@@ -114,17 +117,38 @@ fn declares(symbol: Symbol, room: u8, unit: bool) -> bool
     }
 }
 
+/// A list with one declaration more.
+#[tactic(auto, using(spl_tokens::proofs::Steps::pushed))]
+fn pushed(read: Vec<Decl>, next: Decl) -> Result<Vec<Decl>, AllocError>
+    ensures { IfOk result (λ ds. lists.declarations ds ≡ lists.declarations read ++ spells.declaration next ∷ []) }
+{
+    let mut read = read;
+    match read.push(next) {
+        Ok(()) => Ok(read),
+        Err(error) => {
+            drop(read);
+            Err(error.into())
+        }
+    }
+}
+
 impl<
     B: Fn(Global, &mut Tokens<'_>, u8, u16) -> Result<(Vec<Decl>, Vec<Stmt>), Fault> + Copy,
-> Declarations<B> {
+    S: Fn(Global, &mut Tokens<'_>, u8) -> Result<Stmt, Fault> + Copy,
+> Declarations<B, S> {
     /// A procedure with the body that stands behind its heading.
     #[tactic(auto, using(spl_tokens::proofs::Steps::steps), unfolding(spl_reading::specs::Readers::pure, spl_reading::specs::Readers::refuse, spl_reading::specs::Readers::followed, spl_reading::specs::Readers::and_then))]
     fn with_body(&self, tokens: &mut Tokens<'_>, heading: Heading) -> Result<Decl, Fault>
         requires bodies { ReadsBodies self.now.room self.now.unit (B.pre self.now.body) (B.post self.now.body) }
         ensures { Reads spells.declaration (nests.with_body self.now.room self.now.unit (spells.heading_tree heading) tokens.old) result tokens.new }
     {
-        let (items, statements) = (self.body)(self.alloc, tokens, self.room, heading.segment)?;
-        Ok(procedure(heading, items, statements))
+        match (self.body)(self.alloc, tokens, self.room, heading.segment) {
+            Ok((items, statements)) => Ok(procedure(heading, items, statements)),
+            Err(fault) => {
+                drop(heading);
+                Err(fault)
+            }
+        }
     }
 
     /// A procedure behind its options: FORWARD and EXTERNAL have no body.
@@ -182,11 +206,17 @@ impl<
         segment: u16,
         kind: Option<Kind>,
     ) -> Result<Decl, Fault>
+        requires statements { ReadsStatements self.now.room (S.pre self.now.statement) (S.post self.now.statement) }
         ensures { Reads spells.declaration (nests.subroutine self.now.room self.now.unit segment kind tokens.old) result tokens.new }
     {
         let heading = heading(self.alloc, tokens, kind, Some(segment))?;
-        let inside = statement(self.alloc, tokens, self.room)?;
-        Ok(subroutine(with_split(heading, false), inside))
+        match (self.statement)(self.alloc, tokens, self.room) {
+            Ok(inside) => Ok(subroutine(with_split(heading, false), inside)),
+            Err(fault) => {
+                drop(heading);
+                Err(fault)
+            }
+        }
     }
 
     /// A declaration behind the word of its kind; behind subroutines only subroutines stand.
@@ -199,6 +229,7 @@ impl<
         kind: Kind,
     ) -> Result<Decl, Fault>
         requires bodies { ReadsBodies self.now.room self.now.unit (B.pre self.now.body) (B.post self.now.body) }
+        requires statements { ReadsStatements self.now.room (S.pre self.now.statement) (S.post self.now.statement) }
         ensures { Reads spells.declaration (nests.typed self.now.room self.now.unit after segment kind tokens.old) result tokens.new }
     {
         let next = tokens.peek()?;
@@ -240,6 +271,7 @@ impl<
         word: Reserved,
     ) -> Result<Decl, Fault>
         requires bodies { ReadsBodies self.now.room self.now.unit (B.pre self.now.body) (B.post self.now.body) }
+        requires statements { ReadsStatements self.now.room (S.pre self.now.statement) (S.post self.now.statement) }
         ensures { Reads spells.declaration (nests.by_word self.now.room self.now.unit after segment word tokens.old) result tokens.new }
     {
         match word {
@@ -271,6 +303,7 @@ impl<
     #[tactic(auto, using(spl_tokens::proofs::Steps::steps), unfolding(spl_reading::specs::Readers::pure, spl_reading::specs::Readers::refuse, spl_reading::specs::Readers::followed, spl_reading::specs::Readers::and_then, spl_reading::specs::ReadDeclarations::declaration, spl_reading::specs::ReadDeclarations::declaration_by))]
     fn declaration(&self, tokens: &mut Tokens<'_>, after: bool, segment: u16) -> Result<Decl, Fault>
         requires bodies { ReadsBodies self.now.room self.now.unit (B.pre self.now.body) (B.post self.now.body) }
+        requires statements { ReadsStatements self.now.room (S.pre self.now.statement) (S.post self.now.statement) }
         ensures { Reads spells.declaration (nests.declaration self.now.room self.now.unit after segment tokens.old) result tokens.new }
     {
         match tokens.peek()? {
@@ -283,8 +316,44 @@ impl<
         }
     }
 
-    /// A further declaration with its semicolon, and whether another may follow.
-    #[tactic(auto, using(spl_tokens::proofs::Steps::steps, spl_tokens::proofs::Steps::pushed), unfolding(spl_reading::specs::Readers::pure, spl_reading::specs::Readers::refuse, spl_reading::specs::Readers::followed, spl_reading::specs::Readers::and_then, spl_reading::specs::ReadDeclarations::more_declarations))]
+    /// A declaration with its semicolon.
+    #[tactic(auto, using(spl_tokens::proofs::Steps::steps), unfolding(spl_reading::specs::Readers::pure, spl_reading::specs::Readers::refuse, spl_reading::specs::Readers::followed, spl_reading::specs::Readers::and_then, crate::specs::Pieces::ended))]
+    fn ended(&self, tokens: &mut Tokens<'_>, after: bool, segment: u16) -> Result<Decl, Fault>
+        requires bodies { ReadsBodies self.now.room self.now.unit (B.pre self.now.body) (B.post self.now.body) }
+        requires statements { ReadsStatements self.now.room (S.pre self.now.statement) (S.post self.now.statement) }
+        ensures { Reads spells.declaration (pieces.ended self.now.room self.now.unit after segment tokens.old) result tokens.new }
+    {
+        let next = self.declaration(tokens, after, segment)?;
+        match tokens.expect(Symbol::Semicolon) {
+            Ok(_) => Ok(next),
+            Err(fault) => {
+                drop(next);
+                Err(fault)
+            }
+        }
+    }
+
+    /// A further declaration with its semicolon, where there is one.
+    #[tactic(auto, using(spl_tokens::proofs::Steps::steps), unfolding(spl_reading::specs::Readers::pure, spl_reading::specs::Readers::refuse, spl_reading::specs::Readers::followed, spl_reading::specs::Readers::and_then, crate::specs::Pieces::next))]
+    fn next(
+        &self,
+        tokens: &mut Tokens<'_>,
+        after: bool,
+        segment: u16,
+    ) -> Result<Option<Decl>, Fault>
+        requires bodies { ReadsBodies self.now.room self.now.unit (B.pre self.now.body) (B.post self.now.body) }
+        requires statements { ReadsStatements self.now.room (S.pre self.now.statement) (S.post self.now.statement) }
+        ensures { Reads pieces.optional (pieces.next self.now.room self.now.unit after segment tokens.old) result tokens.new }
+    {
+        if declares(tokens.peek()?, self.room, self.unit) {
+            Ok(Some(self.ended(tokens, after, segment)?))
+        } else {
+            Ok(None)
+        }
+    }
+
+    /// The declarations with a further one, and whether another may follow.
+    #[tactic(auto, using(spl_tokens::proofs::Steps::steps, crate::proofs::PieceLemmas::further_is), unfolding(spl_reading::specs::Readers::pure, spl_reading::specs::Readers::refuse, spl_reading::specs::Readers::followed, spl_reading::specs::Readers::and_then))]
     fn further(
         &self,
         tokens: &mut Tokens<'_>,
@@ -293,17 +362,19 @@ impl<
         read: Vec<Decl>,
     ) -> Result<(bool, (bool, Vec<Decl>)), Fault>
         requires bodies { ReadsBodies self.now.room self.now.unit (B.pre self.now.body) (B.post self.now.body) }
+        requires statements { ReadsStatements self.now.room (S.pre self.now.statement) (S.post self.now.statement) }
         ensures { Reads (paired lists.state) (nests.more_declarations self.now.room self.now.unit segment (lists.state (after, read)) tokens.old) result tokens.new }
     {
-        let mut read = read;
-        if declares(tokens.peek()?, self.room, self.unit) {
-            let next = self.declaration(tokens, after, segment)?;
-            tokens.expect(Symbol::Semicolon)?;
-            let after = is_subroutine(&next);
-            read.push(next)?;
-            Ok((true, (after, read)))
-        } else {
-            Ok((false, (after, read)))
+        match self.next(tokens, after, segment) {
+            Ok(None) => Ok((false, (after, read))),
+            Ok(Some(next)) => {
+                let after = is_subroutine(&next);
+                Ok((true, (after, pushed(read, next)?)))
+            }
+            Err(fault) => {
+                drop(read);
+                Err(fault)
+            }
         }
     }
 
@@ -311,6 +382,7 @@ impl<
     #[tactic(auto, using(spl_tokens::proofs::Steps::steps, spl_tokens::proofs::Turns::loops), unfolding(spl_reading::specs::Readers::pure, spl_reading::specs::Readers::refuse, spl_reading::specs::Readers::followed, spl_reading::specs::Readers::and_then, spl_reading::specs::ReadDeclarations::declaration_list))]
     pub fn list(&self, tokens: &mut Tokens<'_>, segment: u16) -> Result<Vec<Decl>, Fault>
         requires bodies { ReadsBodies self.now.room self.now.unit (B.pre self.now.body) (B.post self.now.body) }
+        requires statements { ReadsStatements self.now.room (S.pre self.now.statement) (S.post self.now.statement) }
         ensures { Reads lists.declarations (nests.declaration_list self.now.room self.now.unit segment tokens.old) result tokens.new }
     {
         let mut after = false;

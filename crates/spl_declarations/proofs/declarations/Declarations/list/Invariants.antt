@@ -1,8 +1,8 @@
 use Rattle.std.proofs.Common.{◌≡◌, ◌-◌}
 use Rattle.spl_reading.specs.Readers.{turns, repeat}
 use Rattle.spl_items.specs.Lists as lists
-use Rattle.spl_units.specs.Nests as nests
-use Rattle.spl_units.proofs.declarations.Declarations.list.Given as goal
+use Rattle.spl_declarations.specs.Nests as nests
+use Rattle.spl_declarations.proofs.declarations.Declarations.list.Given as goal
 
 -- the turns that are left read the rest
 abbrev pub invariant-loop-turn : goal.invariant-loop-turn

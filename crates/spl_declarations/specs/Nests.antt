@@ -1,4 +1,5 @@
--- A function value that reads the bodies of procedures, and the rules of declarations by it.
+-- Function values that read the bodies of procedures and the statements of subroutines, and the rules of declarations
+-- by them.
 use Rattle.std.specs.Prelude.{ℕ, Bool, true, false, if◌then◌else◌, List, Option, Result, Vec}
 use Rattle.std.specs.declared.alloc.Global.{Global}
 use denote.Ref.{MutBor}
@@ -13,8 +14,10 @@ use Rattle.spl_tree.specs.declared.symbols.Reserved.TheVariants as w
 use Rattle.spl_tree.specs.declared.expressions.Kind.TheVariants as kinds
 use Rattle.spl_tree.specs.DeclarationTrees as decl
 use Rattle.spl_tree.specs.Declarations as dl
+use Rattle.spl_tree.specs.Views as view
 use Rattle.spl_reading.specs.Readers.{Parser, ◌>>=◌, by_symbol, take, expect, pure, refuse}
 use Rattle.spl_reading.specs.ReadExpressions.{is}
+use Rattle.spl_reading.specs.ReadStatements as st
 use Rattle.spl_reading.specs.ReadDeclarations as r
 use Rattle.spl_reading.specs.ReadDeclarations.{bodies}
 use Rattle.spl_tokens.specs.declared.faults.Fault.{Fault}
@@ -28,6 +31,12 @@ pub record ReadsBodies (room : ℕ) (unit : Bool) (pre : Global → MutBor (List
   pub reads : (alloc : Global) (old new : MutBor (List Lexeme)) (segment : ℕ) (result : Result (Vec Decl Global
       × Vec Stmt Global) Fault)
       → post alloc old room segment result new → Reads lists.body (bodies room unit segment old.now) result new.now
+
+pub record ReadsStatements (room : ℕ) (pre : Global → MutBor (List Lexeme) → ℕ → Type 0)
+    (post : Global → MutBor (List Lexeme) → ℕ → Result Stmt Fault → MutBor (List Lexeme) → Type 0) : Type 0 where
+  pub callable : (alloc : Global) (old : MutBor (List Lexeme)) → pre alloc old room
+  pub reads : (alloc : Global) (old new : MutBor (List Lexeme)) (result : Result Stmt Fault)
+      → post alloc old room result new → Reads view.statement (st.statement room old.now) result new.now
 
 -- the rules; in a unit, where the flag says so, procedures are declared
 abbrev pub array_data : ℕ → Bool → Bool → Kind → Parser decl.Declaration
