@@ -1,5 +1,5 @@
-//! Makes steps by the processor alone or through turns of a monitor, or loads segments, as standard input says: a word that says
-//! what, a number of steps or loads, and the steps of a turn. Prints what came of it. `speed/measure` takes the time of it.
+//! Makes steps through turns of a monitor, or loads segments, as standard input says: a word that says what, a number of steps or
+//! loads, and the steps of a turn. Prints what came of it. `speed/measure` takes the time of it.
 #![tactic(auto)]
 
 mod jobs;
@@ -9,13 +9,11 @@ mod steps;
 use jobs::Job;
 use loads::{copied, loaded};
 use std::io;
-use steps::{alone, in_turns};
+use steps::in_turns;
 
 /// What is measured.
 #[derive(Clone, Copy)]
 enum Task {
-    /// Steps by the processor alone.
-    Alone(Job),
     /// Steps in turns.
     Turns(Job),
     /// Turns of one step, each with a load.
@@ -27,8 +25,6 @@ enum Task {
 /// The task that a word names; a loop in turns where it names none.
 fn task_named(word: &str) -> Task {
     match word {
-        "loop" => Task::Alone(Job::Loop),
-        "calls" => Task::Alone(Job::Calls),
         "calls-in-turns" => Task::Turns(Job::Calls),
         "loads" => Task::Loads,
         "copies" => Task::Copies,
@@ -49,7 +45,6 @@ fn main(rt: HostRuntime) -> io::Result<()> {
         quantum = words.next().unwrap_or("100").parse::<u32>().unwrap_or(100);
     }
     let told = match what {
-        Task::Alone(job) => alone(alloc, job, count)?,
         Task::Turns(job) => in_turns(alloc, job, count, quantum)?,
         Task::Loads => loaded(alloc, count)?,
         Task::Copies => copied(alloc, count, 16383)?,
