@@ -19,10 +19,9 @@ pub struct Hole {
 fn guessed(nodes: &[Node], guesses: &[u16], key: u32) -> Option<u16>
     ensures { IfSome result (λ x. (x < length nodes.now) × ((node_at nodes.now x).live ≡ true) × ((node_at nodes.now x).key ≡ key)) }
 {
-    if guesses.is_empty() {
+    let Some(&x) = guesses.get(key as usize) else {
         return None;
-    }
-    let x = guesses[key as usize % guesses.len()];
+    };
     if x as usize >= nodes.len() {
         return None;
     }
@@ -106,9 +105,8 @@ pub(crate) fn first_hole(nodes: &[Node], first: u16, end: u32, want: u16) -> Opt
 
 /// Notes a node for a key.
 pub(crate) fn note(guesses: &mut [u16], key: u32, x: u16) {
-    if !guesses.is_empty() {
-        let at = key as usize % guesses.len();
-        guesses[at] = x;
+    if (key as usize) < guesses.len() {
+        guesses[key as usize] = x;
     }
 }
 
