@@ -1,41 +1,13 @@
 -- The words of regions: what is read in one, what a copy leaves of others, and that each region keeps the words of its
 -- segment.
-use Rattle.std.proofs.Common.{◌≡◌, ℕ, ◌+◌, ◌-◌, ◌<◌, ◌≤◌, List, ◌++◌, length, take, drop, get_or, None, Some, refl, sym, ap, ◌∙◌, arith, inl, inr, length-append, length-drop, length-take}
+use Rattle.std.proofs.Common.{◌≡◌, ℕ, ◌+◌, ◌-◌, ◌≤◌, List, ◌++◌, length, take, drop, refl, sym, ap, ◌∙◌, arith, inl, inr, length-append, length-drop, length-take}
 use Rattle.std.specs.Prelude.{◌⊎◌, slice_range}
 use Rattle.std.proofs.Math.Seq.{drop-append-add}
 use Rattle.std.proofs.lemmas.List.{append_assoc, take-append-le, take-take, drop-drop, drop_at, take_at}
-use Rattle.std.proofs.lemmas.List.Edits.{get_or-between, length-between}
-use Rattle.std.proofs.lemmas.Option.{slice_get-get_or, slice_get_past}
 use Rattle.std.proofs.lemmas.Slice.{between_is}
-use Rattle.hp_program.specs.declared.store.Fetched.TheVariants.{Word, Absent, Outside}
-use Rattle.hp_program.specs.Stores.{word_or_outside, fetched}
 use Rattle.mpe_regions.specs.declared.region.Region.{Region}
 use Rattle.mpe_regions.proofs.KeyLemmas.{loaded_at}
 use Rattle.mpe_overlay.specs.Holds.{words_in}
-
--- What is read.
-
--- below the size of a region it is the word of the area at its place and the offset
-pub fetched-word : (words : List ℕ) (r : Region) (offset : ℕ) → r.place + r.size ≤ length words → offset < r.size
-    → fetched (Some (words_in words r)) offset ≡ Word (get_or words (r.place + offset) 0)
-unfolding fetched
-fetched-word words r offset within lt =
-    let long = length-between words r.place (r.place + r.size) within in
-    let there : offset < length (words_in words r) = omega (arith, long) in
-    let read = get_or-between words r.place (r.place + r.size) offset 0 (omega arith) in
-    ap word_or_outside (slice_get-get_or (words_in words r) offset 0 there ∙ ap (λ (w : ℕ). Some w) read)
-
--- from the size on there is none
-pub fetched-past : (words : List ℕ) (r : Region) (offset : ℕ) → r.place + r.size ≤ length words → r.size ≤ offset
-    → fetched (Some (words_in words r)) offset ≡ Outside
-unfolding fetched
-fetched-past words r offset within le =
-    let long = length-between words r.place (r.place + r.size) within in
-    ap word_or_outside (slice_get_past (words_in words r) offset (omega (arith, long)))
-
-pub fetched-absent : (offset : ℕ) → fetched None offset ≡ Absent
-unfolding fetched
-fetched-absent offset = refl
 
 -- What a copy leaves.
 

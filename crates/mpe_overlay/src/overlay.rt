@@ -1,5 +1,5 @@
 //! The code area with its programs: a segment is brought in when it is needed, and may be given up at any time.
-ghost use Rattle.std.specs.Prelude.{◌≡◌, ℕ, ◌+◌, ◌≤◌, [], ◌∷◌, List, length, Some, slice_get, option_map, IfOk, IsSomeAnd, IsTrue, ◌↔◌, true};
+ghost use Rattle.std.specs.Prelude.{◌≡◌, ℕ, ◌+◌, ◌≤◌, [], List, length, Some, slice_get, option_map, IfOk, IsSomeAnd, IsTrue, ◌↔◌, true};
 ghost use Rattle.std.specs.Bool.{OnFalse};
 ghost use Rattle.mpe_regions.specs.Area.{region_of, is_live};
 ghost use Rattle.mpe_regions.specs.Loads.{needed, dropped};

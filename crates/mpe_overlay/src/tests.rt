@@ -97,14 +97,20 @@ fn read_all(rt: &impl Abort, overlay: &Overlay, number: usize) {
                 Some(_) => Some(words(program, seg)),
             };
             holds(rt, &overlay.view(program), seg, want, number);
-            holds(rt, &overlay.view(program).segment(seg), seg, want, number);
-            holds(
-                rt,
-                &overlay.view(program).segment(2 - seg),
-                seg,
-                want,
-                number,
-            );
+            if let Some(code) = overlay.view(program).segment(seg) {
+                holds(rt, &code, seg, want, number);
+            } else {
+                assert_eq!(rt; want, None, "event {number}");
+            }
+            if let Some(mut code) = overlay.view(program).segment(2 - seg) {
+                holds(rt, &code, seg, want, number);
+                for _ in 0..2 {
+                    assert_eq!(rt; code.turn_to(seg), want.is_some(), "event {number}");
+                    holds(rt, &code, seg, want, number);
+                    assert!(rt; code.turn_to(2 - seg), "event {number}");
+                    holds(rt, &code, seg, want, number);
+                }
+            }
         }
     }
 }

@@ -1,8 +1,8 @@
 -- Many steps of a session, over views of its program.
--- 1. it begins, goes on by a step, and is over               (begins, one_more, one_last)
--- 2. what views hold                                         (views_of, runs_over)
+-- 1. it begins, goes on by a step, and is over               (begins, one_more, one_last, none_more)
+-- 2. what views hold                                         (views_of, views_stay, runs_over)
 -- 3. all steps of a turn were made                           (all_made, none_left)
-use Rattle.std.proofs.Common.{◌≡◌, ℕ, suc, ◌+◌, ◌-◌, ◌<◌, ◌≤◌, Bool, true, false, List, Option, None, Some, refl, sym, ap, ◌∙◌, arith}
+use Rattle.std.proofs.Common.{◌≡◌, ℕ, suc, ◌+◌, ◌-◌, ◌<◌, ◌≤◌, Bool, true, false, List, Option, None, Some, refl, sym, ap, subst, ◌∙◌, arith}
 use Rattle.std.specs.Prelude.{◌&&◌, IfSome, slice_get, option_map}
 use Rattle.std.proofs.lemmas.Bool.{true≢false}
 use Rattle.std.proofs.lemmas.Option.{slice_get-map}
@@ -22,7 +22,7 @@ use Rattle.mpe_worlds.specs.RunSteps.{can_step, key_needed, stepped, stepping}
 use Rattle.mpe_worlds.proofs.RunLaws.{stepping-more, stepping-none, stepping-one, stepping-stays}
 use Rattle.mpe_turns.specs.declared.session.Session.{Session}
 use Rattle.mpe_turns.specs.Stands.{IsSessionOf, run_of}
-use Rattle.mpe_turns.specs.Steps.{MakesOne, MakesSome, RunsOver, Views, area_of, held_by}
+use Rattle.mpe_turns.specs.Steps.{MakesOne, MakesSome, RunsOver, Views, held_by}
 
 module _ (p : Program) (a : Area) (until : ℕ) where
   pub begins : (s : Session) → IsSessionOf p s → MakesSome p a until s true s
@@ -65,6 +65,10 @@ module _ (p : Program) (a : Area) (until : ℕ) where
           session = one.session;
         }
 
+  -- a step that can't be made is the last
+  pub none_more : (s t : Session) → MakesSome p a until s true t → can_step a (run_of (segments_of p) t) ≡ false → MakesSome p a until s false t
+  none_more s t some stays = record { rest = some.rest; over = λ e. stays; session = some.session }
+
   -- a session that can make no step more has made them all, and so has one that has made `until`
   pub none_left : (s u : Session) → MakesSome p a until s false u
       → run_of (segments_of p) u ≡ stepping (segments_of p) a (until - s.steps) (run_of (segments_of p) s)
@@ -77,36 +81,34 @@ module _ (p : Program) (a : Area) (until : ℕ) where
       sym (ap (λ (n : ℕ). stepping (segments_of p) a n (run_of (segments_of p) u)) none ∙ stepping-none (segments_of p) a (run_of (segments_of p) u)) ∙ some.rest
 
 -- what a store holds are segments of a program, said word by word
-pub holds_by : (segments : List (List ℕ)) (held : ℕ → Option (List ℕ))
+holds_by : (segments : List (List ℕ)) (held : ℕ → Option (List ℕ))
     → ((seg : ℕ) (words : List ℕ) → held seg ≡ Some words → slice_get segments seg ≡ Some words) → HoldsOf segments held
 holds_by segments held h seg = by (held seg) refl where
   by : (o : Option (List ℕ)) → held seg ≡ o → IfSome o (λ words. slice_get segments seg ≡ Some words)
   by None is = tt
   by (Some words) is = h seg words is
 
--- the area that a view of an overlay sees
-pub area_seen : (overlay : Overlay) (view : View) (code : SegmentView) → code.view.regions ≡ view.regions → view.regions.now ≡ overlay.regions
-    → area_of code ≡ overlay.regions.area
-area_seen overlay view code first second =
-    let same : code.view.regions.now ≡ overlay.regions = rw first second in
-    ap (λ (k : Kept). k.area) same
-
--- the segments of an overlay's view of a program are segments of it
+-- the segments of an overlay's view of a program are segments of it, whichever are at hand
 pub views_of : (overlay : Overlay) (view : View) (code : SegmentView) (program : ℕ)
-    → code.view.area ≡ view.area → code.view.regions ≡ view.regions → code.view.program ≡ view.program → view.program ≡ program → view.regions.now ≡ overlay.regions
+    → code.view ≡ view → view.program ≡ program → view.regions.now ≡ overlay.regions
     → ((segments : List (List ℕ)) (seg : ℕ) (words : List ℕ) → slice_get (codes_of overlay.programs.items) program ≡ Some segments
     → held_in view.area.now.items view.regions.now.area view.program seg ≡ Some words → slice_get segments seg ≡ Some words)
     → Views overlay program code
-views_of overlay view code program area regions same its sees holds = record {
-  area = area_seen overlay view code regions sees;
-  program = same ∙ its;
-  holds = λ p of. holds_by (segments_of p) (held_by code) (λ seg words h. holds (segments_of p) seg words (at p of) (sym (shown seg) ∙ h));
+views_of overlay view code program same its sees holds = record {
+  area = ap (λ (v : View). v.regions.now.area) same ∙ ap (λ (k : Kept). k.area) sees;
+  program = ap (λ (v : View). v.program) same ∙ its;
+  holds = λ p of. holds_by (segments_of p) (held_by code) (λ seg words h. holds (segments_of p) seg words (at p of)
+      (sym (ap (λ (v : View). held_in v.area.now.items v.regions.now.area v.program seg) same) ∙ h));
 } where
   at : (p : Program) → slice_get overlay.programs.items program ≡ Some p → slice_get (codes_of overlay.programs.items) program ≡ Some (segments_of p)
   at p of = slice_get-map segments_of overlay.programs.items program ∙ ap (option_map segments_of) of
 
-  shown : (seg : ℕ) → held_by code seg ≡ held_in view.area.now.items view.regions.now.area view.program seg
-  shown seg = rw (area, regions, same) refl
+pub views_stay : (overlay : Overlay) (program : ℕ) (one other : SegmentView) → other.view ≡ one.view → Views overlay program one → Views overlay program other
+views_stay overlay program one other same views = record {
+  area = ap (λ (v : View). v.regions.now.area) same ∙ views.area;
+  program = ap (λ (v : View). v.program) same ∙ views.program;
+  holds = λ p of. subst (λ (v : View). HoldsOf (segments_of p) (held_in v.area.now.items v.regions.now.area v.program)) (sym same) (views.holds p of);
+}
 
 -- a session of a program runs over such a view
 pub runs_over : (overlay : Overlay) (code : SegmentView) (p : Program) (s : Session) → Views overlay s.program code

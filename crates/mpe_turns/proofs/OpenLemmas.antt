@@ -1,12 +1,11 @@
 -- How a monitor opens, list by list.
 -- 0. seats within the limits          (seats_none, seats_more)
 -- 1. stacks in order                  (stack_enough, stack_small, all_enough)
--- 2. words and largest segments       (words_more, segment_more, largest_more, fits_largest)
+-- 2. words and largest segments       (segment_more, largest_more, fits_largest)
 -- 3. a session, and one after another (opened_stack, opened_more)
 use Rattle.std.proofs.Common.{◌≡◌, ℕ, zero, suc, ◌+◌, ◌-◌, ◌/◌, ◌%◌, ◌<◌, ◌≤◌, true, false, List, [], ◌∷◌, ◌++◌, length, get_or, take, drop, Vec, Global, replicate, max, Option, None, Some, refl, sym, ap, subst, ◌∙◌, arith, inl, inr}
 use Rattle.std.specs.Prelude.{slice_get, option_map, ◌⊎◌}
 use Rattle.std.proofs.lemmas.Bool.{cases_lt, le-ltb, lt-ltb}
-use Rattle.std.proofs.lemmas.Bool.Decides.{nat_tests}
 use Rattle.std.proofs.lemmas.List.{append-nil, append_assoc, map-append, length-append, drop-replicate, replicate-append-replicate, take_at, take-take, at_drop_more}
 use Rattle.std.proofs.lemmas.Option.{same_Some, get_or_from_slice_get, slice_get-map, slice_get_read, slice_get_within, option_and_then_some}
 use Rattle.hp_program.specs.declared.program.Program.{Program}
@@ -31,7 +30,6 @@ use Rattle.mpe_turns.specs.declared.session.Session.{Session}
 use Rattle.mpe_turns.specs.Opening.{AreSeats, first_of_two, small_stack, small_stack_from, stack_needed}
 use Rattle.mpe_turns.specs.Opened.{AreOpened}
 use Rattle.mpe_turns.specs.Stands.{IsKept, IsSessionOf, run_of, runs_of}
-use Rattle.mpe_turns.proofs.StepLemmas.{few_segments}
 use Rattle.mpe_turns.proofs.TurnLemmas.{program_segments}
 
 -- Seats within the limits.

@@ -1,8 +1,8 @@
 -- One step of a session is one step of its world's session.
--- 1. what the view holds is what is loaded                     (held_live, needed_live)
--- 2. a session of a program needs one of its segments          (needed_within, needed_small)
--- 3. the numbers after a step are those of the definition      (counted)
--- 4. a step by what the processor answered                     (went, waited, trapped, served)
+-- 1. what the view holds is what is loaded                     (held_live, segment_needed)
+-- 2. a session of a program needs one of its segments          (needed_within, waits_for)
+-- 3. the numbers after a step are those of the definition      (numbers_seen)
+-- 4. a step by what the processor answered                     (went, trapped, served)
 use Rattle.std.proofs.Common.{◌≡◌, ℕ, ◌+◌, ◌<◌, ◌≤◌, Bool, true, false, List, length, Vec, Global, Option, None, Some, refl, sym, ap, subst, ◌∙◌, arith}
 use Rattle.std.specs.Prelude.{◌&&◌, is_some, IsSome, option_map, slice_get, unwrap_or, Result, Ok, Err}
 use Rattle.std.proofs.lemmas.Bool.{lt-ltb}
@@ -76,7 +76,7 @@ pub segment_needed : (segments : List (List ℕ)) (s : Session) → (machine_of 
 segment_needed segments s = current_segment (slice_get segments) s.cpu.phase s.cpu.regs
 
 -- a session that runs can step exactly where the view holds the segment that it needs
-pub can_step-held : (segments : List (List ℕ)) (words : List ℕ) (a : Area) (s : Session) → s.ending ≡ Running → needed s.cpu < 256
+can_step-held : (segments : List (List ℕ)) (words : List ℕ) (a : Area) (s : Session) → s.ending ≡ Running → needed s.cpu < 256
     → can_step a (run_of segments s) ≡ is_some (held_in words a s.program (needed s.cpu))
 can_step-held segments words a s runs lt =
     ap (λ (e : Ending). is_running e && is_live (key_needed (run_of segments s)) a) runs
@@ -106,12 +106,17 @@ needed_within p s is = by s.cpu.phase refl where
   by (Entering seg entry) e = entry_there (slice_get (segments_of p) seg) seg entry refl (is.entering seg entry e)
   by (Returning seg offset) e = is.returning seg offset e
 
-pub needed_small : (p : Program) (s : Session) → IsSessionOf p s → needed s.cpu < 256
+needed_small : (p : Program) (s : Session) → IsSessionOf p s → needed s.cpu < 256
 needed_small p s is =
     let within = needed_within p s is in
     let few = few_segments p in
     let same : length (segments_of p) ≡ length p.segments.items = length-map p.segments.items (λ (w : Vec ℕ Global). w.items) in
     omega (arith, within, few, same)
+
+-- while its segment is not loaded it can't step
+pub waits_for : (p : Program) (words : List ℕ) (a : Area) (s : Session) → s.ending ≡ Running → IsSessionOf p s
+    → is_some (held_in words a s.program (needed s.cpu)) ≡ false → can_step a (run_of (segments_of p) s) ≡ false
+waits_for p words a s runs is none = can_step-held (segments_of p) words a s runs (needed_small p s is) ∙ none
 
 -- what is kept of it is that its processor suits the program
 pub suits_of : (p : Program) (s : Session) → IsSessionOf p s → Suits (segments_of p) s.cpu

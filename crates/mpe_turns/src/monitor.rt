@@ -1,13 +1,12 @@
 //! The monitor: what it keeps, and its calls on one session or one segment.
-ghost use Rattle.std.specs.Prelude.{◌≡◌, ◌≤◌, ◌+◌, ◌^◌, true, length, drop, map, slice_get, IfSome, IsSomeAnd};
+ghost use Rattle.std.specs.Prelude.{◌≡◌, ◌≤◌, ◌+◌, ◌^◌, length, drop, map, slice_get, IfSome, IsSomeAnd};
 ghost use Rattle.hp_word.specs.declared.endings.Ending.TheVariants.{Running};
 ghost use Rattle.mpe_overlay.specs.mpe_regions.Area.{is_live};
 ghost use Rattle.mpe_overlay.specs.Codes.{key_of};
 ghost use Rattle.mpe_worlds.specs.Dispatch.{first_live};
 ghost use Rattle.mpe_turns.specs.Stands.{IsKept};
 
-use crate::session::{Session, Turned};
-use crate::stepping::{answer, run};
+use crate::session::Session;
 use hp_word::Ending;
 use mpe_overlay::Overlay;
 

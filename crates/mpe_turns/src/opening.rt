@@ -1,8 +1,8 @@
 //! How a monitor opens: stacks and memory are tested, and then all memory is reserved that its turns need.
-ghost use Rattle.std.specs.Prelude.{◌≡◌, ℕ, ◌+◌, ◌*◌, ◌<◌, ◌≤◌, ◌++◌, length, max, slice_get, drop, take, replicate, vec_len, IfOk, IfSome, MatchResult, Err, None, Some};
+ghost use Rattle.std.specs.Prelude.{◌≡◌, ◌+◌, ◌*◌, ◌<◌, ◌≤◌, ◌++◌, length, max, drop, take, replicate, vec_len, IfOk, IfSome, MatchResult, Err, None, Some};
 ghost use Rattle.hp_program.specs.declared.program.Program.{Program};
 ghost use Rattle.hp_program.specs.Programs.{segments_of};
-ghost use Rattle.mpe_overlay.specs.Codes.{codes_of, segment_at};
+ghost use Rattle.mpe_overlay.specs.Codes.{codes_of};
 ghost use Rattle.mpe_worlds.specs.Opening.{largest, largest_segment, opening_run, seated_words};
 ghost use Rattle.mpe_turns.specs.Opened.{AreOpened};
 ghost use Rattle.mpe_turns.specs.Opening.{AreSeats, refusal, small_stack_from, stack_needed};
@@ -170,9 +170,9 @@ impl Monitor {
     ghost use Rattle.mpe_turns.specs.declared.fault.OpenFault.TheVariants.{NoMemory};
     ghost use Rattle.mpe_turns.specs.Monitors.{world_of};
 
-    /// A monitor of sessions at these seats, with so many words of memory. Memory is numbered from 0: the stacks and extra segments
-    /// stand first, and the rest is the code area. The stacks are tested in order, and then the memory; on a refusal seats and
-    /// programs are dropped. All memory is reserved that later calls need.
+    /// A monitor of sessions at these seats, with so many words of memory. From 0 on memory has the stacks and extra segments, and
+    /// behind them the code area. The stacks are tested in order, and then the memory. A refusal drops seats and programs. All
+    /// memory is reserved that later calls need.
     pub fn open(
         alloc: Global,
         memory: u32,

@@ -1,15 +1,15 @@
 //! The steps of a turn: one step of a session, and all of them.
-ghost use Rattle.std.specs.Prelude.{◌≡◌, ◌≢◌, ◌↔◌, ◌+◌, ◌-◌, ◌<◌, ◌≤◌, ◌^◌, ◌==◌, true, false, slice_get, Some, IsSomeAnd, IsTrue};
+ghost use Rattle.std.specs.Prelude.{◌≡◌, ◌+◌, ◌-◌, ◌<◌, ◌≤◌, ◌^◌, ◌==◌, true, false, slice_get, Some, is_some};
+ghost use Rattle.std.specs.Bool.{OnFalse};
 ghost use Rattle.hp_word.specs.declared.endings.Ending.TheVariants.{Running};
 ghost use Rattle.hp_program.specs.declared.program.Program.{Program};
 ghost use Rattle.hp_program.specs.Programs.{segments_of};
 ghost use Rattle.mpe_gate.specs.hp_tos.StackView.{seen};
-ghost use Rattle.mpe_worlds.specs.hp_calls.Phases.{destination};
 ghost use Rattle.mpe_worlds.specs.hp_cpu.Stood.{needed};
 ghost use Rattle.mpe_worlds.specs.RunSteps.{stepping};
 ghost use Rattle.mpe_turns.specs.Stands.{IsSessionOf, run_of};
 ghost use Rattle.mpe_turns.specs.Answers.{answer_by};
-ghost use Rattle.mpe_turns.specs.Steps.{MakesOne, RunsOver, ServesCall, Views, area_of};
+ghost use Rattle.mpe_turns.specs.Steps.{MakesOne, RunsOver, ServesCall, area_of, held_by};
 
 use crate::session::{Session, Turned};
 use hp_word::{Ending, Intrinsic};
@@ -76,23 +76,18 @@ fn make_step(session: &mut Session, code: &SegmentView<'_>) -> bool
     }
 }
 
-/// The loaded segments of a session's program, with the one at hand that its next step needs.
-fn code_for<'a>(session: &Session, overlay: &'a Overlay) -> SegmentView<'a>
-    ensures { Views overlay.now session.now.program result }
-{
-    overlay
-        .view(session.program)
-        .segment(session.cpu.needed_segment())
-}
-
-/// Whether a transfer is under way to another segment than the one at hand.
+/// Takes the segment at hand to which a transfer leads. False is the answer where it is not loaded.
+///
+/// Without a transfer the segment at hand is the one that is needed. No proof rests on that: a word of another would be found by
+/// its region.
 #[inline(always)]
-fn leaves(phase: Phase, seg: u8) -> bool
-    ensures { IsTrue result ↔ IsSomeAnd (destination phase) (λ to. to ≢ seg) }
+fn follow(session: &Session, code: &mut SegmentView<'_>) -> bool
+    ensures view { code.new.view ≡ code.old.view }
+    ensures absent { OnFalse result (is_some (held_by code.old (needed session.now.cpu)) ≡ false) }
 {
-    match phase {
-        Phase::Ready => false,
-        Phase::Entering { seg: to, .. } | Phase::Returning { seg: to, .. } => to != seg,
+    match session.cpu.phase {
+        Phase::Ready => true,
+        Phase::Entering { seg, .. } | Phase::Returning { seg, .. } => code.turn_to(seg),
     }
 }
 
@@ -108,11 +103,14 @@ pub(crate) fn run(session: &mut Session, overlay: &Overlay, until: u64)
     ensures until { session.new.steps ≤ until }
     ensures program { session.new.program ≡ session.old.program }
 {
-    let mut code = code_for(session, overlay);
+    let seg = session.cpu.needed_segment();
+    let mut code = match overlay.view(session.program).segment(seg) {
+        None => return,
+        Some(code) => code,
+    };
     'stepping: while session.steps < until {
-        // where none does, a word of another segment would still be found, by its region
-        if leaves(session.cpu.phase, code.seg) {
-            code = code_for(session, overlay);
+        if !follow(session, &mut code) {
+            return;
         }
         if !make_step(session, &code) {
             return;

@@ -1,5 +1,5 @@
 //! A turn of a session.
-ghost use Rattle.std.specs.Prelude.{◌≡◌, ◌≤◌, ◌+◌, ◌^◌, ◌-◌, IfSome, slice_get};
+ghost use Rattle.std.specs.Prelude.{◌≡◌, ◌≤◌, ◌+◌, ◌^◌, slice_get};
 ghost use Rattle.hp_word.specs.declared.endings.Ending.TheVariants.{Running};
 
 use crate::monitor::Monitor;
@@ -7,7 +7,6 @@ use crate::session::Turned;
 use crate::stepping::{answer, run};
 
 impl Monitor {
-    ghost use Rattle.std.specs.Option.{ForSome};
     ghost use Rattle.std.specs.Prelude.{IsSomeAnd};
     ghost use Rattle.mpe_worlds.specs.Alone.{EachGoesOn};
     ghost use Rattle.mpe_worlds.specs.Turns.{turned};

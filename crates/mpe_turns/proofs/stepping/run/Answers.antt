@@ -1,29 +1,69 @@
 -- A step more, or the last, over the view that holds the segment which the session needs.
-use Rattle.std.proofs.Common.{◌≡◌, ℕ, ◌<◌, ◌≤◌, Bool, true, false, Some, slice_get, ap, subst, sym, ◌∙◌, arith}
+use Rattle.std.proofs.Common.{◌≡◌, ℕ, ◌<◌, ◌≤◌, Bool, true, false, Some, slice_get, ap, refl, subst, sym, ◌∙◌, arith}
+use Rattle.std.specs.Prelude.{is_some}
 use Rattle.hp_program.specs.declared.program.Program.{Program}
 use Rattle.mpe_overlay.specs.mpe_regions.Area.{Area}
-use Rattle.mpe_overlay.specs.declared.view.SegmentView.{SegmentView}
-use Rattle.mpe_turns.specs.declared.session.Session.{Session}
-use Rattle.mpe_turns.specs.Stands.{IsSessionOf}
+use Rattle.mpe_overlay.specs.mpe_regions.Kept.{Kept}
+use Rattle.mpe_overlay.specs.Held.{held_in}
+use Rattle.mpe_worlds.specs.RunSteps.{can_step}
+use Rattle.mpe_worlds.specs.hp_cpu.Stood.{needed}
+use Rattle.hp_program.specs.Programs.{segments_of}
+use Rattle.mpe_turns.specs.Stands.{IsSessionOf, run_of}
 use Rattle.mpe_turns.specs.Steps.{MakesOne, MakesSome, RunsOver, Views, area_of}
-use Rattle.mpe_turns.proofs.LoopLemmas.{all_made, none_left, one_last, one_more, runs_over}
+use Rattle.mpe_turns.proofs.LoopLemmas.{all_made, begins, none_left, none_more, one_last, one_more, runs_over, views_of, views_stay}
+use Rattle.mpe_turns.proofs.StepLemmas.{waits_for}
 use Rattle.mpe_turns.proofs.stepping.run.Goals as goal
-use Rattle.mpe_turns.proofs.stepping.run.Goals.{then-leaves, else-leaves}
+
+pub returns-in-None-clause-steps : goal.returns-in-None-clause-steps
+returns-in-None-clause-steps c = λ p of is.
+    let s = c.args.session.now in
+    let a = c.args.overlay.now.regions.area in
+    let words = c.view.result.area.now.items in
+    let program = c.view.result.program in
+    let seg = c.needed_segment-seg.result in
+    let absent : is_some (held_in words a s.program (needed s.cpu)) ≡ false =
+    subst (λ (k : ℕ). is_some (held_in words a s.program k) ≡ false) c.needed_segment-seg.ensures
+    (subst (λ (n : ℕ). is_some (held_in words a n seg) ≡ false) c.view.ensures.program
+    (subst (λ (k : Kept). is_some (held_in words k.area program seg) ≡ false) c.view.ensures.regions (sym c.in-None.ensures.value))) in
+    none_left p a c.args.until s s (none_more p a c.args.until s s (begins p a c.args.until s is) (waits_for p words a s c.requires.running is absent))
+
+pub stepping-init : goal.stepping-init
+stepping-init c =
+    let s = c.args.session.now in
+    let overlay = c.args.overlay.now in
+    record {
+      running = c.requires.running;
+      below = c.requires.below;
+      program = refl;
+      views = views_of overlay c.view.result c.in-Some.code s.program c.in-Some.ensures.view c.view.ensures.program c.view.ensures.regions c.view.ensures.holds;
+      some = λ p of is. begins p overlay.regions.area c.args.until s is;
+    }
+
+pub returns-then-not-follow-clause-steps : goal.returns-then-not-follow-clause-steps
+returns-then-not-follow-clause-steps c = λ p of is.
+    let a = c.args.overlay.now.regions.area in
+    let code = c.stepping.code in
+    let t = c.stepping.session in
+    let before = c.stepping.invariant in
+    let some = before.some p of is in
+    let absent : is_some (held_in code.view.area.now.items (area_of code) t.program (needed t.cpu)) ≡ false =
+    subst (λ (n : ℕ). is_some (held_in code.view.area.now.items (area_of code) n (needed t.cpu)) ≡ false) before.views.program c.if-not-follow.ensures.absent in
+    let waits : can_step a (run_of (segments_of p) t) ≡ false =
+    subst (λ (b : Area). can_step b (run_of (segments_of p) t) ≡ false) before.views.area
+    (waits_for p code.view.area.now.items (area_of code) t before.running some.session absent) in
+    none_left p a c.args.until c.args.session.now t (none_more p a c.args.until c.args.session.now t some waits)
 
 -- all that was made with the last step
 made : (c : goal.Then-not-make_step) (p : Program) → slice_get c.args.overlay.now.programs.items c.args.session.now.program ≡ Some p → IsSessionOf p c.args.session.now
     → MakesSome p c.args.overlay.now.regions.area c.args.until c.args.session.now false c.make_step.new.session
 made c p of is =
     let overlay = c.args.overlay.now in
-    let code = c.if-leaves.code in
+    let code = c.follow.new.code in
     let t = c.stepping.session in
     let before = c.stepping.invariant in
     let some = before.some p of is in
     let lt : t.steps < c.args.until = omega arith in
-    let views : Views overlay t.program code = elim c.if-leaves.branch [
-      | then-leaves w ↦ subst (Views overlay t.program) (sym w.code-is) w.code_for-code-then-leaves.ensures
-      | else-leaves w ↦ subst (Views overlay t.program) (sym w.code-is) before.views
-    ] in
+    let views : Views overlay t.program code = views_stay overlay t.program c.stepping.code code c.follow.ensures.view before.views in
     let here : RunsOver p code t = runs_over overlay code p t views (ap (slice_get overlay.programs.items) before.program ∙ of) some.session in
     one_last p overlay.regions.area c.args.until c.args.session.now t c.make_step.new.session some lt
     (subst (λ (a : Area). MakesOne p a t false c.make_step.new.session) views.area
@@ -38,16 +78,13 @@ returns-then-not-make_step-clause-session c = λ p of is. (made c p of is).sessi
 pub stepping-preserved : goal.stepping-preserved
 stepping-preserved c =
     let overlay = c.args.overlay.now in
-    let code = c.if-leaves.code in
+    let code = c.follow.new.code in
     let t = c.stepping.session in
     let before = c.stepping.invariant in
     let goes_on : c.make_step.result ≡ true = c.if-not-make_step.false in
     let went = c.make_step.ensures.on goes_on in
     let lt : t.steps < c.args.until = omega arith in
-    let views : Views overlay t.program code = elim c.if-leaves.branch [
-      | then-leaves w ↦ subst (Views overlay t.program) (sym w.code-is) w.code_for-code-then-leaves.ensures
-      | else-leaves w ↦ subst (Views overlay t.program) (sym w.code-is) before.views
-    ] in
+    let views : Views overlay t.program code = views_stay overlay t.program c.stepping.code code c.follow.ensures.view before.views in
     record {
       running = went.1;
       below = omega (arith, went.0);
