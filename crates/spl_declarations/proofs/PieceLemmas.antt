@@ -8,7 +8,7 @@ use Rattle.spl_reading.specs.Readers.{Parser, pure, followed, and_then, by_symbo
 use Rattle.spl_reading.specs.ReadDeclarations as r
 use Rattle.spl_declarations.specs.Nests as nests
 use Rattle.spl_declarations.specs.Pieces as pieces
-use Rattle.spl_declarations.proofs.Chains.{along, along_end}
+use Rattle.spl_tokens.proofs.Chains.{along, along_end}
 
 -- a further declaration, where there is one
 pub further_is : (room : ℕ) (unit : Bool) (segment : ℕ) (state : Bool × List decl.Declaration) (ts : List Lexeme)

@@ -1,11 +1,9 @@
 //! Declarations. The rules that read the body of a procedure and the statement of a subroutine are parameters: in a
 //! procedure no procedure is declared, and what is declared is proved apart from what a statement is.
 ghost use Rattle.std.specs.Prelude.{◌≡◌, ◌++◌, [], ◌∷◌, if◌then◌else◌, IfOk};
-ghost use Rattle.spl_tree.specs.Views as view;
 ghost use Rattle.spl_tree.specs.Spells as spells;
 ghost use Rattle.spl_reading.specs.Readers as readers;
-ghost use Rattle.spl_reading.specs.ReadDeclarations as spec;
-ghost use Rattle.spl_tokens.specs.Reads.{Reads, lexeme, paired};
+ghost use Rattle.spl_tokens.specs.Reads.{Reads, paired};
 ghost use Rattle.spl_items.specs.Lists as lists;
 ghost use Rattle.spl_items.specs.Headings as headings;
 ghost use Rattle.spl_declarations.specs.Nests.{ReadsBodies, ReadsStatements};

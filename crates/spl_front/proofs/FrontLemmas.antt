@@ -2,7 +2,7 @@
 -- 1. where the text has a fault of tokens      (lex_told to lex_refuses)
 -- 2. where its tokens spell a unit              (unit_told to unit_refuses)
 -- 3. where they have a fault of spelling        (parse_told to parse_refuses)
-use Rattle.std.proofs.Common.{ℕ, zero, suc, ◌≡◌, ◌≢◌, ◌<◌, Bool, List, [], ◌∷◌, map, length, drop, get_or, Option, Some, None, Result, Ok, Err, refl, ap, sym, subst, ◌∙◌, arith}
+use Rattle.std.proofs.Common.{ℕ, zero, suc, ◌≡◌, ◌≢◌, ◌<◌, Bool, List, [], ◌∷◌, map, length, drop, get_or, Some, Ok, Err, refl, ap, sym, subst, ◌∙◌, arith}
 use Rattle.std.proofs.lemmas.List.{length-map}
 use Rattle.spl_tree.specs.declared.names_and_places.At.{At}
 use Rattle.spl_tree.specs.declared.tokens.Token.{Token}
@@ -34,7 +34,7 @@ use Rattle.spl_front.specs.declared.faults.UnitFault.TheVariants as fault
 use Rattle.spl_front.specs.Kinds.{kind_of}
 use Rattle.spl_cuts.specs.Lexemes.{lexemes}
 use Rattle.spl_front.specs.Fronts.{Source, source_of, Spells, HasFault, of_tokens, of_spelling, of_depth, Tells, Gives, Refuses, with_kind, lex_fault_of, Stands, parse_fault_of}
-use Rattle.spl_front.proofs.EndLemmas.{lexemes_are}
+use Rattle.spl_program.proofs.EndLemmas.{lexemes_are}
 
 -- A fault of tokens.
 

@@ -1,4 +1,4 @@
-//! The front end: a unit's text as its tree, or its first fault.
+//! For tests: the text of one unit as its tree, or its first fault.
 #![tactic(auto)]
 
 mod faults;

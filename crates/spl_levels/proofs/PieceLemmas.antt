@@ -1,33 +1,14 @@
 -- Productions, by the pieces that are read apart.
-use Rattle.std.proofs.Common.{ℕ, suc, ◌≡◌, ◌+◌, ◌/◌, Bool, true, List, refl}
+use Rattle.std.proofs.Common.{ℕ, suc, ◌≡◌, ◌+◌, ◌/◌, Bool, true, List}
 use Rattle.spl_tree.specs.declared.names_and_places.At.{At}
 use Rattle.spl_tree.specs.Symbols.{Lexeme}
 use Rattle.spl_tree.specs.Operators.{other, bytes_of}
 use Rattle.spl_tree.specs.Trees as tree
-use Rattle.spl_reading.specs.Readers.{Outcome, Got, Bad, Deep, Parser, pure, followed, and_then}
+use Rattle.spl_reading.specs.Readers.{pure, followed}
 use Rattle.spl_reading.specs.ReadExpressions as r
+use Rattle.spl_tokens.proofs.Chains.{along, along_end}
 use Rattle.spl_levels.specs.Nests.{counted_bytes, bytes}
 use Rattle.spl_levels.specs.Pieces.{extent, amount, length}
-
--- what follows the last part of a chain follows the chain
-along_at : {A B C : Type 0} (f : A → Parser B) (g : B → Parser C) (h : A → Parser C)
-    → ((a : A) (us : List Lexeme) → h a us ≡ followed (f a) g us)
-    → (o : Outcome A) → and_then o h ≡ and_then (and_then o f) g
-unfolding followed and_then
-along_at f g h e (Got a us) = e a us
-along_at f g h e (Bad us) = refl
-along_at f g h e (Deep us) = refl
-
-pub along : {A B C : Type 0} (p : Parser A) (f : A → Parser B) (g : B → Parser C) (h : A → Parser C)
-    → ((a : A) (us : List Lexeme) → h a us ≡ followed (f a) g us)
-    → (ts : List Lexeme) → followed p h ts ≡ followed (followed p f) g ts
-unfolding followed
-along p f g h e ts = along_at f g h e (p ts)
-
--- and stands at its end
-pub along_end : {A B : Type 0} (a : A) (g : A → Parser B) (us : List Lexeme) → g a us ≡ followed (pure a) g us
-unfolding followed and_then pure
-along_end a g us = refl
 
 -- a bit field, by its start and its length
 pub bits_is : (at : At) (f : r.Found) (ts : List Lexeme) → r.bits at f ts

@@ -4,7 +4,6 @@ ghost use Rattle.spl_reading.specs.ReadExpressions as spec;
 ghost use Rattle.spl_reading.specs.Readers.{refuse};
 ghost use Rattle.spl_tokens.specs.Reads.{Reads};
 ghost use Rattle.spl_levels.specs.Parts.{expressions};
-ghost use Rattle.spl_levels.specs.Nests as nests;
 
 use crate::levels::Levels;
 use crate::operands::{Operands, operand};

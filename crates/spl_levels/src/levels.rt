@@ -2,7 +2,7 @@
 //!
 //! At a fault a part that was read is dropped by a call of `drop`. A `?` writes out the drop of all that it lets go, which
 //! of an expression is long, and each rule is proved with it.
-ghost use Rattle.std.specs.Prelude.{◌≡◌, ◌+◌, ◌-◌, ◌/◌, ◌<◌, ◌≤◌, ◌==◌, ◌&&◌, if◌then◌else◌, not, suc, Bool, IfOk, IsTrue, OnOk, None, true, false};
+ghost use Rattle.std.specs.Prelude.{◌≡◌, ◌+◌, ◌-◌, ◌/◌, ◌<◌, ◌≤◌, ◌==◌, ◌&&◌, if◌then◌else◌, suc, IfOk, IsTrue, OnOk, None, true, false};
 ghost use Rattle.spl_tree.specs.Operators as operators;
 ghost use Rattle.spl_tree.specs.Trees as tree;
 ghost use Rattle.spl_tree.specs.Views as view;

@@ -1,5 +1,5 @@
 //! Operands. The rule that reads what is inside an open construct is a parameter, so that each rule is proved by itself.
-ghost use Rattle.std.specs.Prelude.{◌≡◌, ◌<◌, ◌≤◌, map, None, OnOk};
+ghost use Rattle.std.specs.Prelude.{◌≡◌, ◌<◌, ◌≤◌, None, OnOk};
 ghost use Rattle.spl_tree.specs.declared.symbols.Symbol.{Symbol};
 ghost use Rattle.spl_tree.specs.Operators as operators;
 ghost use Rattle.spl_tree.specs.Trees as tree;

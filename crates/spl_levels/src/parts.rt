@@ -1,5 +1,5 @@
 //! Parts of expressions that were read.
-ghost use Rattle.std.specs.Prelude.{◌≡◌, ◌+◌, ◌≤◌, ◌==◌, ◌&&◌, true, IfOk, IsTrue, [], ◌∷◌, map, if◌then◌else◌};
+ghost use Rattle.std.specs.Prelude.{◌≡◌, ◌+◌, ◌==◌, IfOk, [], ◌∷◌, map};
 ghost use Rattle.spl_tree.specs.Operators as operators;
 ghost use Rattle.spl_tree.specs.Trees as tree;
 ghost use Rattle.spl_tree.specs.Views.{constant, letters, expression};

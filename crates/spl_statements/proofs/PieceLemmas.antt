@@ -5,26 +5,13 @@ use Rattle.spl_tree.specs.declared.symbols.Symbol.TheVariants as s
 use Rattle.spl_tree.specs.declared.symbols.Reserved.TheVariants as w
 use Rattle.spl_tree.specs.Trees.{Tree, trees}
 use Rattle.spl_tree.specs.StatementTrees as stat
-use Rattle.spl_reading.specs.Readers.{Outcome, Got, Bad, Deep, Parser, pure, followed, and_then, by_symbol, take, expect}
+use Rattle.spl_reading.specs.Readers.{Parser, pure, followed, and_then, by_symbol, take, expect}
 use Rattle.spl_reading.specs.ReadExpressions.{is, enter, expression, condition}
 use Rattle.spl_reading.specs.ReadStatements as r
-use Rattle.spl_levels.proofs.PieceLemmas.{along, along_end}
+use Rattle.spl_tokens.proofs.Chains.{along, along_end, under}
 use Rattle.spl_statements.specs.Nests as nests
 use Rattle.spl_statements.specs.Nests.{inner, below}
 use Rattle.spl_statements.specs.Pieces as pieces
-
--- what is the same behind a part is the same
-under_at : {A B : Type 0} (f g : A → Parser B) → ((a : A) (us : List Lexeme) → f a us ≡ g a us)
-    → (o : Outcome A) → and_then o f ≡ and_then o g
-unfolding and_then
-under_at f g e (Got a us) = e a us
-under_at f g e (Bad us) = refl
-under_at f g e (Deep us) = refl
-
-under : {A B : Type 0} (p : Parser A) (f g : A → Parser B) → ((a : A) (us : List Lexeme) → f a us ≡ g a us)
-    → (ts : List Lexeme) → followed p f ts ≡ followed p g ts
-unfolding followed
-under p f g e ts = under_at f g e (p ts)
 
 -- IF, by the statement of THEN
 pub if_is : (room : ℕ) (ts : List Lexeme) → nests.if_statement room ts

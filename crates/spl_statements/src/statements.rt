@@ -2,11 +2,9 @@
 //!
 //! At a fault what was read is dropped by a call of `drop`, as in the levels of operators: a `?` writes out the drop of all that
 //! it lets go. So what is read behind a part is read by a function that holds none.
-ghost use Rattle.std.specs.Prelude.{◌≡◌, ◌<◌, ◌≤◌, ◌-◌, [], ◌∷◌, IsTrue, length};
+ghost use Rattle.std.specs.Prelude.{◌≡◌, ◌<◌, ◌-◌};
 ghost use Rattle.spl_tree.specs.declared.symbols.Symbol.{Symbol};
 ghost use Rattle.spl_tree.specs.declared.symbols.Reserved.{Reserved};
-ghost use Rattle.spl_tree.specs.Trees as tree;
-ghost use Rattle.spl_tree.specs.StatementTrees as stat;
 ghost use Rattle.spl_tree.specs.Views as view;
 ghost use Rattle.spl_reading.specs.Readers as readers;
 ghost use Rattle.spl_reading.specs.ReadStatements as spec;

@@ -1,5 +1,5 @@
 -- The cursor's list and symbol, read.
-use Rattle.std.proofs.Common.{Result, Ok, Err, IfOk, ℕ, ◌≡◌, List, [], ◌∷◌, map, Option, Some, None, refl, sym, ap, ◌∙◌, length, arith, ◌+◌, ◌<◌, Bool, true, false, nat_eq, get_or, drop, if◌then◌else◌}
+use Rattle.std.proofs.Common.{Result, Ok, Err, IfOk, ℕ, ◌≡◌, List, [], ◌∷◌, map, Some, None, refl, ap, ◌∙◌, length, arith, ◌+◌, ◌<◌, true, false, nat_eq, get_or, drop, if◌then◌else◌}
 use Rattle.std.proofs.lemmas.List.{at_drop_more}
 use lib.Pointwise.{pointwise}
 use denote.Ref.{Bor}

@@ -1,3 +1,4 @@
 pub mod CursorLemmas
+pub mod Chains
 pub mod Steps
 pub mod Turns

@@ -1,7 +1,7 @@
 -- Loops: what is left of the turns, where some of them were made.
-use Rattle.std.proofs.Common.{ℕ, zero, suc, ◌≡◌, ◌+◌, ◌-◌, ◌<◌, ◌≤◌, Bool, true, false, List, [], ◌∷◌, length, refl, sym, ap, ◌∙◌, arith}
+use Rattle.std.proofs.Common.{ℕ, suc, ◌≡◌, ◌+◌, ◌-◌, ◌<◌, ◌≤◌, Bool, true, false, List, length, refl, ap, ◌∙◌, arith}
 use Rattle.spl_tree.specs.Symbols.{Lexeme}
-use Rattle.spl_reading.specs.Readers.{Outcome, Got, Bad, Deep, Parser, pure, refuse, followed, and_then, turns, repeat}
+use Rattle.spl_reading.specs.Readers.{Got, Bad, Parser, pure, refuse, followed, and_then, turns, repeat}
 use Rattle.spl_tokens.specs.declared.faults.Fault.{Fault}
 use Rattle.spl_tokens.specs.declared.faults.Fault.TheVariants.{Syntax, TooDeep, NoMemory}
 use Rattle.spl_tokens.specs.Reads.{Fails}

@@ -1,5 +1,5 @@
 //! A cursor over the tokens of a unit. A contract sees it as the list of the tokens that are left.
-ghost use Rattle.std.specs.Prelude.{◌≡◌, ◌<◌, ◌^◌, ℕ, length, map, IfOk, OnOk, true};
+ghost use Rattle.std.specs.Prelude.{◌≡◌, ◌<◌, ◌^◌, length, map, IfOk, OnOk, true};
 ghost use Rattle.spl_tree.specs.Symbols.{lexeme_of};
 ghost use Rattle.spl_tokens.specs.Cursor as cursor;
 ghost use Rattle.spl_reading.specs.Readers as r;

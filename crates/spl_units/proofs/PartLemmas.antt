@@ -9,7 +9,7 @@ use Rattle.spl_tree.specs.StatementTrees as stat
 use Rattle.spl_reading.specs.ReadStatements as st
 use Rattle.spl_reading.specs.ReadDeclarations as r
 use Rattle.spl_reading.specs.ReadDeclarations.{bodies}
-use Rattle.spl_declarations.proofs.Chains.{along, along_end, under}
+use Rattle.spl_tokens.proofs.Chains.{along, along_end, under}
 use Rattle.spl_units.specs.UnitParts as parts
 
 -- a body between BEGIN and END, by its statements with the END

@@ -1,8 +1,6 @@
 //! Bodies and units.
-ghost use Rattle.std.specs.Prelude.{◌≡◌, ◌<◌, [], ◌∷◌, false, true, IfOk};
+ghost use Rattle.std.specs.Prelude.{◌≡◌, ◌<◌, false, true, IfOk};
 ghost use Rattle.spl_tree.specs.Views as view;
-ghost use Rattle.spl_tree.specs.Spells as spells;
-ghost use Rattle.spl_reading.specs.Readers as readers;
 ghost use Rattle.spl_reading.specs.ReadStatements as stat;
 ghost use Rattle.spl_reading.specs.ReadDeclarations as spec;
 ghost use Rattle.spl_reading.specs.ReadDeclarations.{bodies};

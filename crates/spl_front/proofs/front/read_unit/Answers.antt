@@ -1,8 +1,8 @@
 -- What is answered for the tokens and for their spelling is what is answered for the text.
-use Rattle.std.proofs.Common.{◌≡◌, Err, sym, subst}
+use Rattle.std.proofs.Common.{Err, sym, subst}
 use Rattle.spl_front.specs.declared.faults.UnitFault.{UnitFault}
 use Rattle.spl_front.specs.Fronts.{Tells, Gives, Refuses}
-use Rattle.spl_front.proofs.EndLemmas.{ended}
+use Rattle.spl_program.proofs.EndLemmas.{ended}
 use Rattle.spl_front.proofs.FrontLemmas.{lex_told, lex_gives, lex_refuses, unit_told, unit_gives, unit_refuses, parse_told, parse_gives, parse_refuses}
 use Rattle.spl_front.proofs.front.read_unit.Goals as goal
 

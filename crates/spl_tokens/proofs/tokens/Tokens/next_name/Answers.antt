@@ -1,4 +1,3 @@
-use Rattle.std.proofs.Common.{sym, ◌∙◌}
 use Rattle.spl_tokens.proofs.CursorLemmas.{named_none, named_other, named_some, name_symbol}
 use Rattle.spl_tokens.proofs.tokens.Tokens.next_name.Goals as goal
 
