@@ -1,8 +1,6 @@
 //! The first rule that units break.
 ghost use Rattle.std.specs.Prelude.{◌≡◌, ◌+◌, ◌<◌, ◌≤◌, None, [], drop, length, map, take, option_map, OnOk, IfOk, IfErr};
-ghost use Rattle.spl_tree.specs.DeclarationTrees.{declarations};
-ghost use Rattle.spl_tree.specs.Spells.{declaration};
-ghost use Rattle.spl_sound.specs.spl_meaning.Sound.{IsSound, first_broken};
+ghost use Rattle.spl_sound.specs.spl_meaning.Sound.{first_broken};
 ghost use Rattle.spl_sorts.specs.Reports.{fault_of};
 ghost use Rattle.spl_sound.specs.Spelled.{AreSpelled, most_units, source_of};
 ghost use Rattle.spl_uses.specs.spl_found.FoundUnits.{walked_units};
