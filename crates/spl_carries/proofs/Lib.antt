@@ -1,3 +1,4 @@
+mod KnownCarries
 -- Passed on from the crates below.
 pub use Rattle.hp_flat.proofs as hp_flat_proofs
 pub use Rattle.hp_flat.proofs.hp_program_proofs
