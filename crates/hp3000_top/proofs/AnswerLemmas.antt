@@ -1,6 +1,6 @@
 -- What is answered of bytes is what they come to.
 -- 1. what bytes keep within                (fits_so, programs_fit_so)
--- 2. a line that refuses a job             (job_lines_so to refused_so)
+-- 2. a line that refuses a job             (run_line_so to prep_program_so)
 -- 3. a job that runs                       (run_so)
 -- 4. a job that is prepared                (single_so, prepared_so)
 -- 5. a program file                        (listed_so, unlisted_so)
@@ -29,7 +29,7 @@ use Rattle.hp3000_top.specs.declared.answer.Answer.TheVariants.{Report, Crowded,
 use Rattle.hp3000_top.specs.declared.verbs.Verb.{Verb}
 use Rattle.hp3000_top.specs.declared.verbs.Verb.TheVariants as verb
 use Rattle.hp3000_top.specs.Programs.{AreMade, FirstRefused}
-use Rattle.hp3000_top.specs.Causes.{RunsJobs, account_with, IsJob, Cause, IsPrepared, Unprepared, Unlisted, file_line}
+use Rattle.hp3000_top.specs.Causes.{RunsJobs, account_with, IsJob, Cause, Unprepared, Unlisted, file_line}
 use Rattle.hp3000_top.specs.Causes as c
 use Rattle.job_runs.specs.Reported.{names_of}
 use Rattle.job_runs.specs.mpe_overlay.Codes.{codes_of}
@@ -38,7 +38,7 @@ use Rattle.job_runs.specs.mpe_worlds.Dispatch.{after}
 use Rattle.job_runs.specs.mpe_turns.Monitors.{world_of}
 use Rattle.job_runs.specs.mpe_turns.Opening.{refusal}
 use Rattle.hp3000_top.specs.Answers.{IsCrowded, IsOfMemory}
-use Rattle.hp3000_top.specs.Steps.{Answers, IsAnswered, IsOfStack, IsRoomy, TellsJob, IsFileOf, IsFaultOfFile}
+use Rattle.hp3000_top.specs.Steps.{Answers, IsAnswered, TellsJob, IsFileOf, IsFaultOfFile}
 use Rattle.hp3000_top.specs.Steps as s
 use Rattle.hp3000_top.proofs.Loops.{job_fits_more}
 use Rattle.hp3000_top.proofs.LineLemmas.{job_line_not, program_line_not, stack_line_not}

@@ -2,12 +2,10 @@
 -- 1. the first fault of modules that counts words is that of their first segment that is too long  (full_so)
 -- 2. a segment that is too long may have more than 16,383 words                                    (heavy_so)
 -- 3. a program is refused by the line of such a segment                                            (long_so)
--- 4. what an input comes to                                                                         (decided_so)
-use Rattle.std.proofs.Common.{◌≡◌, ◌<◌, ◌≤◌, ℕ, zero, suc, ◌+◌, nat_lt, ◌==◌, Bool, true, false, if◌then◌else◌, List, [], ◌∷◌, length, Option, Some, None, slice_get, refl, sym, ap, subst, ◌∙◌, arith}
+-- 4. what an input comes to                                                                         (refused_by_words)
+use Rattle.std.proofs.Common.{◌≡◌, ◌<◌, ◌≤◌, ℕ, suc, ◌+◌, nat_lt, ◌==◌, Bool, true, false, if◌then◌else◌, List, [], ◌∷◌, length, Option, Some, None, slice_get, refl, sym, ap, subst, ◌∙◌, arith}
 use Rattle.std.specs.Prelude.{option_map}
 use Rattle.std.proofs.lemmas.Bool.{ltb-true}
-use Rattle.std.specs.Io.KnownBytes.{Appends}
-use Rattle.hp_program.specs.declared.program.Program.{Program}
 use Rattle.job_report.specs.declared.refusals.ModulesRefusal.TheVariants as modules
 use Rattle.job_report.specs.Refusals.{modules_refused}
 use Rattle.job_gen.specs.job_text.Jobs.{JobValue, JobIs}
@@ -25,27 +23,24 @@ use Rattle.spl_linkable.specs.mpe_segmenter.Names.{Part, parts, segment_names}
 use Rattle.spl_linkable.specs.mpe_segmenter.Entries.{either}
 use Rattle.spl_linkable.specs.mpe_segmenter.Counts.{passed_by, table_size, entries_full, segment_full, sizes}
 use Rattle.spl_linkable.specs.mpe_segmenter.Faults.{Fault, NoMain, TwoMains, Doubled, Unresolved, SegmentsFull, EntriesFull, SegmentFull, fault_of, mains, doubled, unresolved, main_faults, segment_faults, first_fault}
-use Rattle.spl_linkable.specs.spl_build.Built.{IsUnlinked, FailsFirst}
+use Rattle.spl_linkable.specs.spl_build.Built.{IsUnlinked}
 use Rattle.spl_linkable.specs.spl_module_names.Faults.{counts_words}
 use Rattle.spl_linkable.proofs.spl_module_names_proofs.FaultLaws.{faults_agree}
 use Rattle.spl_linkable.specs.Linkable as l
 use Rattle.spl_numbered.specs.spl_bounds.spl_module_code.Modules.{AreModules}
 use Rattle.spl_numbered.proofs.spl_bounds_proofs.Words.{keep_bounds}
 use Rattle.hp3000_top.specs.declared.answer.Answer.{Answer}
-use Rattle.hp3000_top.specs.declared.exit.Exit.{Exit}
-use Rattle.hp3000_top.specs.declared.exit.Exit.TheVariants as e
 use Rattle.hp3000_top.specs.declared.verbs.Verb.{Verb}
 use Rattle.hp3000_top.specs.declared.verbs.Verb.TheVariants as verb
 use Rattle.hp3000_top.specs.Programs.{IsRefused, faulty, unlinked, link_line, FirstRefused}
 use Rattle.hp3000_top.specs.Programs as p
-use Rattle.hp3000_top.specs.Causes.{RunsJobs, Cause, Unprepared, CauseOf}
+use Rattle.hp3000_top.specs.Causes.{Cause, Unprepared, CauseOf}
 use Rattle.hp3000_top.specs.Causes as c
 use Rattle.hp3000_top.specs.Decided.{IsNamed, AreNamed, IsNamedOf, IsLong, Crowds, CrowdsOf}
 use Rattle.hp3000_top.specs.Decided as d
-use Rattle.hp3000_top.specs.Steps.{IsAnswered, exit_of, text_of}
-use Rattle.hp3000_top.specs.Steps as s
+use Rattle.hp3000_top.specs.Steps.{text_of}
 use Rattle.hp3000_top.proofs.Sureness.{some_is, kept_rules}
-use Rattle.hp3000_top.proofs.Unique.{crowded_cause, listed_no_cause}
+use Rattle.hp3000_top.proofs.Unique.{listed_no_cause}
 
 clash : (b : Bool) {A : Type 0} → b ≡ true → b ≡ false → A
 clash true is other = cc

@@ -17,7 +17,7 @@ use Rattle.hp3000_top.specs.declared.exit.Exit.TheVariants as e
 use Rattle.hp3000_top.specs.declared.ran.Ran.{Ran}
 use Rattle.hp3000_top.specs.declared.verbs.Verb.{Verb}
 use Rattle.hp3000_top.specs.declared.verbs.Verb.TheVariants as verb
-use Rattle.hp3000_top.specs.Causes.{RunsJobs, account_of, Runs, IsPrepared, CauseOf, SureCauseOf, ComesTo}
+use Rattle.hp3000_top.specs.Causes.{RunsJobs, account_of, Runs, CauseOf, SureCauseOf, ComesTo}
 use Rattle.hp3000_top.specs.Causes as c
 use Rattle.hp3000_top.specs.Answers.{Over, Certain, IsWhole, Refuses, BreaksOff, HasRun, DeliversJob, DeliversOf, Delivers, ReportsAsAlone, CarriesPrepared, AreAsAlone, IsSurelyDoneOf, IsSurelyDone, IsDone, IsSurelyRefused, IsRefusedBy, IsCrowded, CarriesCrowded, MadeBy, MadeAt, RanAt}
 use Rattle.hp3000_top.specs.Steps.{IsInput, IsAnswered, IsTaken, text_of, exit_of, made_by, ran_by}

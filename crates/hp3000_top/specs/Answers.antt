@@ -52,7 +52,7 @@ IsSilent e.Refused = ⊥
 IsSilent e.WriteFault = ⊥
 IsSilent _ = Unit {0}
 
--- what is answered by what was read: it was delivered, or its writing broke off
+-- the answers that rest on an input that was read whole: it is done, it is refused, or writing what it comes to broke off
 abbrev pub IsAnswer : Exit → Type 0
 IsAnswer e.Done = Unit {0}
 IsAnswer e.Refused = Unit {0}

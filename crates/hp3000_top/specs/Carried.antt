@@ -1,5 +1,5 @@
 -- What is said of every program: it carries its units, and its sessions follow the run of these, alone.
-use Rattle.std.specs.Prelude.{ℕ, ◌≡◌, nat_lt, Bool, true, false, List, slice_get, Some}
+use Rattle.std.specs.Prelude.{ℕ, ◌≡◌, nat_lt, Bool, false, List, slice_get, Some}
 use Rattle.hp_program.specs.declared.program.Program.{Program}
 use Rattle.spl_program.specs.spl_meaning.Tables.{Source}
 use Rattle.spl_program.specs.spl_meaning.Runs as runs

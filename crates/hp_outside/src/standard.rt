@@ -2,7 +2,7 @@
 //!
 //! Which bytes come in, where they go, and when a call fails is the outside's, so they tell no bytes. What a reader
 //! or a writer in memory tells is passed on by the calls' own clauses.
-ghost use Rattle.std.specs.Prelude.{◌≡◌, ℕ, ◌<◌, List, length, None, IfOk};
+ghost use Rattle.std.specs.Prelude.{◌≡◌, ◌<◌, length, None, IfOk};
 ghost use Rattle.std.specs.Io.{ReadsAtMost, WritesAtMost};
 ghost use Rattle.std.specs.Io.KnownBytes.{ReadConsumes, WriteAppends};
 ghost use Rattle.hp_outside.specs.Faults.{HasCause};

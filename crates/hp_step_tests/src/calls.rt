@@ -1,12 +1,11 @@
 //! Each call and return once over the register stack, with what it leaves worked by hand from the rules; each trap; and a
 //! transfer to a segment that is absent three times before it is there.
-ghost use Rattle.std.specs.Prelude.{◌==◌, None, if◌then◌else◌};
 
 use super::stacks::{self, Lacking, has_words, numbers};
 use hp_cpu::hp_calls::{
     Called, Phase, call_at_once, exit, exit_at_once, finish_transfer, pcal, scal, sxit,
 };
-use hp_program::{CodeStore, Fetched, Program};
+use hp_program::Program;
 use hp_session::Regs;
 use hp_tos::Stack;
 use hp_word::{Code, Intrinsic, Trap};

@@ -7,7 +7,7 @@ mod case;
 mod fields;
 mod processor;
 
-use case::{Case, Judged, Verdict};
+use case::{Case, Verdict};
 use std::io;
 use std::process::ExitCode;
 

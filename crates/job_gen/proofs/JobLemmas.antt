@@ -1,26 +1,25 @@
 -- A generated text is a job: its lines are read one by one.
-use Rattle.std.proofs.Common.{◌≡◌, ℕ, zero, suc, ◌+◌, Bool, true, false, cond, List, [], ◌∷◌, ◌++◌, Option, None, Some, refl, sym, ap, ◌∙◌, arith, append_assoc, append-nil, subst}
-use Rattle.std.specs.Prelude.{Ok, Err, codes}
+use Rattle.std.proofs.Common.{◌≡◌, ℕ, zero, suc, ◌+◌, Bool, true, false, cond, List, [], ◌∷◌, ◌++◌, None, Some, refl, sym, ap, ◌∙◌, append_assoc, append-nil, subst}
+use Rattle.std.specs.Prelude.{Ok, codes}
 use Rattle.std.specs.Fmt.{digits}
 use Rattle.job_text.specs.job_lines.declared.settings.Settings.{Settings}
 use Rattle.job_text.specs.job_lines.declared.place.Place.{Place}
 use Rattle.job_text.specs.job_lines.declared.place.Place.TheVariants.{Outside, InUnit}
-use Rattle.job_text.specs.job_lines.Lines.{lines}
 use Rattle.job_text.specs.job_lines.Numbers.{number_in}
 use Rattle.job_text.specs.job_lines.Names.{is_program_name}
-use Rattle.job_text.specs.job_lines.Sizes.{option, options}
+use Rattle.job_text.specs.job_lines.Sizes.{options}
 use Rattle.job_text.specs.job_lines.Commands.{command_of}
 use Rattle.job_text.specs.job_lines.Says.{is_command, unit_line, command_said, said_at}
-use Rattle.job_text.specs.States.{TextValue, SeatValue, State, start, at_last, with_unit_line, after}
+use Rattle.job_text.specs.States.{TextValue, State, start, at_last, with_unit_line, after}
 use Rattle.job_text.specs.Rules.{broken}
 use Rattle.job_text.specs.Jobs.{JobIs}
 use Rattle.job_text.specs.Verdicts.{verdict_from, with_job, verdict}
 use Rattle.job_text.proofs.ReadingLemmas.{line_taken}
 use Rattle.job_text.proofs.JobLaws.{job_is}
-use Rattle.job_gen.specs.Pieces.{Piece, bytes, draw, Line, filled, behind, ended, text_of, behind_all}
+use Rattle.job_gen.specs.Pieces.{bytes, draw, Line, filled, behind, ended, text_of, behind_all}
 use Rattle.job_gen.specs.Generated as text
 use Rattle.job_gen.specs.Jobs as jobs
-use Rattle.job_gen.proofs.LineLemmas.{filled_lines, filled_append, filled_ended, both, are_lines, lines_of_text}
+use Rattle.job_gen.proofs.LineLemmas.{filled_lines, filled_append, filled_ended, are_lines, lines_of_text}
 
 -- the settings of each generated job
 abbrev given : Settings

@@ -1,10 +1,10 @@
 -- Draws and lines worked by hand.
-use Rattle.std.proofs.Common.{◌≡◌, ℕ, [], ◌∷◌, length, refl}
+use Rattle.std.proofs.Common.{◌≡◌, [], ◌∷◌, length, refl}
 use Rattle.std.specs.Prelude.{codes}
 use Rattle.std.specs.Fmt.{digits}
 use Rattle.job_gen.specs.Draws.{next, drawn}
-use Rattle.job_gen.specs.Pieces.{filled, behind, text_of, behind_all}
-use Rattle.job_gen.specs.Generated.{first_procedure, later_procedure, procedure_lines, procedures, unit_lines, calls, segment, program, programs, session, sessions, job_lines}
+use Rattle.job_gen.specs.Pieces.{filled, behind, text_of}
+use Rattle.job_gen.specs.Generated.{first_procedure, later_procedure, procedure_lines, procedures, unit_lines, calls, segment, programs, sessions, job_lines}
 
 -- 25173 times 0, and 13849
 next_0 : next 0 ≡ 13849

@@ -1,13 +1,13 @@
 -- The lines of a text that is made of lines: no draw and no piece has a line feed or a carriage return in it.
-use Rattle.std.proofs.Common.{◌≡◌, ℕ, zero, suc, ◌+◌, ◌/◌, ◌%◌, ◌-◌, ◌<◌, ◌≤◌, ◌^◌, Bool, true, false, cond, List, [], ◌∷◌, ◌++◌, length, get_or, refl, sym, ap, ◌∙◌, arith, append_assoc}
-use Rattle.std.specs.Prelude.{◌==◌, ◌&&◌, not, slice_index}
-use Rattle.std.specs.List.{slice_split, onto_first, list_all}
+use Rattle.std.proofs.Common.{◌≡◌, ℕ, ◌+◌, ◌%◌, ◌-◌, ◌<◌, ◌^◌, Bool, true, false, cond, List, [], ◌∷◌, ◌++◌, length, get_or, refl, sym, ap, ◌∙◌, arith, append_assoc}
+use Rattle.std.specs.Prelude.{◌==◌, ◌&&◌, not}
+use Rattle.std.specs.List.{slice_split, onto_first}
 use Rattle.std.specs.Fmt.{decimal}
 use Rattle.std.proofs.lemmas.Fmt.{decimal_by_steps}
 use Rattle.std.proofs.lemmas.Bool.Decides.{nat_tests}
 use Rattle.job_text.specs.job_lines.Lines.{without_return, lines_of_parts, lines}
 use Rattle.job_gen.specs.Draws.{next, drawn}
-use Rattle.job_gen.specs.Pieces.{Piece, bytes, draw, Line, filled, behind, ended, text_of, behind_all}
+use Rattle.job_gen.specs.Pieces.{bytes, draw, Line, filled, behind, ended, text_of, behind_all}
 
 -- a byte that ends no line
 abbrev pub stays : ℕ → Bool

@@ -1,9 +1,9 @@
 -- How long a text of lines is at most: a draw has at most three digits.
-use Rattle.std.proofs.Common.{◌≡◌, ℕ, ◌+◌, ◌<◌, ◌≤◌, ◌^◌, List, [], ◌∷◌, ◌++◌, length, arith, length-append, lit≤}
+use Rattle.std.proofs.Common.{ℕ, ◌+◌, ◌<◌, ◌≤◌, List, [], ◌∷◌, length, arith, length-append, lit≤}
 use Rattle.std.specs.Fmt.{decimal, digits}
 use Rattle.std.proofs.lemmas.Fmt.{length-decimal-le}
 use Rattle.job_gen.specs.Draws.{next, drawn}
-use Rattle.job_gen.specs.Pieces.{Piece, bytes, draw, Line, filled, behind, ended, text_of, behind_all}
+use Rattle.job_gen.specs.Pieces.{bytes, draw, Line, filled, behind, ended, text_of}
 use Rattle.job_gen.specs.Generated.{procedures, unit_lines, programs, sessions, job_lines, generated}
 use Rattle.job_gen.proofs.LineLemmas.{drawn_small}
 

@@ -1,7 +1,7 @@
 -- The lines of a generated job: eight programs of eighty procedures each, and two sessions of each program.
 use Rattle.std.specs.Prelude.{ℕ, zero, suc, ◌-◌, ◌/◌, ◌%◌, ◌==◌, if◌then◌else◌, List, [], ◌∷◌, ◌++◌, codes}
 use Rattle.std.specs.Fmt.{decimal}
-use Rattle.job_gen.specs.Pieces.{Piece, bytes, draw, Line, text_of}
+use Rattle.job_gen.specs.Pieces.{bytes, draw, Line, text_of}
 
 -- a line with no draw
 abbrev pub plain : List ℕ → Line

@@ -1,7 +1,6 @@
 //! A text that grows line by line, with the numbers that are drawn for it.
-ghost use Rattle.std.specs.Prelude.{◌≡◌, ◌++◌, ◌∷◌, [], OnOk};
+ghost use Rattle.std.specs.Prelude.{◌≡◌, ◌++◌, OnOk};
 ghost use Rattle.job_gen.specs.Draws.{next, drawn};
-ghost use Rattle.job_gen.specs.Grows.{Grows};
 
 use std::alloc::AllocError as NoMemory;
 

@@ -1,5 +1,5 @@
 //! How a session ended, in words.
-ghost use Rattle.std.specs.Prelude.{◌≡◌, ◌++◌, ◌∷◌, [], OnOk, codes};
+ghost use Rattle.std.specs.Prelude.{◌≡◌, ◌++◌, ◌∷◌, OnOk, codes};
 ghost use Rattle.std.specs.Fmt.{decimal};
 ghost use Rattle.job_report.specs.Lines.{line};
 ghost use Rattle.job_report.specs.Endings.{trap_number, trap_text, end_pieces};

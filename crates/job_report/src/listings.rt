@@ -1,7 +1,7 @@
 //! The listing of a program.
 ghost use Rattle.std.specs.Prelude.{◌≡◌, ◌≤◌, ◌<◌, ◌++◌, length, map, OnOk, IfOk, None, true};
 ghost use Rattle.hp_program.specs.Valid.{bad_segment, entries_of, is_well_sized};
-ghost use Rattle.job_report.specs.Listings.{octal, head_line, data_lines, data_line, code_line, code_lines, gate_name, entry_line, entry_lines, code_of, segment_line, segment_text, segments_text, listing_of};
+ghost use Rattle.job_report.specs.Listings.{octal, head_line, data_lines, code_line, code_lines, gate_name, entry_line, entry_lines, code_of, segment_text, segments_text, listing_of};
 
 use crate::lines::push_line;
 use crate::numbers::number;

@@ -1,6 +1,6 @@
 -- Sessions as they are reported.
-use Rattle.std.proofs.Common.{ℕ, zero, suc, ◌≡◌, ◌+◌, ◌<◌, ◌≤◌, List, [], ◌∷◌, ◌++◌, map, length, take, get_or, add-one, Some, refl, sym, ap, subst, ◌∙◌, arith}
-use Rattle.std.specs.Prelude.{slice_get, IfOk, Result, Option, Bool, Vec}
+use Rattle.std.proofs.Common.{ℕ, zero, suc, ◌≡◌, ◌+◌, ◌<◌, ◌≤◌, List, [], ◌∷◌, ◌++◌, map, length, take, get_or, add-one, refl, sym, ap, subst, ◌∙◌, arith}
+use Rattle.std.specs.Prelude.{IfOk, Result, Option, Bool, Vec}
 use Rattle.std.specs.Global.{Global}
 use Rattle.std.proofs.Math.Seq.{take-suc}
 use Rattle.std.proofs.lemmas.List.{map_push, take_all}
@@ -12,7 +12,7 @@ use Rattle.job_report.specs.declared.point.Point.{Point}
 use Rattle.job_report.specs.Reports.{Reported, reported, report_of, summary_of}
 use Rattle.mpe_turns.specs.declared.session.Session.{Session}
 use Rattle.mpe_turns.specs.Stands.{run_of, runs_of}
-use Rattle.mpe_turns.specs.mpe_worlds.Worlds.{Run, World, segments_at}
+use Rattle.mpe_turns.specs.mpe_worlds.Worlds.{World, segments_at}
 use Rattle.job_runs.specs.Reported.{AreOf, names_of, reported_of, counted, report_on, summary_on}
 
 -- the name of a program

@@ -2,7 +2,7 @@
 ghost use Rattle.std.specs.Prelude.{◌≡◌, ◌<◌, ℕ, List, length, map, IfOk};
 ghost use Rattle.job_text.specs.Views.{text_value};
 ghost use Rattle.job_report.specs.Reports.{reported};
-ghost use Rattle.mpe_turns.specs.Monitors.{codes_in, world_of};
+ghost use Rattle.mpe_turns.specs.Monitors.{world_of};
 ghost use Rattle.mpe_turns.specs.Stands.{run_of, runs_of};
 ghost use Rattle.mpe_turns.specs.mpe_worlds.Worlds.{segments_at};
 ghost use Rattle.job_runs.specs.Reported.{AreOf, names_of, reported_of, counted, report_on, summary_on};

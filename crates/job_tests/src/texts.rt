@@ -1,7 +1,7 @@
 //! Job texts worked by hand, each rule at its edges.
 
 use hp_session::Line;
-use job_text::{Job, JobFault, Text, read_job};
+use job_text::{JobFault, Text, read_job};
 use mpe_session::Seat;
 use std::alloc::{AllocError, Global};
 use std::process::Abort;

@@ -1,13 +1,12 @@
 -- What a job says is within its limits, since each of its lines is.
 -- 1. how long lines are                     (part_weights to text_weight)
--- 2. what one line adds                     (test_room to fits_after)
+-- 2. what one line adds                     (line_length to after_word)
 -- 3. what all of them say                   (fits_read, jobs_fit)
-use Rattle.std.proofs.Common.{◌≡◌, ℕ, zero, suc, ◌+◌, ◌-◌, ◌*◌, ◌<◌, ◌≤◌, ◌&&◌, Bool, true, false, List, [], ◌∷◌, ◌++◌, length, take, drop, map, Option, None, Some, cond, append_assoc, refl, sym, ap, subst, ◌∙◌, arith}
-use Rattle.std.specs.Prelude.{Result, Ok, Err, nat_lt, nat_le, unwrap_or, ◌==◌, ◌||◌, slice_index, if◌then◌else◌, is_some, not}
+use Rattle.std.proofs.Common.{◌≡◌, ℕ, zero, suc, ◌+◌, ◌-◌, ◌<◌, ◌≤◌, ◌&&◌, Bool, true, false, List, [], ◌∷◌, ◌++◌, length, take, drop, map, Option, None, Some, cond, refl, sym, ap, subst, arith}
+use Rattle.std.specs.Prelude.{Result, Ok, Err, nat_lt, unwrap_or, ◌==◌, slice_index, if◌then◌else◌, is_some}
 use Rattle.std.specs.List.{slice_split, position_from, onto_first}
 use Rattle.std.proofs.lemmas.Bool.Decides.{nat_tests}
 use Rattle.std.proofs.lemmas.List.{length-append}
-use Rattle.std.proofs.lemmas.List.Splits.{slice_split-cons_yes, slice_split-cons_no}
 use Rattle.job_lines.specs.declared.place.Place.{Place}
 use Rattle.job_lines.specs.declared.place.Place.TheVariants as place
 use Rattle.job_lines.specs.declared.settings.Setting.{Setting}
@@ -15,22 +14,22 @@ use Rattle.job_lines.specs.declared.settings.Setting.TheVariants as st
 use Rattle.job_lines.specs.declared.settings.Settings.{Settings}
 use Rattle.job_lines.specs.declared.sizes.Sizes.{Sizes}
 use Rattle.job_lines.specs.declared.sizes.Size.TheVariants as sz
-use Rattle.job_lines.specs.Lines.{lines, lines_of_parts, last_line, without_return, same, words, is_blank_line}
+use Rattle.job_lines.specs.Lines.{lines, lines_of_parts, without_return, same, words, is_blank_line}
 use Rattle.std.specs.Char.{to_ascii_uppercase}
 use Rattle.job_lines.specs.Numbers.{is_between}
 use Rattle.job_lines.specs.Settings.{setting_fits, setting_in, with_setting, value_of, default_setting, no_settings}
-use Rattle.job_lines.specs.Sizes.{sizes_fit, fits_if_given, size_fits}
+use Rattle.job_lines.specs.Sizes.{sizes_fit, fits_if_given}
 use Rattle.job_lines.specs.Commands.{Command}
 use Rattle.job_lines.specs.Commands as cmd
 use Rattle.job_lines.specs.Says as say
-use Rattle.job_lines.specs.Says.{Said, said_at, session_said, command_said, said_by_words, is_command, end_of_text}
+use Rattle.job_lines.specs.Says.{Said, said_at, command_said, said_by_words, is_command, end_of_text}
 use Rattle.job_text.specs.States.{TextValue, SeatValue, State, start, after, after_command, at_last, with_unit, with_unit_line, with_terminal_line, opened, program_number}
-use Rattle.job_text.specs.Rules.{broken, first_failing, kept, last_units, has_room, is_in_limits, names_program, has_seat}
+use Rattle.job_text.specs.Rules.{broken, last_units}
 use Rattle.job_text.specs.Jobs.{JobValue, job_of, JobIs}
 use Rattle.job_text.specs.Fits.{Each, ProgramFits, SeatFits, JobFits}
 use Rattle.job_text.specs.Laws.{JobsFit}
 use Rattle.job_text.specs.Verdicts.{Fault, going_on, verdict_from, with_job, verdict}
-use Rattle.job_text.proofs.JobLaws.{job_is, texts_are_read, jobs_are_unique, jobs_break_nothing, job_breaks}
+use Rattle.job_text.proofs.JobLaws.{job_is, jobs_are_unique, jobs_break_nothing, job_breaks}
 use Rattle.job_text.proofs.RuleLemmas.{limits_kept, room_kept, seat_kept, program_kept}
 
 -- ---- 1. how long lines are

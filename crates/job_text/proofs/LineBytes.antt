@@ -1,5 +1,5 @@
 -- The lines that sessions are to be typed have bytes of the text alone.
-use Rattle.std.proofs.Common.{◌≡◌, ℕ, zero, suc, ◌+◌, ◌-◌, ◌&&◌, Bool, true, false, List, [], ◌∷◌, ◌++◌, length, take, drop, map, Option, None, Some, cond, refl, sym, ap, subst, ◌∙◌}
+use Rattle.std.proofs.Common.{◌≡◌, ℕ, zero, suc, ◌+◌, ◌-◌, ◌&&◌, Bool, true, false, List, [], ◌∷◌, ◌++◌, length, take, drop, map, Option, None, Some, cond, refl, subst}
 use Rattle.std.specs.Prelude.{Result, Ok, Err, ◌==◌, slice_index, if◌then◌else◌}
 use Rattle.std.specs.List.{list_all, slice_split, onto_first}
 use Rattle.std.specs.Char.{to_ascii_uppercase}
@@ -11,9 +11,9 @@ use Rattle.job_lines.specs.Commands.{Command}
 use Rattle.job_lines.specs.Commands as cmd
 use Rattle.job_lines.specs.Says as say
 use Rattle.job_lines.specs.Says.{Said, said_at, command_said, said_by_words, is_command, end_of_text}
-use Rattle.job_text.specs.States.{SeatValue, State, start, after, after_command, with_terminal_line, opened, program_number}
+use Rattle.job_text.specs.States.{SeatValue, State, start, after, after_command, with_terminal_line}
 use Rattle.job_text.specs.Rules.{broken}
-use Rattle.job_text.specs.Jobs.{JobValue, job_of, JobIs}
+use Rattle.job_text.specs.Jobs.{JobValue, job_of}
 use Rattle.job_text.specs.Fits.{Each}
 use Rattle.job_text.specs.Laws.{LinesAreOfTexts}
 use Rattle.job_text.specs.Verdicts.{Fault, verdict_from, with_job, verdict}

@@ -1,5 +1,5 @@
 -- A job to be prepared has one program and no session: its end says so, and nothing is said behind that.
-use Rattle.std.proofs.Common.{◌≡◌, ℕ, ◌+◌, ◌&&◌, Bool, true, false, List, [], ◌∷◌, length, Option, None, Some, cond, refl, sym, ap, subst, ◌∙◌, arith}
+use Rattle.std.proofs.Common.{◌≡◌, ℕ, ◌+◌, ◌&&◌, Bool, true, false, List, [], ◌∷◌, length, None, refl, sym, ap, subst, ◌∙◌, arith}
 use Rattle.std.specs.Prelude.{Result, Ok, Err, if◌then◌else◌, ◌==◌}
 use Rattle.std.proofs.lemmas.Bool.Decides.{nat_tests}
 use Rattle.job_lines.specs.declared.place.Place.{Place}
@@ -11,9 +11,9 @@ use Rattle.job_lines.specs.Says as say
 use Rattle.job_lines.specs.Says.{Said, said_at, end_of_text}
 use Rattle.job_text.specs.States.{State, SeatValue, start, after, after_command}
 use Rattle.job_text.specs.Rules.{broken, is_ended, is_empty, fits_its_use}
-use Rattle.job_text.specs.Jobs.{JobValue, job_of, JobIs}
+use Rattle.job_text.specs.Jobs.{JobValue, job_of}
 use Rattle.job_text.specs.Laws.{PreparedJobsAreSingle}
-use Rattle.job_text.specs.Verdicts.{Fault, going_on, verdict_from, with_job, verdict}
+use Rattle.job_text.specs.Verdicts.{Fault, verdict_from, with_job, verdict}
 use Rattle.job_text.proofs.FitLemmas.{and_first, and_second, job_read, going}
 use Rattle.job_text.proofs.RuleLemmas.{use_kept, close_kept}
 

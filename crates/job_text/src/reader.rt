@@ -1,5 +1,5 @@
 //! A job read from its text, line by line.
-ghost use Rattle.std.specs.Prelude.{◌≡◌, ◌≤◌, length, IfOk, IfErr, OnOk, None, Some, ℕ};
+ghost use Rattle.std.specs.Prelude.{◌≤◌, length, IfOk, IfErr, None, Some, ℕ};
 ghost use Rattle.job_lines.specs.Says.{said_at};
 ghost use Rattle.job_lines.specs.Views.{said_value};
 ghost use Rattle.job_text.specs.Verdicts.{verdict};

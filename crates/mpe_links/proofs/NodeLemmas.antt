@@ -1,11 +1,10 @@
 -- One node of a table is written.
-use Rattle.std.proofs.Common.{◌≡◌, ◌≢◌, ℕ, ◌<◌, Bool, true, false, cond, List, length, get_or, refl, sym, ap, ◌∙◌, arith, get_or-set_other, get_or-set_same}
+use Rattle.std.proofs.Common.{◌≡◌, ◌≢◌, ℕ, ◌<◌, Bool, true, false, cond, List, length, get_or, refl, ap, ◌∙◌, arith, get_or-set_other, get_or-set_same}
 use Rattle.std.specs.Prelude.{◌==◌, slice_set}
 use Rattle.std.proofs.lemmas.Bool.Decides.{nat_tests}
 use Rattle.mpe_links.specs.declared.node.Node.{Node}
 use Rattle.mpe_links.specs.Ways.{Writes}
 use Rattle.mpe_links.specs.Nodes.{blank, node_at}
-use Rattle.mpe_links.specs.Writes.{Same}
 
 pub node_there : (nodes : List Node) (at : ℕ) (n : Node) → at < length nodes → node_at (slice_set nodes at n) at ≡ n
 unfolding node_at

@@ -1,15 +1,14 @@
 -- What is written, one link behind the other, takes a node out of a ring or puts it in.
-use Rattle.std.proofs.Common.{◌≡◌, ◌≢◌, ℕ, ◌+◌, ◌<◌, ◌≤◌, Bool, true, false, cond, List, [], ◌∷◌, ◌++◌, length, get_or, refl, sym, ap, subst, ◌∙◌, arith, append-nil}
-use Rattle.std.specs.Prelude.{◌==◌, slice_set}
+use Rattle.std.proofs.Common.{◌≡◌, ◌≢◌, ℕ, Bool, true, false, cond, List, [], ◌∷◌, ◌++◌, get_or, refl, sym, ap, subst, ◌∙◌, arith, append-nil}
+use Rattle.std.specs.Prelude.{◌==◌}
 use Rattle.std.proofs.lemmas.Bool.Decides.{nat_tests}
 use Rattle.mpe_links.specs.declared.node.Node.{Node}
-use Rattle.mpe_links.specs.Lists.{times, Apart, last_or, first_or}
+use Rattle.mpe_links.specs.Lists.{times, Apart, last_or}
 use Rattle.mpe_links.specs.Ways.{Goes, Returns, Writes}
 use Rattle.mpe_links.specs.Nodes.{blank, node_at, right_of, left_of, newer_of, older_of, less_right, less_left, less_newer, less_older}
 use Rattle.mpe_links.specs.Writes.{Same, less_use, less_place}
 use Rattle.mpe_links.specs.Rings.{InUse, InPlace, AreFree}
-use Rattle.mpe_links.proofs.WayLaws.{not_first, absent_there, times_append, goes_same, goes_ext, writes_from, writes_to, writes_at, goes_from, returns_from, Ring, unlinked, linked}
-use Rattle.mpe_links.proofs.NodeLemmas.{node_there, node_other}
+use Rattle.mpe_links.proofs.WayLaws.{goes_ext, writes_from, writes_to, writes_at, goes_from, returns_from, Ring, unlinked, linked}
 
 pub no_head : (x h v : ℕ) → x ≢ 65535 → cond (x == 65535) h v ≡ v
 no_head x h v d = let no : (x == 65535) ≡ false = grind (arith, nat_tests) in ap (λ t. cond t h v) no

@@ -1,14 +1,13 @@
 -- A ring does not see what is written of nodes besides its own links; a free node is put in front of the others or taken from there.
-use Rattle.std.proofs.Common.{◌≡◌, ◌≢◌, ℕ, zero, suc, ◌+◌, ◌<◌, ◌≤◌, Bool, true, false, cond, List, [], ◌∷◌, ◌++◌, length, get_or, refl, sym, ap, subst, ◌∙◌, arith, append-nil, length-append}
+use Rattle.std.proofs.Common.{◌≡◌, ◌≢◌, ℕ, ◌+◌, ◌<◌, ◌≤◌, Bool, true, false, cond, List, [], ◌∷◌, ◌++◌, length, refl, sym, ap, subst, ◌∙◌, arith, append-nil}
 use Rattle.std.specs.Prelude.{◌==◌, slice_set}
 use Rattle.std.proofs.lemmas.Bool.Decides.{nat_tests}
 use Rattle.mpe_links.specs.declared.node.Node.{Node}
 use Rattle.mpe_links.specs.Lists.{times, Apart, last_or, first_or}
-use Rattle.mpe_links.specs.Ways.{Goes, Returns, Writes}
-use Rattle.mpe_links.specs.Nodes.{blank, node_at, right_of, left_of, newer_of, older_of}
-use Rattle.mpe_links.specs.Writes.{Same, less_use, less_place}
+use Rattle.mpe_links.specs.Ways.{Goes, Returns}
+use Rattle.mpe_links.specs.Nodes.{node_at, right_of, left_of, newer_of, older_of}
 use Rattle.mpe_links.specs.Rings.{InUse, InPlace, AreFree}
-use Rattle.mpe_links.proofs.WayLaws.{not_first, absent_there, times_append, goes_ext, returns_ext, goes_at, goes_from, returns_at, returns_from}
+use Rattle.mpe_links.proofs.WayLaws.{not_first, absent_there, times_append, goes_ext, returns_ext, goes_at, returns_at, returns_from}
 use Rattle.mpe_links.proofs.NodeLemmas.{node_there, node_other}
 use Rattle.mpe_links.proofs.RingLemmas.{no_head, ends}
 

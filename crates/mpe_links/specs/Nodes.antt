@@ -1,5 +1,5 @@
 -- The links of nodes. The heads of a list stand where a node 65535 would have its links.
-use Rattle.std.specs.Prelude.{◌≡◌, ℕ, ◌==◌, ◌<◌, ◌≢◌, false, if◌then◌else◌, List, length, slice_index_or}
+use Rattle.std.specs.Prelude.{ℕ, ◌==◌, ◌<◌, ◌≢◌, false, if◌then◌else◌, List, slice_index_or}
 use Rattle.mpe_links.specs.declared.node.Node.{Node}
 
 -- what stands past the end of a table

@@ -1,3 +1,4 @@
+//! Nodes linked by their numbers: two rings, and a chain of those that are free.
 #![tactic(auto)]
 
 mod moves;

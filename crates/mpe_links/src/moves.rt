@@ -1,5 +1,5 @@
 //! What happens to a region: it is entered, used again, or given up.
-ghost use Rattle.std.specs.Prelude.{◌≡◌, ◌≢◌, ◌<◌, ◌≤◌, ℕ, List, [], ◌∷◌, ◌++◌, length, true, false};
+ghost use Rattle.std.specs.Prelude.{◌≡◌, ◌≢◌, ◌<◌, ◌≤◌, ℕ, List, [], ◌∷◌, ◌++◌, length, false};
 ghost use Rattle.mpe_links.specs.Lists.{times, last_or};
 ghost use Rattle.mpe_links.specs.Nodes.{node_at, right_of, IsLink};
 ghost use Rattle.mpe_links.specs.Writes.{Same, less_use, less_links};

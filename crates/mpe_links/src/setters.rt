@@ -1,5 +1,5 @@
 //! One link is written.
-ghost use Rattle.std.specs.Prelude.{◌≡◌, ℕ, ◌==◌, if◌then◌else◌, length};
+ghost use Rattle.std.specs.Prelude.{ℕ, ◌==◌, if◌then◌else◌, length};
 ghost use Rattle.mpe_links.specs.Nodes.{right_of, left_of, newer_of, older_of, IsLink, less_right, less_left, less_newer, less_older};
 ghost use Rattle.mpe_links.specs.Ways.{Writes};
 ghost use Rattle.mpe_links.specs.Writes.{Same};

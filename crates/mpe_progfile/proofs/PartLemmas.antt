@@ -5,7 +5,7 @@ use Rattle.std.proofs.lemmas.Bool.{leb-true, le-leb, lt-ltb}
 use Rattle.hp_program.specs.Valid.{bad_segment, is_head}
 use Rattle.mpe_progfile.specs.declared.faults.FileFault.{FileFault}
 use Rattle.mpe_progfile.specs.declared.faults.FileFault.TheVariants as fault
-use Rattle.mpe_progfile.specs.Reading.{Cursor, Parts, word, with_read, tested, head_word, is_between, words, segments, magic_read, body, parts}
+use Rattle.mpe_progfile.specs.Reading.{Cursor, Parts, word, head_word, is_between, words, segments, magic_read, body, parts}
 use Rattle.mpe_progfile.proofs.SizeLemmas.{with_ok, tested_ok, both, all_of, times_length, segments_sized}
 use Rattle.mpe_progfile.specs.Reading as read
 

@@ -1,5 +1,5 @@
 //! A file read from its front.
-ghost use Rattle.std.specs.Prelude.{◌≡◌, ◌≤◌, ◌+◌, ◌*◌, ◌++◌, ◌==◌, length, map, ℕ, List, Bool, true, IfOk};
+ghost use Rattle.std.specs.Prelude.{◌≡◌, ◌≤◌, ◌+◌, ◌*◌, ◌++◌, ◌==◌, length, map, true, IfOk};
 ghost use Rattle.mpe_progfile.specs.Reading as read;
 ghost use Rattle.mpe_progfile.specs.Files.{magic, word_bytes, words_bytes, segment_bytes, segments_bytes};
 ghost use Rattle.mpe_progfile.specs.Views.{cursor_of, Gives};

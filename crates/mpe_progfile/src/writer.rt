@@ -1,7 +1,7 @@
 //! A program file written.
-ghost use Rattle.std.specs.Prelude.{◌≡◌, ◌≤◌, ◌<◌, ◌++◌, map, length, OnOk, IfOk, None};
+ghost use Rattle.std.specs.Prelude.{◌≡◌, ◌<◌, ◌++◌, map, OnOk, IfOk, None};
 ghost use Rattle.hp_program.specs.Valid.{bad_segment};
-ghost use Rattle.mpe_progfile.specs.Files.{word_bytes, words_bytes, segment_bytes, segments_bytes, IsFile};
+ghost use Rattle.mpe_progfile.specs.Files.{word_bytes, words_bytes, segments_bytes, IsFile};
 
 use hp_program::Program;
 use std::alloc::{AllocError as NoMemory, Global};

@@ -1,6 +1,6 @@
 -- What the searches find, by the list of nodes in order of place.
-use Rattle.std.proofs.Common.{◌≡◌, ◌≢◌, ℕ, zero, suc, ◌+◌, ◌-◌, ◌<◌, ◌≤◌, Bool, true, false, cond, List, [], ◌∷◌, ◌++◌, length, map, Option, None, Some, refl, sym, ap, subst, ◌∙◌, arith}
-use Rattle.std.specs.Prelude.{◌==◌, nat_lt, nat_le, option_map}
+use Rattle.std.proofs.Common.{◌≡◌, ℕ, zero, suc, ◌+◌, ◌-◌, ◌<◌, ◌≤◌, Bool, true, false, cond, List, [], ◌∷◌, ◌++◌, length, map, Option, None, Some, refl, sym, ap, subst, ◌∙◌, arith}
+use Rattle.std.specs.Prelude.{◌==◌, nat_lt, nat_le}
 use Rattle.std.proofs.lemmas.Bool.{lt-ltb}
 use Rattle.std.proofs.lemmas.Bool.Decides.{nat_tests}
 use Rattle.mpe_links.specs.declared.node.Node.{Node}
@@ -14,7 +14,7 @@ use Rattle.mpe_regions.specs.declared.searches.Hole.{Hole}
 use Rattle.mpe_regions.specs.Loads.{hole_from, placed}
 use Rattle.mpe_regions.specs.Sound.{IsLaidOut}
 use Rattle.mpe_regions.specs.Searches.{sought, last_hole, hole_sought}
-use Rattle.mpe_regions.specs.LinkedForm.{region_at, key_at, IsListed, found_in}
+use Rattle.mpe_regions.specs.LinkedForm.{region_at, IsListed, found_in}
 use Rattle.mpe_regions.proofs.SearchSteps.{sought_past, hole_past}
 
 sought_along : (nodes : List Node) (first key p n : ℕ) (xs : List ℕ) → length nodes ≤ 65535 → ((k : ℕ) → 0 < times k xs → k < length nodes)

@@ -1,5 +1,5 @@
 -- Free nodes are made one by one, and a node is entered.
-use Rattle.std.proofs.Common.{◌≡◌, ◌≢◌, ℕ, zero, suc, ◌+◌, ◌<◌, ◌≤◌, Bool, true, false, cond, List, [], ◌∷◌, ◌++◌, length, get_or, refl, sym, ap, subst, ◌∙◌, arith, add-one, length-append}
+use Rattle.std.proofs.Common.{◌≡◌, ◌≢◌, ℕ, zero, suc, ◌+◌, ◌<◌, ◌≤◌, Bool, true, false, cond, List, [], ◌∷◌, ◌++◌, length, refl, sym, ap, subst, ◌∙◌, arith, add-one, length-append}
 use Rattle.std.specs.Prelude.{◌==◌, nat_lt, slice_set}
 use Rattle.std.proofs.lemmas.Bool.Decides.{nat_tests}
 use Rattle.std.proofs.lemmas.List.{get_or_append_left, get_or_at, get_or_past}
@@ -7,7 +7,6 @@ use Rattle.mpe_links.specs.declared.node.Node.{Node}
 use Rattle.mpe_links.specs.Lists.{times}
 use Rattle.mpe_links.specs.Ways.{Goes}
 use Rattle.mpe_links.specs.Nodes.{blank, node_at, right_of}
-use Rattle.mpe_links.specs.Rings.{AreFree}
 use Rattle.mpe_links.proofs.RingLemmas.{no_head}
 use Rattle.mpe_links.proofs.NodeLemmas.{same}
 use Rattle.mpe_links.proofs.TableLemmas.{goes_under}

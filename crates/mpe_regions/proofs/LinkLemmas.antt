@@ -1,22 +1,17 @@
 -- Walks along links, and what the nodes of a table stand for.
-use Rattle.std.proofs.Common.{◌≡◌, ◌≢◌, ℕ, zero, suc, ◌+◌, ◌-◌, ◌<◌, ◌≤◌, Bool, true, false, cond, List, [], ◌∷◌, ◌++◌, length, map, Option, None, Some, refl, sym, ap, subst, ◌∙◌, arith, length-append}
-use Rattle.std.specs.Prelude.{◌==◌, nat_lt, nat_le, not, filter, option_map, slice_get, if◌then◌else◌}
+use Rattle.std.proofs.Common.{◌≡◌, ℕ, zero, suc, ◌+◌, ◌<◌, ◌≤◌, Bool, true, false, cond, List, [], ◌∷◌, ◌++◌, length, map, Some, refl, sym, ap, subst, ◌∙◌, arith}
+use Rattle.std.specs.Prelude.{◌==◌, nat_lt, option_map}
 use Rattle.std.proofs.lemmas.Bool.Decides.{nat_tests}
-use Rattle.std.proofs.lemmas.List.{length-map}
 use Rattle.mpe_links.specs.declared.node.Node.{Node}
-use Rattle.mpe_links.specs.Lists.{times, Apart, last_or, first_or}
-use Rattle.mpe_links.specs.Ways.{Goes, Returns}
-use Rattle.mpe_links.specs.Nodes.{node_at, right_of, left_of, newer_of, older_of}
-use Rattle.mpe_links.specs.Rings.{InUse, InPlace, AreFree}
+use Rattle.mpe_links.specs.Lists.{times}
+use Rattle.mpe_links.specs.Ways.{Goes}
+use Rattle.mpe_links.specs.Nodes.{node_at, right_of, newer_of}
 use Rattle.mpe_links.proofs.WayLaws.{not_first, times_append}
-use Rattle.mpe_links.proofs.RingLemmas.{no_head}
-use Rattle.mpe_regions.specs.declared.region.Region.{Region}
 use Rattle.mpe_regions.specs.declared.regions.Regions.TheInside.{Inside}
 use Rattle.mpe_regions.specs.Area as a
-use Rattle.mpe_regions.specs.Area.{Area, region_of, times_placed, times_used, oldest_of}
+use Rattle.mpe_regions.specs.Area.{region_of, times_placed}
 use Rattle.mpe_regions.specs.Sound.{IsSound}
-use Rattle.mpe_regions.specs.Kept.{Kept}
-use Rattle.mpe_regions.specs.LinkedForm.{region_at, key_at, walk, area_by, area_of, kept_by, IsLinked, IsTable, IsListed, found_in}
+use Rattle.mpe_regions.specs.LinkedForm.{region_at, key_at, walk, area_by, area_of, IsLinked, IsTable, IsListed, found_in}
 
 -- ---- walks
 

@@ -1,19 +1,17 @@
 -- What is read of a table: whether it is full, its oldest key, the region of a key.
-use Rattle.std.proofs.Common.{◌≡◌, ◌≢◌, ℕ, zero, suc, ◌+◌, ◌-◌, ◌<◌, ◌≤◌, Bool, true, false, cond, List, [], ◌∷◌, ◌++◌, length, map, Option, None, Some, refl, sym, ap, subst, ◌∙◌, arith}
-use Rattle.std.specs.Prelude.{◌==◌, nat_lt, nat_le, option_map, slice_get, if◌then◌else◌, is_some, IfSome}
+use Rattle.std.proofs.Common.{◌≡◌, ℕ, suc, ◌-◌, ◌<◌, true, false, cond, List, [], ◌∷◌, ◌++◌, length, map, Option, None, Some, refl, sym, ap, subst, ◌∙◌, arith}
+use Rattle.std.specs.Prelude.{◌==◌, nat_lt, nat_le, option_map, slice_get, is_some, IfSome}
 use Rattle.std.proofs.lemmas.Bool.{lt-ltb, le-ltb, eq-eqb, ne_eqb, le-leb, lt-leb}
 use Rattle.std.proofs.lemmas.Bool.Decides.{nat_tests}
 use Rattle.std.proofs.lemmas.List.{length-map}
 use Rattle.mpe_links.specs.declared.node.Node.{Node}
 use Rattle.mpe_links.specs.Lists.{times}
-use Rattle.mpe_links.specs.Nodes.{node_at, right_of, newer_of}
+use Rattle.mpe_links.specs.Nodes.{right_of, newer_of}
 use Rattle.mpe_links.specs.Ways.{Goes}
-use Rattle.mpe_links.proofs.WayLaws.{not_first}
-use Rattle.mpe_regions.specs.declared.region.Region.{Region}
 use Rattle.mpe_regions.specs.declared.regions.Regions.TheInside.{Inside}
 use Rattle.mpe_regions.specs.Area.{Area, region_of, is_live, oldest_of}
 use Rattle.mpe_regions.specs.Loads.{used, touched, dropped}
-use Rattle.mpe_regions.specs.LinkedForm.{region_at, key_at, area_by, area_of, kept_by, IsLinked, IsTable, IsListed, found_in}
+use Rattle.mpe_regions.specs.LinkedForm.{region_at, key_at, area_of, kept_by, IsTable, IsListed, found_in}
 use Rattle.mpe_links.specs.Rings.{InUse}
 use Rattle.mpe_links.proofs.TableLemmas.{Parted, parted, part}
 use Rattle.mpe_regions.proofs.SoundLemmas.{dropped-absent}

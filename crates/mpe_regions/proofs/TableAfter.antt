@@ -1,16 +1,15 @@
 -- A table after a region was given up or entered is a table, with the area that the definition says.
-use Rattle.std.proofs.Common.{◌≡◌, ◌≢◌, ℕ, zero, suc, ◌+◌, ◌-◌, ◌<◌, ◌≤◌, Bool, true, false, cond, List, [], ◌∷◌, ◌++◌, length, map, Option, None, Some, refl, sym, ap, subst, ◌∙◌, arith, length-append}
+use Rattle.std.proofs.Common.{◌≡◌, ◌≢◌, ℕ, suc, ◌+◌, ◌-◌, ◌<◌, ◌≤◌, Bool, true, false, cond, List, [], ◌∷◌, ◌++◌, length, map, Option, None, Some, refl, sym, ap, subst, ◌∙◌, arith}
 use Rattle.std.specs.Prelude.{◌==◌, nat_lt, option_map}
 use Rattle.std.proofs.lemmas.List.{length-map}
 use Rattle.std.proofs.lemmas.Bool.Decides.{nat_tests}
 use Rattle.mpe_links.specs.declared.node.Node.{Node}
-use Rattle.mpe_links.specs.Lists.{times, Apart, last_or, first_or}
+use Rattle.mpe_links.specs.Lists.{times, last_or}
 use Rattle.mpe_links.specs.Nodes.{node_at, right_of, IsLink}
 use Rattle.mpe_links.specs.Writes.{less_links}
 use Rattle.mpe_links.specs.Rings.{InUse, InPlace, AreFree}
-use Rattle.mpe_links.proofs.WayLaws.{not_first, times_append, goes_from}
+use Rattle.mpe_links.proofs.WayLaws.{not_first, goes_from}
 use Rattle.mpe_links.proofs.TableLemmas.{Parted, parted, part, left_is, left_within, right_within, older_within, newer_within, newest_within, last_within, first_within}
-use Rattle.mpe_regions.specs.declared.region.Region.{Region}
 use Rattle.mpe_regions.specs.declared.searches.Hole.{Hole}
 use Rattle.mpe_regions.specs.declared.regions.Regions.TheInside.{Inside}
 use Rattle.mpe_regions.specs.Area.{Area, IsAbsent}

@@ -1,17 +1,16 @@
 -- What it makes of a table's lists and area that a region is given up, or entered.
-use Rattle.std.proofs.Common.{◌≡◌, ◌≢◌, ℕ, zero, suc, ◌+◌, ◌-◌, ◌<◌, ◌≤◌, Bool, true, false, cond, List, [], ◌∷◌, ◌++◌, length, map, Option, None, Some, refl, sym, ap, subst, ◌∙◌, arith, length-append}
+use Rattle.std.proofs.Common.{◌≡◌, ◌≢◌, ℕ, suc, ◌+◌, ◌-◌, ◌<◌, ◌≤◌, Bool, true, false, cond, List, [], ◌∷◌, ◌++◌, length, map, refl, sym, ap, subst, ◌∙◌, arith, length-append}
 use Rattle.std.specs.Prelude.{◌==◌, nat_lt}
 use Rattle.std.proofs.lemmas.Bool.Decides.{nat_tests}
 use Rattle.mpe_links.specs.declared.node.Node.{Node}
-use Rattle.mpe_links.specs.Lists.{times, Apart, last_or}
+use Rattle.mpe_links.specs.Lists.{times, Apart}
 use Rattle.mpe_links.specs.Nodes.{node_at}
 use Rattle.mpe_links.specs.Writes.{less_links}
 use Rattle.mpe_links.specs.Rings.{InUse, InPlace, AreFree}
-use Rattle.mpe_links.proofs.WayLaws.{not_first, absent_there, times_append}
+use Rattle.mpe_links.proofs.WayLaws.{times_append}
 use Rattle.mpe_links.proofs.TableLemmas.{apart_absent}
 use Rattle.mpe_regions.specs.declared.region.Region.{Region}
-use Rattle.mpe_regions.specs.Area as a
-use Rattle.mpe_regions.specs.Area.{Area, times_placed, times_used}
+use Rattle.mpe_regions.specs.Area.{times_placed, times_used}
 use Rattle.mpe_regions.specs.Loads.{placed, put, without, forgotten, dropped}
 use Rattle.mpe_regions.specs.Sound.{IsSound}
 use Rattle.mpe_regions.specs.LinkedForm.{region_at, key_at, area_by, IsLinked}

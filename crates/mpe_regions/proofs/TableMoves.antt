@@ -1,19 +1,15 @@
 -- What a move of the table makes of its lists and of its area.
-use Rattle.std.proofs.Common.{◌≡◌, ◌≢◌, ℕ, zero, suc, ◌+◌, ◌-◌, ◌<◌, ◌≤◌, Bool, true, false, cond, List, [], ◌∷◌, ◌++◌, length, map, Option, None, Some, refl, sym, ap, subst, ◌∙◌, arith, length-append}
-use Rattle.std.specs.Prelude.{◌==◌, nat_lt, not, filter}
+use Rattle.std.proofs.Common.{◌≡◌, ◌≢◌, ℕ, ◌+◌, ◌-◌, ◌<◌, ◌≤◌, Bool, true, false, cond, List, [], ◌∷◌, ◌++◌, length, map, Some, refl, sym, ap, subst, ◌∙◌, arith, length-append}
+use Rattle.std.specs.Prelude.{◌==◌, nat_lt, not}
 use Rattle.std.proofs.lemmas.Bool.Decides.{nat_tests}
-use Rattle.std.proofs.lemmas.List.{length-map}
 use Rattle.mpe_links.specs.declared.node.Node.{Node}
-use Rattle.mpe_links.specs.Lists.{times, Apart, last_or}
-use Rattle.mpe_links.specs.Nodes.{node_at, right_of, left_of, newer_of, older_of}
-use Rattle.mpe_links.specs.Writes.{Same, less_use, less_links}
-use Rattle.mpe_links.specs.Rings.{InUse, InPlace, AreFree}
-use Rattle.mpe_links.proofs.WayLaws.{not_first, absent_there, times_append}
+use Rattle.mpe_links.specs.Lists.{times}
+use Rattle.mpe_links.specs.Writes.{Same, less_use}
+use Rattle.mpe_links.specs.Rings.{InUse}
 use Rattle.mpe_links.proofs.TableLemmas.{Parted, parted, part, placed_still, free_still}
-use Rattle.mpe_regions.specs.declared.region.Region.{Region}
 use Rattle.mpe_regions.specs.Area as a
-use Rattle.mpe_regions.specs.Area.{Area, region_of, times_placed, times_used}
-use Rattle.mpe_regions.specs.Loads.{without, forgotten, dropped, used}
+use Rattle.mpe_regions.specs.Area.{Area, times_used}
+use Rattle.mpe_regions.specs.Loads.{forgotten, used}
 use Rattle.mpe_regions.specs.Sound.{IsSound}
 use Rattle.mpe_regions.specs.declared.regions.Regions.TheInside.{Inside}
 use Rattle.mpe_regions.specs.LinkedForm.{region_at, key_at, area_by, area_of, IsLinked, IsTable, found_in}

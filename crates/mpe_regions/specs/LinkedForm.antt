@@ -1,5 +1,5 @@
 -- The linked form of the table: the two lists of the area are two walks along links, and the other nodes are free.
-use Rattle.std.specs.Prelude.{◌≡◌, ℕ, zero, suc, ◌+◌, ◌<◌, ◌≤◌, ◌==◌, Bool, true, nat_lt, if◌then◌else◌, List, [], ◌∷◌, length, map, Option, None, Some}
+use Rattle.std.specs.Prelude.{◌≡◌, ℕ, zero, suc, ◌+◌, ◌<◌, ◌≤◌, ◌==◌, true, nat_lt, if◌then◌else◌, List, [], ◌∷◌, length, map, Option, None, Some}
 use Rattle.mpe_links.specs.declared.node.Node.{Node}
 use Rattle.mpe_links.specs.Lists.{times}
 use Rattle.mpe_links.specs.Nodes.{node_at, right_of, newer_of}

@@ -1,5 +1,5 @@
 //! Searches in the table: for a key, and for a hole.
-ghost use Rattle.std.specs.Prelude.{◌≡◌, ◌<◌, ◌≤◌, ◌^◌, ℕ, List, length, IfSome, true, option_map, nat_lt, if◌then◌else◌, None, Some, slice_get};
+ghost use Rattle.std.specs.Prelude.{◌≡◌, ◌<◌, ◌^◌, ℕ, List, length, IfSome, true, option_map, nat_lt, if◌then◌else◌, None, Some};
 ghost use Rattle.mpe_links.specs.Nodes.{node_at};
 ghost use Rattle.mpe_regions.specs.Searches.{sought, last_hole, hole_sought};
 ghost use Rattle.mpe_regions.specs.LinkedForm.{IsListed, found_in, region_at, key_at};

@@ -1,5 +1,4 @@
 //! Program files from outside: a small one, cut and changed at each place.
-use hp_program::Program;
 use mpe_progfile::{FileFault, read, write};
 use std::alloc::Global;
 use std::test::Fail;

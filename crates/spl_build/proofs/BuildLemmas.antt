@@ -1,5 +1,5 @@
 -- What is linked of the modules of units, with the data words of their layout, is built of them.
-use Rattle.std.proofs.Common.{◌≡◌, ◌≤◌, ◌<◌, ◌^◌, ℕ, List, Result, Ok, Err, map, length, sym, subst}
+use Rattle.std.proofs.Common.{◌≤◌, ◌<◌, ◌^◌, ℕ, List, Result, Ok, Err, map, length, sym, subst}
 use Rattle.std.specs.Prelude.{IfOk}
 use Rattle.std.proofs.lemmas.List.{length-map}
 use Rattle.hp_program.specs.declared.program.Program.{Program}

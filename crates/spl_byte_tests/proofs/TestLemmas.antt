@@ -14,7 +14,7 @@ use Rattle.spl_names.specs.spl_meaning.Operations.{is_odd, related}
 use Rattle.spl_names.specs.spl_meaning.References.{Setting, Located}
 use Rattle.spl_names.specs.spl_meaning.States.{Data, State, Outcome, done, leaves, spent, ends, strays, then_go}
 use Rattle.spl_names.specs.spl_code.Code as made
-use Rattle.spl_names.specs.spl_code.Code.{Aim, as_value, as_test}
+use Rattle.spl_names.specs.spl_code.Code.{as_value, as_test}
 use Rattle.spl_names.specs.spl_code.Constants.{constant, text_offset}
 use Rattle.spl_names.specs.spl_code.Instructions.{LSL, BCC, CMPB}
 use Rattle.spl_names.specs.spl_code.Operators.{failing_codes}

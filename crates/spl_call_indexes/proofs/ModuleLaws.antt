@@ -28,7 +28,7 @@ use Rattle.spl_module_code.specs.spl_statement_code.Landings.{Landing}
 use Rattle.spl_module_code.specs.spl_body_code.Frames.{ROOM, ADDS, granted, zeroed, last_zeros}
 use Rattle.spl_module_code.specs.spl_body_code.Cells.{LADD, base_pushed, cell_from, viewed, cell_set, cells_set, value_pushed, first_set, initial_set, initials_set}
 use Rattle.spl_module_code.specs.spl_body_code.Bodies.{Frame, frame_of, mode_entered, procedure_entered, procedure_left, procedure_code, subroutine_left, subroutine_code, main_code}
-use Rattle.spl_module_code.specs.spl_scopes.Entries.{Owner, main, routine, Entry, Callee, is_callable, is_inner, indexes, procedure_index, subroutine_index, module_entries, routines_behind}
+use Rattle.spl_module_code.specs.spl_scopes.Entries.{Owner, main, routine, Entry, Callee, is_callable, is_inner, indexes, module_entries, routines_behind}
 use Rattle.spl_module_code.specs.spl_scopes.Scopes.{Placed, routine_bodies, outer_body}
 use Rattle.spl_module_code.specs.spl_modules.Made.{made_of, made_from}
 use Rattle.spl_module_code.specs.LabelsOfBodies.{Label, labels_among, with_landings}

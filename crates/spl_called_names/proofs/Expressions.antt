@@ -4,7 +4,7 @@ use Rattle.spl_module_code.specs.hp_word.Words.{word_of}
 use Rattle.spl_module_code.specs.spl_tree.Trees as tree
 use Rattle.spl_module_code.specs.spl_tree.Trees.{Tree, Trees}
 use Rattle.spl_module_code.specs.spl_meaning.Names as n
-use Rattle.spl_module_code.specs.spl_meaning.Names.{Sort, Formal, Profile, intrinsic_profile, intrinsic_named, text_value, truth_word}
+use Rattle.spl_module_code.specs.spl_meaning.Names.{Sort, Formal, Profile, intrinsic_profile, text_value, truth_word}
 use Rattle.spl_module_code.specs.spl_meaning.Kinds.{Class, kind_of, class_of, operand_width, is_connective, is_relation, compares_text, relation_number, or_operator}
 use Rattle.spl_module_code.specs.spl_meaning.Pending.{by_value, formal_words, result_words}
 use Rattle.spl_module_code.specs.spl_meaning.References.{access_of}

@@ -4,7 +4,6 @@ use Rattle.spl_targets.specs.spl_tree.declared.names_and_places.At.{At}
 use Rattle.spl_targets.specs.spl_tree.declared.expressions.Kind.{Kind}
 use Rattle.spl_targets.specs.spl_tree.Trees.{Trees}
 use Rattle.spl_targets.specs.spl_tree.StatementTrees as stat
-use Rattle.spl_targets.specs.spl_tree.StatementTrees.{Target}
 use Rattle.spl_targets.specs.spl_meaning.Pending.{statement_most}
 use Rattle.spl_targets.specs.spl_meaning.Places.{Place}
 use Rattle.spl_targets.specs.spl_meaning.References.{Setting}

@@ -1,4 +1,4 @@
-//! Calls of intrinsics as statements that are covered: their code performs them, wherever it stands.
+//! Calls of intrinsics, procedures and subroutines as statements that are covered: their code performs them, wherever it stands.
 #![tactic(auto)]
 
 mod laws;

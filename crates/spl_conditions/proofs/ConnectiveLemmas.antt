@@ -15,7 +15,7 @@ use Rattle.spl_values.specs.spl_meaning.References.{Setting}
 use Rattle.spl_values.specs.spl_meaning.States.{Data, State, Outcome, done, leaves, spent, ends, strays, then_go}
 use Rattle.spl_values.specs.spl_meaning.Values as meant
 use Rattle.spl_values.specs.spl_code.Code as made
-use Rattle.spl_values.specs.spl_code.Code.{Aim, as_value, as_test}
+use Rattle.spl_values.specs.spl_code.Code.{Aim, as_test}
 use Rattle.spl_values.specs.spl_code.Instructions.{BR}
 use Rattle.spl_values.specs.spl_code.Parts.{Part, Wanted, piece, ◌⨟◌, with_fresh}
 use Rattle.spl_values.specs.spl_follow.Spots.{Spot, pos, Point, on, Ground}

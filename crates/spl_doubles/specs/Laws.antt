@@ -1,6 +1,6 @@
 -- The laws of this crate: DOUBLE constants, sums, relations, signs, transfers and stores, each over its parts as variables. The high word of a
 -- DOUBLE is the lower one.
-use Rattle.std.specs.Prelude.{◌≡◌, ℕ, ◌+◌, ◌≤◌, ◌<◌, ◌*◌, ◌/◌, ◌==◌, ◌||◌, Bool, true, false, List, Some}
+use Rattle.std.specs.Prelude.{◌≡◌, ℕ, ◌+◌, ◌≤◌, ◌<◌, ◌==◌, ◌||◌, Bool, true, false, List, Some}
 use Rattle.spl_operators.specs.spl_tree.declared.expressions.Kind.{Kind}
 use Rattle.spl_operators.specs.spl_tree.declared.expressions.Kind.TheVariants as kind
 use Rattle.spl_operators.specs.spl_tree.declared.names_and_places.At.{At}

@@ -1,19 +1,18 @@
 -- Calls that end the session, as statements.
-use Rattle.std.proofs.Common.{◌≡◌, ℕ, suc, ◌+◌, ◌-◌, ◌≤◌, Bool, true, false, List, [], ◌∷◌, ◌++◌, length, refl, sym, ap, subst, ◌∙◌, arith}
+use Rattle.std.proofs.Common.{◌≡◌, ℕ, ◌+◌, ◌-◌, true, false, List, [], ◌∷◌, ◌++◌, length, refl, sym, ap, subst, ◌∙◌, arith}
 use Rattle.std.specs.Prelude.{Option, None, Some, slice_index}
 use Rattle.std.proofs.lemmas.List.{append-nil}
 use Rattle.hp_call_yields.specs.hp_word.Words.{signed}
-use Rattle.hp_call_yields.specs.hp_word.declared.endings.Ending.{Ending}
 use Rattle.hp_call_yields.specs.hp_word.declared.endings.Ending.TheVariants.{Running, Terminated, Quit}
 use Rattle.hp_call_yields.specs.hp_word.declared.intrinsics.Intrinsic.{Intrinsic}
 use Rattle.hp_call_yields.specs.hp_word.declared.intrinsics.Intrinsic.TheVariants as gate
 use Rattle.hp_call_yields.specs.hp_word.Intrinsics as calls
 use Rattle.hp_call_yields.specs.hp_instr.declared.instruction.Instr.TheVariants as i
-use Rattle.hp_call_yields.specs.hp_session.State.{Machine, word}
+use Rattle.hp_call_yields.specs.hp_session.State.{Machine}
 use Rattle.hp_call_yields.specs.spl_tree.declared.names_and_places.At.{At}
 use Rattle.hp_call_yields.specs.spl_tree.declared.expressions.Kind.TheVariants as kind
 use Rattle.hp_call_yields.specs.spl_branch.declared.pieces.Piece.{Piece}
-use Rattle.hp_call_yields.specs.spl_branch.declared.pieces.Piece.TheVariants.{Call, Begin}
+use Rattle.hp_call_yields.specs.spl_branch.declared.pieces.Piece.TheVariants.{Call}
 use Rattle.hp_call_yields.specs.spl_meaning.Laws.{IsFront}
 use Rattle.hp_call_yields.specs.spl_meaning.Names.{intrinsic_named}
 use Rattle.hp_call_yields.specs.spl_meaning.Operations.{passed}
@@ -23,8 +22,7 @@ use Rattle.hp_call_yields.specs.spl_meaning.Serving as run
 use Rattle.hp_call_yields.specs.spl_meaning.Serving.{carried_out}
 use Rattle.hp_call_yields.specs.spl_meaning.States.{Data, State, Begun, End, Exit, terminated, quit, Outcome, done, leaves, spent, ends, strays, then_go, stepping}
 use Rattle.hp_call_yields.specs.spl_meaning.Statements.{value_dropped}
-use Rattle.hp_call_yields.specs.spl_code.Code.{as_value}
-use Rattle.hp_call_yields.specs.spl_code.Parts.{Part, Wanted, pieces, nothing, ◌⨟◌, wanted_place, with_wanted}
+use Rattle.hp_call_yields.specs.spl_code.Parts.{Wanted, pieces, nothing, wanted_place, with_wanted}
 use Rattle.hp_call_yields.specs.spl_follow.Spots.{Spot, spot, pos, Point, on, Ground}
 use Rattle.hp_call_yields.specs.spl_follow.Leading.{Leads}
 use Rattle.hp_call_yields.specs.spl_follow.Matching.{Outer, Matched, Shows, IsValue}
@@ -32,13 +30,12 @@ use Rattle.hp_call_yields.specs.spl_follow.Following.{Owes, Rate, Tally, tally, 
 use Rattle.hp_call_yields.specs.spl_follow.Doing.{Way, calling}
 use Rattle.hp_call_yields.specs.spl_follow.Standing.{Sites, Stands}
 use Rattle.hp_call_yields.specs.spl_follow.Parts.{Ready, Completes, Leaving}
-use Rattle.hp_call_yields.specs.spl_follow.Simulating.{Surroundings, Simulates, Performs}
+use Rattle.hp_call_yields.specs.spl_follow.Simulating.{Surroundings}
 use Rattle.hp_call_yields.proofs.spl_follow_proofs.FollowLemmas.{bind_follows, no_exit, spend_follows, widen}
 use Rattle.hp_call_yields.proofs.spl_follow_proofs.KeepLemmas.{value_word}
 use Rattle.hp_call_yields.proofs.spl_follow_proofs.PartLemmas.{stand_in_order, statements_begin_noted}
-use Rattle.hp_call_yields.proofs.spl_follow_proofs.RowLemmas.{behind_here, no_print, shown, stray_here}
+use Rattle.hp_call_yields.proofs.spl_follow_proofs.RowLemmas.{behind_here, no_print, shown}
 use Rattle.hp_call_yields.proofs.spl_follow_proofs.WayLemmas.{goes_wider, lead}
-use Rattle.spl_values.specs.Reached.{IsWhole}
 use Rattle.spl_values.proofs.SumLemmas.{front_on}
 use Rattle.spl_endings.specs.Gates.{Served, GatesLead}
 use Rattle.spl_endings.specs.Laws.{TerminatePerforms, QuitPerforms}

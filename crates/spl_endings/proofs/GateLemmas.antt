@@ -1,11 +1,11 @@
 -- What the gate does where a session is ended, in the machine and in the run.
-use Rattle.std.proofs.Common.{◌≡◌, ℕ, ◌+◌, ◌-◌, ◌≤◌, Bool, true, false, List, [], ◌∷◌, ◌++◌, length, refl, sym, ap, subst, ◌∙◌, arith, add-zero}
-use Rattle.std.specs.Prelude.{Ok, Err, drop, slice_index, nat_le, not, if◌then◌else◌}
+use Rattle.std.proofs.Common.{◌≡◌, ℕ, ◌+◌, ◌-◌, ◌≤◌, Bool, true, false, [], ◌∷◌, ◌++◌, length, refl, ap, ◌∙◌, arith, add-zero}
+use Rattle.std.specs.Prelude.{Ok, Err, slice_index, not, if◌then◌else◌}
 use Rattle.std.proofs.lemmas.Bool.{le-leb}
 use Rattle.std.proofs.lemmas.List.{append-nil, get_or-drop}
 use Rattle.hp_call_yields.specs.hp_word.Words.{signed}
 use Rattle.hp_call_yields.specs.hp_word.declared.endings.Ending.{Ending}
-use Rattle.hp_call_yields.specs.hp_word.declared.endings.Ending.TheVariants.{Running, Terminated, Quit}
+use Rattle.hp_call_yields.specs.hp_word.declared.endings.Ending.TheVariants.{Terminated, Quit}
 use Rattle.hp_call_yields.specs.hp_word.declared.endings.Trap.TheVariants.{Mode, OutputLimit}
 use Rattle.hp_call_yields.specs.hp_word.declared.intrinsics.Intrinsic.{Intrinsic}
 use Rattle.hp_call_yields.specs.hp_word.declared.intrinsics.Intrinsic.TheVariants as gate

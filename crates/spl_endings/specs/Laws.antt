@@ -1,5 +1,5 @@
 -- The laws of this crate.
-use Rattle.std.specs.Prelude.{◌≡◌, ℕ, ◌≤◌, false, true, List, [], Some}
+use Rattle.std.specs.Prelude.{◌≡◌, ℕ, false, true, List, [], Some}
 use Rattle.hp_call_yields.specs.hp_word.declared.endings.Ending.TheVariants.{Running, Terminated}
 use Rattle.hp_call_yields.specs.hp_word.declared.intrinsics.Intrinsic.{Intrinsic}
 use Rattle.hp_call_yields.specs.hp_word.declared.intrinsics.Intrinsic.TheVariants as gate

@@ -4,7 +4,7 @@ use Rattle.spl_sound.specs.spl_tree.declared.names_and_places.At.{At}
 use Rattle.spl_sound.specs.spl_tree.Symbols.{Lexeme}
 use Rattle.spl_sound.specs.spl_tree.Operators.{Form, bytes_of}
 use Rattle.spl_sound.specs.spl_tree.Trees as tree
-use Rattle.spl_sound.specs.spl_tree.Trees.{Tree, Trees, trees}
+use Rattle.spl_sound.specs.spl_tree.Trees.{Tree, trees}
 use Rattle.spl_sound.specs.spl_tree.Expressions as g
 use Rattle.spl_few_calls.specs.Calls.{calls, calls_among}
 

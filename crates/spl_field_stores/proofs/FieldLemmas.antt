@@ -1,5 +1,5 @@
 -- Bit fields on the left of :=, by where their words are.
-use Rattle.std.proofs.Common.{◌≡◌, ℕ, ◌+◌, ◌-◌, ◌*◌, ◌%◌, ◌≤◌, Bool, true, false, List, [], ◌∷◌, ◌++◌, length, refl, sym, ap, subst, ◌∙◌, arith}
+use Rattle.std.proofs.Common.{◌≡◌, ℕ, ◌+◌, ◌-◌, ◌≤◌, Bool, true, false, List, [], ◌∷◌, ◌++◌, length, refl, sym, ap, subst, ◌∙◌, arith}
 use Rattle.std.specs.Prelude.{Some, None, nat_le, slice_index}
 use Rattle.std.proofs.lemmas.Bool.{leb-true}
 use Rattle.spl_operators.specs.hp_word.declared.endings.Trap.TheVariants.{Bounds}
@@ -7,18 +7,16 @@ use Rattle.spl_operators.specs.hp_instr.declared.instruction.Instr.TheVariants a
 use Rattle.spl_operators.specs.hp_instr.declared.instruction.Mode.{Mode}
 use Rattle.spl_operators.specs.hp_instr.declared.instruction.Mode.TheVariants.{SMinus}
 use Rattle.spl_operators.specs.hp_instr.Instructions.{op}
-use Rattle.spl_operators.specs.hp_session.State.{Machine, word}
-use Rattle.spl_operators.specs.hp_session.Places.{operand, index}
-use Rattle.spl_operators.specs.hp_memory_rows.MemoryRows.{memory_row}
+use Rattle.spl_operators.specs.hp_session.State.{Machine}
+use Rattle.spl_operators.specs.hp_session.Places.{index}
 use Rattle.spl_operators.specs.hp_flat.Step.{at_left}
 use Rattle.spl_operators.proofs.hp_yields_proofs.MemoryYields as rows
 use Rattle.spl_operators.specs.spl_tree.declared.expressions.Kind.{Kind}
 use Rattle.spl_operators.specs.spl_tree.declared.names_and_places.At.{At}
-use Rattle.spl_operators.specs.spl_branch.declared.pieces.Piece.{Piece}
-use Rattle.spl_operators.specs.spl_branch.declared.pieces.Piece.TheVariants.{Do, Begin}
+use Rattle.spl_operators.specs.spl_branch.declared.pieces.Piece.TheVariants.{Begin}
 use Rattle.spl_operators.specs.spl_meaning.Places.{Place}
 use Rattle.spl_operators.specs.spl_meaning.References.{Setting, Located, address_of, variable_located, own_located, led_located, store_field}
-use Rattle.spl_operators.specs.spl_meaning.States.{Data, State, End, Outcome, done, leaves, spent, ends, strays, trapped, then_go, stopping}
+use Rattle.spl_operators.specs.spl_meaning.States.{Data, State, End, Outcome, done, leaves, spent, ends, strays, then_go, stopping}
 use Rattle.spl_operators.specs.spl_code.Code.{as_value}
 use Rattle.spl_operators.specs.spl_code.Instructions.{operate, LDX, DEL}
 use Rattle.spl_operators.specs.spl_code.Operands.{mode_of}
@@ -37,7 +35,7 @@ use Rattle.spl_operators.proofs.spl_follow_proofs.RowLemmas.{stray_here}
 use Rattle.spl_operators.specs.spl_values.Reached.{is_word_kind, is_reached, IsWhole}
 use Rattle.spl_operators.proofs.spl_values_proofs.GiveLemmas.{last_leads}
 use Rattle.spl_operators.proofs.spl_values_proofs.VariableLemmas.{both}
-use Rattle.spl_variables.specs.spl_operands.Operands.{counted_by, finding, Refers, Storing}
+use Rattle.spl_variables.specs.spl_operands.Operands.{Refers, Storing}
 use Rattle.spl_variables.proofs.spl_operands_proofs.OperandLemmas.{place_refers, first_element, indexed_element}
 use Rattle.spl_variables.proofs.spl_operands_proofs.LoadLemmas.{word_is_found}
 use Rattle.spl_variables.proofs.spl_operands_proofs.StoreLemmas.{index_taken, index_deleted}

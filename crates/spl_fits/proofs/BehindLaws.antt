@@ -1,11 +1,10 @@
 -- OWN items stand behind all globals.
 use Rattle.std.proofs.Common.{ℕ, ◌≤◌, ◌+◌, true, false, [], ◌∷◌, arith}
-use Rattle.spl_globals.specs.spl_meaning.Tables.{Source, routine_table, routines_of}
+use Rattle.spl_globals.specs.spl_meaning.Tables.{routine_table, routines_of}
 use Rattle.spl_globals.specs.spl_meaning.Places.{sum, list_words}
-use Rattle.spl_globals.specs.spl_meaning.Bodies.{Reached, reached_behind, own_table, global_words}
-use Rattle.spl_globals.specs.spl_places.Programs.{Each}
+use Rattle.spl_globals.specs.spl_meaning.Bodies.{reached_behind, own_table, global_words}
 use Rattle.spl_globals.proofs.spl_places_proofs.ApartLaws.{within}
-use Rattle.spl_fits.specs.OwnBehind.{units_from, IsAround, UnitsStandInOrder, OwnItemsStandApart}
+use Rattle.spl_fits.specs.OwnBehind.{UnitsStandInOrder, OwnItemsStandApart}
 
 before : (p w g m : ℕ) → p + (w + g) ≤ m → p + w ≤ m
 before p w g m le = omega arith

@@ -1,25 +1,22 @@
 -- A program that passes no limit has its sums within them.
-use Rattle.std.proofs.Common.{ℕ, ◌≡◌, ◌≤◌, ◌+◌, Bool, true, false, nat_lt, List, [], ◌∷◌, ◌++◌, Option, Some, None, refl, sym, ap, subst, ◌∙◌, arith, add-zero, zero-add}
+use Rattle.std.proofs.Common.{ℕ, ◌≡◌, ◌≤◌, ◌+◌, Bool, true, false, nat_lt, List, [], ◌∷◌, ◌++◌, Some, None, refl, sym, ap, subst, ◌∙◌, arith, zero-add}
 use Rattle.std.specs.Prelude.{if◌then◌else◌}
 use Rattle.std.proofs.Math.Nat.{add_assoc}
 use Rattle.std.proofs.lemmas.Bool.{ltb-false}
-use Rattle.spl_globals.specs.spl_meaning.Names.{Sort, find, formals_of, profile_of}
+use Rattle.spl_globals.specs.spl_meaning.Names.{Sort, find}
 use Rattle.spl_globals.specs.spl_meaning.Tables.{Source, Routine, routine_table, routines_of, routine_names, routine_subroutines, unit_table, unit_subroutines}
 use Rattle.spl_globals.specs.spl_meaning.Places.{item_words, array_words, where_own, sum, list_words, list_array_words}
-use Rattle.spl_globals.specs.spl_meaning.Pending.{formals_words, result_words}
-use Rattle.spl_globals.specs.spl_meaning.Bodies.{all_routines, primary_words, data_words, global_words, own_words}
+use Rattle.spl_globals.specs.spl_meaning.Bodies.{all_routines, primary_words, data_words, own_words}
 use Rattle.spl_globals.specs.spl_meaning.Faults.{fault, is_before}
-use Rattle.spl_globals.specs.spl_meaning.Limits.{Full, Sized, passing, joined, first_among, first_full, all_limits, global_limits, local_limits, heading_limits, subroutine_limits, routine_limits, unit_limits, most_primary, most_locals, most_parameters, most_data}
+use Rattle.spl_globals.specs.spl_meaning.Limits.{Full, Sized, passing, joined, first_among, all_limits, global_limits, local_limits, heading_limits, subroutine_limits, routine_limits, unit_limits, most_primary, most_locals, most_data}
 use Rattle.spl_depths.proofs.HeadingLaws.{few_in_heading}
 use Rattle.spl_globals.specs.spl_places.ListedData.{Datum}
 use Rattle.spl_globals.specs.spl_places.Counters.{sizes, total_words}
-use Rattle.spl_globals.specs.spl_places.Passed.{local_passed}
 use Rattle.spl_globals.specs.spl_places.Programs.{routine_items, all_globals, all_locals, Each, NewInRoutine, NewInAll}
-use Rattle.spl_globals.specs.spl_places.Apart.{Spot, spots_from}
 use Rattle.spl_globals.proofs.spl_places_proofs.ApartLaws.{within}
 use Rattle.spl_globals.proofs.spl_places_proofs.ProgramLaws.{routine_held, item_words_held, array_words_held, unit_totals, routine_totals, global_is, local_is}
 use Rattle.spl_globals.proofs.StoredLaws.{words_found}
-use Rattle.spl_fits.specs.Fits.{RoutineFits, ProgramFits, ProgramsFit, LocalsFit}
+use Rattle.spl_fits.specs.Fits.{RoutineFits, ProgramsFit, LocalsFit}
 
 -- ---- no limit
 

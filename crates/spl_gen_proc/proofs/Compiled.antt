@@ -1,5 +1,5 @@
 -- A program's modules, where its units stand from its first areas on.
-use Rattle.std.proofs.Common.{◌≡◌, ℕ, List, refl, sym, ap, subst}
+use Rattle.std.proofs.Common.{◌≡◌, ℕ, List, sym, ap, subst}
 use Rattle.spl_sound.specs.spl_meaning.Tables.{Source}
 use Rattle.spl_sound.specs.spl_meaning.Sound.{IsSound}
 use Rattle.spl_layout.specs.spl_rooms.declared.room_type.Room.{Room}

@@ -1,11 +1,10 @@
 -- The level of a unit's list, behind all declarations.
-use Rattle.std.proofs.Common.{◌≡◌, ◌<◌, ◌≤◌, ℕ, ◌+◌, List, map, drop, length, get_or, refl, sym, ap, subst, ◌∙◌}
+use Rattle.std.proofs.Common.{◌≡◌, ◌<◌, ◌≤◌, ℕ, ◌+◌, List, map, drop, length, get_or, refl, sym, ap, ◌∙◌}
 use Rattle.spl_tree.specs.declared.declarations.Decl.{Decl}
-use Rattle.spl_tree.specs.DeclarationTrees as decl
-use Rattle.spl_tree.specs.DeclarationTrees.{Declaration, Declarations, declarations}
+use Rattle.spl_tree.specs.DeclarationTrees.{Declarations, declarations}
 use Rattle.spl_tree.specs.Spells.{declaration}
 use Rattle.spl_sound.specs.spl_meaning.Names.{Names, nothing_declared}
-use Rattle.spl_unit_laws.specs.spl_found.OwnNames.{behind_declaration, behind_declarations}
+use Rattle.spl_unit_laws.specs.spl_found.OwnNames.{behind_declarations}
 use Rattle.spl_unit_laws.proofs.spl_lists_proofs.NameWalks.{onward, onward_end}
 use Rattle.spl_unit_laws.specs.spl_body_scopes.Levels.{Level, Spots, unit_level}
 use Rattle.spl_unit_laws.specs.Steps.{level_behind}

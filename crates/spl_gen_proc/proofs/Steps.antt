@@ -8,7 +8,6 @@ use Rattle.spl_sound.specs.spl_meaning.Names.{Names}
 use Rattle.spl_sound.specs.spl_meaning.Places.{item_words, array_words}
 use Rattle.spl_unit_laws.specs.spl_places.Counters.{total_words}
 use Rattle.spl_layout.specs.spl_areas.Gathered.{items_under}
-use Rattle.spl_unit_laws.specs.spl_scopes.Scopes.{Results}
 use Rattle.spl_unit_laws.specs.spl_modules.Entered.{Indexes}
 use Rattle.spl_unit_laws.specs.spl_body_scopes.Levels.{Level, routine_level}
 use Rattle.spl_unit_laws.specs.spl_body_scopes.Results.{routine_result}

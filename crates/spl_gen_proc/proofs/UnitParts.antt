@@ -1,5 +1,5 @@
 -- A unit is appended where each of its parts is.
-use Rattle.std.proofs.Common.{◌≡◌, ℕ, ◌+◌, false, List, [], ◌++◌, Option, refl, sym, ap, subst, ◌∙◌}
+use Rattle.std.proofs.Common.{◌≡◌, ℕ, ◌+◌, false, List, [], Option, ap, subst}
 use Rattle.std.specs.Prelude.{unwrap_or}
 use Rattle.std.specs.List.{slice_get}
 use Rattle.spl_tree.specs.DeclarationTrees as decl
@@ -19,10 +19,10 @@ use Rattle.spl_unit_laws.specs.spl_body_scopes.Levels.{Level, unit_level}
 use Rattle.spl_unit_laws.specs.spl_gen_routines.Routines.{room_at}
 use Rattle.spl_unit_laws.specs.spl_unit_codes.declared.growing.Growing.{Growing}
 use Rattle.spl_unit_laws.specs.spl_unit_codes.Begun.{AreBegun}
-use Rattle.spl_unit_laws.specs.spl_unit_codes.Slots.{AreComplete, AreSlots, Picked, PickedFrom}
+use Rattle.spl_unit_laws.specs.spl_unit_codes.Slots.{AreComplete, AreSlots, PickedFrom}
 use Rattle.spl_unit_laws.specs.declared.cursors.Cursor.{Cursor}
 use Rattle.spl_unit_laws.specs.declared.cursors.Start.{Start}
-use Rattle.spl_unit_laws.specs.Known.{Fixed, Known}
+use Rattle.spl_unit_laws.specs.Known.{Fixed}
 use Rattle.spl_unit_laws.specs.Steps.{Steps, AreFree}
 use Rattle.spl_unit_laws.specs.Begins.{UnitBegins}
 use Rattle.spl_unit_laws.proofs.Completes.{codes_complete}

@@ -1,5 +1,5 @@
 -- A loop over units, the modules of which are appended.
-use Rattle.std.proofs.Common.{◌≡◌, ◌<◌, ◌≤◌, ℕ, ◌+◌, List, [], ◌∷◌, ◌++◌, map, drop, length, get_or, refl, sym, ap, subst, ◌∙◌}
+use Rattle.std.proofs.Common.{◌≡◌, ◌<◌, ◌≤◌, ℕ, ◌+◌, List, [], ◌∷◌, ◌++◌, map, drop, length, get_or, sym, ap, subst, ◌∙◌}
 use Rattle.std.proofs.lemmas.List.{append_assoc, append-nil}
 use Rattle.spl_tree.specs.declared.units.SplUnit.{SplUnit}
 use Rattle.spl_sound.specs.spl_meaning.Tables.{Source}
@@ -11,7 +11,7 @@ use Rattle.spl_branch.specs.declared.modules.Module.{Module}
 use Rattle.spl_unit_laws.specs.declared.cursors.Start.{Start}
 use Rattle.spl_unit_laws.specs.Begins.{UnitBegins, UnitsBegin}
 use Rattle.spl_unit_laws.proofs.UnitMade.{unit_begins, units_begin_behind}
-use Rattle.spl_unit_laws.specs.Units.{OnceInBodies, UnitStands, UnitAppended, UnitsStand}
+use Rattle.spl_unit_laws.specs.Units.{OnceInBodies, UnitAppended, UnitsStand}
 use Rattle.spl_unit_laws.specs.Units.{UnitsStand as s}
 
 -- these modules of units have been made, where these units are left

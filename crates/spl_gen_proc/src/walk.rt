@@ -1,5 +1,5 @@
 //! A walk along the declarations of a unit, on which the code of its bodies grows.
-ghost use Rattle.std.specs.Prelude.{◌≡◌, ◌+◌, ℕ, [], ◌∷◌, map, OnOk, IfOk, Some};
+ghost use Rattle.std.specs.Prelude.{◌≡◌, ◌+◌, [], ◌∷◌, map, OnOk, IfOk, Some};
 ghost use Rattle.std.specs.List.{slice_get};
 ghost use Rattle.spl_tree.specs.DeclarationTrees as decl;
 ghost use Rattle.spl_tree.specs.Spells.{heading_tree, declaration};

@@ -1,5 +1,5 @@
 -- A procedure behind its subroutines.
-use Rattle.std.proofs.Common.{◌≡◌, ℕ, ◌+◌, List, ap, subst, sym, ◌∙◌, length, ◌++◌, ◌∷◌, [], true, false, Bool, replicate}
+use Rattle.std.proofs.Common.{◌≡◌, ℕ, ◌+◌, List, ap, subst, sym, ◌∙◌, ◌++◌, ◌∷◌, [], true, false, Bool, replicate}
 use Rattle.std.proofs.lemmas.List.{length-append}
 use Rattle.spl_tree.specs.DeclarationTrees.{Heading, Declarations}
 use Rattle.spl_tree.specs.StatementTrees.{Statement}
@@ -8,7 +8,7 @@ use Rattle.spl_gen_body.specs.spl_rooms.declared.room_type.Room.{Room}
 use Rattle.spl_branch.specs.declared.buffer.Code.{Code}
 use Rattle.spl_branch.specs.declared.pieces.Piece.TheVariants.{Mark}
 use Rattle.spl_branch.specs.Pieces.{is_settable}
-use Rattle.spl_gen_routines.specs.Generates.{AreOpen, GeneratesFrom}
+use Rattle.spl_gen_routines.specs.Generates.{AreOpen}
 use Rattle.spl_gen_routines.specs.Routines.{Around, inners_among, room_at, InnersStand, ProcedureStands, RoutineStands}
 use Rattle.spl_gen_routines.proofs.OpenMarks.{one_more, behind_first, still_open}
 use Rattle.spl_gen_routines.proofs.InnerWalks.{SomePart, list_part}

@@ -1,5 +1,5 @@
 -- What is seen through levels, and the frame that the generator has, in the words of the definitions.
-use Rattle.std.proofs.Common.{◌≡◌, ℕ, ◌+◌, List, [], ◌∷◌, map, refl, sym, ap, subst, ◌∙◌}
+use Rattle.std.proofs.Common.{◌≡◌, ℕ, List, [], ◌∷◌, map, sym, ap, subst, ◌∙◌}
 use Rattle.spl_tree.specs.DeclarationTrees.{Heading, Declarations, declarations}
 use Rattle.spl_tree.specs.StatementTrees.{Statement, statements}
 use Rattle.spl_tree.specs.Spells.{heading_tree, declaration}

@@ -2,7 +2,7 @@
 -- last that of its way out is set.
 use Rattle.std.proofs.Common.{◌≡◌, ◌<◌, ℕ, suc, ◌+◌, ◌++◌, ◌∷◌, [], List, Bool, true, false, not, length, get_or, replicate, set, sym, ap, ◌∙◌, arith}
 use Rattle.std.proofs.lemmas.Bool.{and_parts, and_from, lt-ltb, ltb-true}
-use Rattle.std.proofs.lemmas.List.{append_assoc, length-append, length-set, length-replicate, set-append_left, get_or_append_left}
+use Rattle.std.proofs.lemmas.List.{append_assoc, length-append, length-set, set-append_left, get_or_append_left}
 use Rattle.std.proofs.Math.Seq.{set-append_seam, get_or-append_seam}
 use Rattle.spl_branch.specs.Pieces.{is_settable}
 use Rattle.spl_branch.specs.declared.pieces.Piece.TheVariants.{Mark}

@@ -1,5 +1,5 @@
 -- A body whose entry, statements and way out were appended one behind the other is generated.
-use Rattle.std.proofs.Common.{◌≡◌, ◌<◌, ℕ, suc, ◌+◌, ◌++◌, ◌∷◌, [], List, Bool, true, false, length, replicate, set, refl, sym, ap, subst, ◌∙◌, arith}
+use Rattle.std.proofs.Common.{◌≡◌, ◌<◌, ℕ, suc, ◌+◌, ◌++◌, ◌∷◌, [], List, true, false, length, replicate, set, sym, ap, subst, ◌∙◌, arith}
 use Rattle.std.proofs.lemmas.List.{append-nil, length-append, length-set}
 use Rattle.spl_branch.specs.declared.buffer.Code.{Code}
 use Rattle.spl_branch.specs.declared.pieces.Piece.{Piece}
@@ -11,7 +11,6 @@ use Rattle.spl_gen_body.specs.spl_code.Appends.{Appends, behind}
 use Rattle.spl_gen_body.proofs.spl_code_proofs.AppendLaws.{marks_behind}
 use Rattle.spl_gen_body.specs.spl_body_code.Marked.{Marked}
 use Rattle.spl_gen_body.specs.spl_body_code.Joined.{StandsBehind, WithMark}
-use Rattle.spl_gen_body.specs.spl_body_code.Frames.{granted}
 use Rattle.spl_gen_body.specs.spl_body_code.Bodies.{main_left}
 use Rattle.spl_gen_body.proofs.spl_body_code_proofs.JoinLaws.{appended_stands, around_joined, main_stands}
 use Rattle.spl_gen_routines.specs.Generates.{Generates}

@@ -1,10 +1,9 @@
 -- Procedures with their subroutines, and main bodies, as they are generated through levels of names.
-use Rattle.std.specs.Prelude.{◌≡◌, ℕ, suc, ◌+◌, List, [], ◌∷◌, Option, Some, None, unwrap_or}
+use Rattle.std.specs.Prelude.{◌≡◌, ℕ, ◌+◌, List, [], ◌∷◌, None, unwrap_or}
 use Rattle.std.specs.List.{slice_get}
-use Rattle.spl_tree.specs.declared.names_and_places.At.{At}
 use Rattle.spl_tree.specs.DeclarationTrees as decl
 use Rattle.spl_tree.specs.DeclarationTrees.{Heading, Declaration, Declarations}
-use Rattle.spl_tree.specs.StatementTrees.{Statement, Statements, statements}
+use Rattle.spl_tree.specs.StatementTrees.{Statement, statements}
 use Rattle.spl_sorts.specs.spl_meaning.Names.{Names, Table, formals_of}
 use Rattle.spl_sorts.specs.spl_meaning.Places.{Place}
 use Rattle.spl_sorts.specs.spl_meaning.Tables.{Routine, outer_names}

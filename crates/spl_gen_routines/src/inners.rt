@@ -1,5 +1,5 @@
 //! Subroutines, through the levels of the body around them.
-ghost use Rattle.std.specs.Prelude.{◌≡◌, ◌+◌, [], ◌∷◌, true, map, IfOk, OnOk};
+ghost use Rattle.std.specs.Prelude.{◌≡◌, [], ◌∷◌, true, map, IfOk, OnOk};
 ghost use Rattle.spl_tree.specs.DeclarationTrees as decl;
 ghost use Rattle.spl_tree.specs.Spells.{heading_tree, declaration};
 ghost use Rattle.spl_tree.specs.StatementTrees.{statements};

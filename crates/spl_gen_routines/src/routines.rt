@@ -16,7 +16,6 @@ ghost use Rattle.spl_statement_scopes.specs.spl_body_scopes.Results.{routine_res
 ghost use Rattle.spl_statement_scopes.specs.spl_body_scopes.Found.{calls_in};
 ghost use Rattle.spl_gen_routines.specs.Generates.{AreOpen};
 ghost use Rattle.spl_gen_routines.specs.Routines.{OnceAmong, inners_among, ProcedureStands, RoutineStands, MainBodyStands};
-ghost use Rattle.spl_gen_routines.specs.Routines as r;
 ghost use Rattle.spl_gen_routines.specs.Views.{around_of, routine_around};
 
 use crate::bodies::{main_code, procedure_code};

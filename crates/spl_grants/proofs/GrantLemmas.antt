@@ -1,7 +1,7 @@
 -- The room that a body needs: by ROOM with its number, or with the word on top.
-use Rattle.std.proofs.Common.{◌≡◌, ℕ, zero, suc, ◌+◌, ◌-◌, ◌/◌, ◌%◌, ◌<◌, ◌≤◌, Bool, true, false, List, [], ◌∷◌, ◌++◌, length, refl, sym, ap, subst, ◌∙◌, arith}
-use Rattle.std.specs.Prelude.{nat_lt, nat_le, ◌&&◌, min, take, if◌then◌else◌, Ok, Err}
-use Rattle.std.proofs.lemmas.Bool.{ltb-true, ltb-false, lt-ltb}
+use Rattle.std.proofs.Common.{◌≡◌, ℕ, ◌+◌, ◌-◌, ◌/◌, ◌%◌, ◌<◌, ◌≤◌, Bool, true, false, List, [], ◌∷◌, ◌++◌, length, refl, sym, ap, subst, ◌∙◌, arith}
+use Rattle.std.specs.Prelude.{nat_lt, ◌&&◌, min, take, if◌then◌else◌, Ok}
+use Rattle.std.proofs.lemmas.Bool.{ltb-true, ltb-false}
 use Rattle.std.proofs.lemmas.List.{append-nil}
 use Rattle.spl_body_code.specs.hp_word.declared.endings.Ending.TheVariants.{Running, Trapped}
 use Rattle.spl_body_code.specs.hp_word.declared.endings.Trap.TheVariants.{StackOverflow}
@@ -10,18 +10,17 @@ use Rattle.spl_values.specs.hp_session.State.{Machine, Outcome as Row, word, wit
 use Rattle.spl_values.specs.hp_word_rows.WordRows.{count_row}
 use Rattle.spl_values.specs.hp_flat.Step.{at_left}
 use Rattle.spl_values.proofs.hp_yields_proofs.WordYields as rows
-use Rattle.spl_body_code.specs.spl_branch.declared.pieces.Piece.TheVariants.{Do}
 use Rattle.spl_body_code.specs.spl_code.Constants.{constant}
 use Rattle.spl_body_code.specs.spl_code.Instructions.{LDI, LDNI, LSL, ORI}
-use Rattle.spl_body_code.specs.Frames.{ROOM, granted}
+use Rattle.spl_body_code.specs.Frames.{ROOM}
 use Rattle.spl_values.specs.spl_follow.Spots.{Spot, spot, pos, landed, on, Ground}
 use Rattle.spl_values.specs.spl_follow.Leading.{Leads}
-use Rattle.spl_values.specs.spl_follow.Matching.{Outer, outer}
+use Rattle.spl_values.specs.spl_follow.Matching.{Outer}
 use Rattle.spl_values.specs.spl_follow.Following.{Rate, Tally, Goes}
-use Rattle.spl_values.specs.spl_follow.Doing.{going, doing}
-use Rattle.spl_values.specs.spl_follow.Standing.{Sites, Stands, due_after}
+use Rattle.spl_values.specs.spl_follow.Doing.{doing}
+use Rattle.spl_values.specs.spl_follow.Standing.{Stands, due_after}
 use Rattle.spl_values.specs.spl_follow.Rooms.{Grants}
-use Rattle.spl_values.specs.spl_follow.Yielding.{Becomes, Yields}
+use Rattle.spl_values.specs.spl_follow.Yielding.{Yields}
 use Rattle.spl_values.proofs.spl_follow_proofs.PartLemmas.{stand_from_place}
 use Rattle.spl_values.proofs.spl_follow_proofs.WayLemmas.{goes_on, goes_wider}
 use Rattle.spl_values.proofs.GiveLemmas.{last_leads}

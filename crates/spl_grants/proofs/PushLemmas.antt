@@ -1,6 +1,6 @@
 -- A constant that is pushed, by one instruction or by three: where STACK has no room for it the first one traps.
-use Rattle.std.proofs.Common.{◌≡◌, ℕ, ◌-◌, ◌*◌, ◌/◌, ◌%◌, ◌<◌, ◌≤◌, Bool, true, false, List, [], ◌∷◌, ◌++◌, length, refl, sym, ap, subst, ◌∙◌, arith}
-use Rattle.std.specs.Prelude.{◌^◌, nat_lt, if◌then◌else◌, bit_or, Ok, Err}
+use Rattle.std.proofs.Common.{◌≡◌, ℕ, ◌-◌, ◌*◌, ◌/◌, ◌%◌, ◌<◌, ◌≤◌, Bool, true, false, [], ◌∷◌, length, refl, ap, subst, ◌∙◌, arith}
+use Rattle.std.specs.Prelude.{◌^◌, nat_lt, if◌then◌else◌, bit_or, Err}
 use Rattle.std.proofs.lemmas.Bool.{ltb-true}
 use Rattle.std.proofs.lemmas.Bool.Decides.{nat_tests}
 use Rattle.spl_body_code.specs.hp_word.Bits.{shifted}
@@ -8,16 +8,14 @@ use Rattle.spl_body_code.proofs.hp_word_proofs.ShiftLemmas.{shifted-Lsl}
 use Rattle.spl_body_code.specs.hp_word.declared.endings.Ending.TheVariants.{Running, Trapped}
 use Rattle.spl_body_code.specs.hp_word.declared.endings.Trap.TheVariants.{StackOverflow}
 use Rattle.spl_body_code.specs.hp_instr.declared.instruction.Instr.TheVariants as i
-use Rattle.spl_values.specs.hp_session.State.{Machine, Outcome as Row, word, pushing}
+use Rattle.spl_values.specs.hp_session.State.{Machine, Outcome as Row, pushing}
 use Rattle.spl_values.specs.hp_word_rows.WordRows.{minus, shift_of, shifting, immediate_row}
 use Rattle.spl_values.specs.hp_flat.Step.{at_left}
 use Rattle.spl_values.proofs.hp_yields_proofs.WordYields as rows
-use Rattle.spl_body_code.specs.spl_branch.declared.pieces.Piece.TheVariants.{Do}
 use Rattle.spl_body_code.specs.spl_code.Constants.{constant}
 use Rattle.spl_body_code.specs.spl_code.Instructions.{LDI, LDNI, LSL, ORI}
-use Rattle.spl_values.specs.spl_follow.Spots.{Spot, spot, pos, landed, Point, on, Ground}
+use Rattle.spl_values.specs.spl_follow.Spots.{Spot, spot, pos, landed, on, Ground}
 use Rattle.spl_values.specs.spl_follow.Leading.{Leads}
-use Rattle.spl_values.specs.spl_follow.Matching.{outer}
 use Rattle.spl_values.specs.spl_follow.Following.{Rate, Tally, Goes}
 use Rattle.spl_values.specs.spl_follow.Doing.{going, doing}
 use Rattle.spl_values.specs.spl_follow.Standing.{Sites, Stands}

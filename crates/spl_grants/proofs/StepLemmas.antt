@@ -1,11 +1,10 @@
 -- One instruction at an entry: no statement starts there, nothing is printed, and the run stays where it is.
-use Rattle.std.proofs.Common.{◌≡◌, ℕ, false, ◌+◌, ◌-◌, ◌<◌, ◌≤◌, List, [], ◌∷◌, ◌++◌, length, refl, sym, ap, subst, ◌∙◌, arith}
-use Rattle.std.specs.Prelude.{None, Ok, Err, take, slice_index}
-use Rattle.std.proofs.lemmas.List.{append-nil, length-append}
+use Rattle.std.proofs.Common.{◌≡◌, ℕ, false, ◌+◌, ◌-◌, ◌≤◌, List, [], ◌∷◌, ◌++◌, length, refl, sym, ap, subst, ◌∙◌, arith}
+use Rattle.std.specs.Prelude.{None, Err, take, slice_index}
+use Rattle.std.proofs.lemmas.List.{length-append}
 use Rattle.std.proofs.Math.Seq.{take-length}
 use Rattle.spl_body_code.specs.hp_word.declared.endings.Ending.TheVariants.{Running, Trapped}
 use Rattle.spl_body_code.specs.hp_word.declared.endings.Trap.{Trap}
-use Rattle.spl_body_code.specs.hp_word.declared.endings.Trap.TheVariants.{StackOverflow}
 use Rattle.spl_values.specs.hp_session.State.{Machine, Outcome as Row, word}
 use Rattle.spl_body_code.specs.spl_meaning.States.{State}
 use Rattle.spl_values.specs.spl_follow.Spots.{Spot, spot, pos, landed, on, Ground}
@@ -15,7 +14,7 @@ use Rattle.spl_values.specs.spl_follow.Following.{Rate, Tally, Goes}
 use Rattle.spl_values.specs.spl_follow.Doing.{going}
 use Rattle.spl_values.specs.spl_follow.Yielding.{Yields}
 use Rattle.spl_values.proofs.spl_follow_proofs.RowLemmas.{no_print}
-use Rattle.spl_values.proofs.spl_follow_proofs.WayLemmas.{goes_on, goes_wider, lead}
+use Rattle.spl_values.proofs.spl_follow_proofs.WayLemmas.{goes_wider, lead}
 
 -- ---- stacks
 

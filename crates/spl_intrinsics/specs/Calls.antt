@@ -1,5 +1,5 @@
 -- The code of a call of an intrinsic, and the laws of such calls as statements, over the code of their arguments.
-use Rattle.std.specs.Prelude.{◌≡◌, ℕ, ◌+◌, ◌≤◌, true, false, List, [], Some}
+use Rattle.std.specs.Prelude.{◌≡◌, ℕ, ◌+◌, ◌≤◌, true, false, List, Some}
 use Rattle.spl_statement_code.specs.hp_word.declared.intrinsics.Intrinsic.{Intrinsic}
 use Rattle.spl_statement_code.specs.hp_word.Intrinsics.{parameter_words, answer_words}
 use Rattle.spl_statement_code.specs.spl_tree.declared.expressions.Kind.{Kind}

@@ -1,9 +1,7 @@
 //! Data items: variables with their values, arrays, views and pointers.
-ghost use Rattle.std.specs.Prelude.{◌≡◌, [], ◌∷◌, ◌++◌, IfOk, map};
+ghost use Rattle.std.specs.Prelude.{◌≡◌, [], IfOk};
 ghost use Rattle.spl_tree.specs.declared.symbols.Symbol.{Symbol};
-ghost use Rattle.spl_tree.specs.DeclarationTrees as decl;
 ghost use Rattle.spl_tree.specs.Declarations as decls;
-ghost use Rattle.spl_tree.specs.Views as view;
 ghost use Rattle.spl_tree.specs.Spells as spells;
 ghost use Rattle.spl_reading.specs.Readers as readers;
 ghost use Rattle.spl_reading.specs.ReadExpressions as expressions;

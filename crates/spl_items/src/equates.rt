@@ -1,7 +1,4 @@
 //! Names for sums of constants.
-ghost use Rattle.std.specs.Prelude.{◌≡◌, [], ◌∷◌};
-ghost use Rattle.spl_tree.specs.Spells as spells;
-ghost use Rattle.spl_tree.specs.DeclarationTrees as decl;
 ghost use Rattle.spl_reading.specs.Readers as readers;
 ghost use Rattle.spl_reading.specs.ReadDeclarations as spec;
 ghost use Rattle.spl_tokens.specs.Reads.{Reads, paired};

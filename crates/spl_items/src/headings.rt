@@ -1,7 +1,6 @@
 //! The headings of procedures and subroutines.
 ghost use Rattle.std.specs.Prelude.{◌≡◌, [], Option, Some, None};
 ghost use Rattle.spl_tree.specs.declared.symbols.Symbol.{Symbol};
-ghost use Rattle.spl_tree.specs.DeclarationTrees as decl;
 ghost use Rattle.spl_tree.specs.Spells as spells;
 ghost use Rattle.spl_reading.specs.Readers as readers;
 ghost use Rattle.spl_reading.specs.ReadDeclarations as spec;

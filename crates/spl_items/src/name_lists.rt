@@ -1,5 +1,4 @@
 //! Lists of names.
-ghost use Rattle.std.specs.Prelude.{◌≡◌};
 ghost use Rattle.spl_tree.specs.Spells as spells;
 ghost use Rattle.spl_reading.specs.Readers as readers;
 ghost use Rattle.spl_reading.specs.ReadDeclarations as spec;

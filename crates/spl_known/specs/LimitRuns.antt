@@ -4,9 +4,8 @@ use Rattle.spl_meaning.specs.spl_tree.declared.names_and_places.At.{At}
 use Rattle.spl_meaning.specs.spl_tree.declared.expressions.Kind.{Kind}
 use Rattle.spl_meaning.specs.spl_tree.declared.expressions.Kind.TheVariants as kind
 use Rattle.spl_meaning.specs.spl_tree.Trees as tree
-use Rattle.spl_meaning.specs.spl_tree.Trees.{Tree, trees}
 use Rattle.spl_meaning.specs.spl_tree.DeclarationTrees as decl
-use Rattle.spl_meaning.specs.spl_tree.DeclarationTrees.{Placed, Heading, Item, Declaration, declarations}
+use Rattle.spl_meaning.specs.spl_tree.DeclarationTrees.{Placed, Heading, Declaration, declarations}
 use Rattle.spl_meaning.specs.Tables.{Source}
 use Rattle.spl_meaning.specs.Limits.{Full, Sized, Use, passing, use_limits, first_among, first_full}
 

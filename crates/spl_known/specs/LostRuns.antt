@@ -5,7 +5,7 @@ use Prim.Native.String.{String}
 use Rattle.spl_meaning.specs.hp_word.declared.endings.Ending.TheVariants.{Running, Trapped}
 use Rattle.spl_meaning.specs.hp_word.declared.endings.Trap.TheVariants.{Bounds}
 use Rattle.spl_meaning.specs.Tables.{Source}
-use Rattle.spl_meaning.specs.Runs.{Seat, Standing, Point, stands, stray, alone, is_lost}
+use Rattle.spl_meaning.specs.Runs.{Seat, Standing, stands, stray, alone, is_lost}
 use Rattle.spl_known.specs.Programs.{sources_from}
 
 -- a program of one unit, a number of steps, how its run stands then, and whether it is lost

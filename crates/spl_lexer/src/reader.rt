@@ -26,7 +26,6 @@ impl Here {
     ghost use Rattle.std.specs.Prelude.{◌≡◌, ◌≤◌, ◌<◌, ◌+◌, ◌∷◌, [], length, map};
     ghost use Rattle.spl_cuts.specs.Cutting as cu;
     ghost use Rattle.spl_cuts.specs.Bytes as by;
-    ghost use Rattle.spl_cuts.specs.Commands as ct;
     ghost use Rattle.spl_lexer.specs.ReaderViews.{here_of, with_settings};
     ghost use Rattle.spl_pieces.specs.PieceViews.{setting_of};
 

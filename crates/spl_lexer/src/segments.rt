@@ -1,5 +1,5 @@
 //! The names of the segments that hold tokens.
-ghost use Rattle.std.specs.Prelude.{◌≡◌, ◌<◌, ◌≤◌, [], length, map, OnOk, OnErr, IfOk};
+ghost use Rattle.std.specs.Prelude.{◌≡◌, ◌<◌, [], length, map, OnOk, OnErr, IfOk};
 ghost use Rattle.spl_cuts.specs.Cutting as cu;
 ghost use Rattle.spl_tree.specs.Views.{letters};
 

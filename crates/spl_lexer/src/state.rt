@@ -57,7 +57,7 @@ fn list_all(
 }
 
 impl State {
-    ghost use Rattle.std.specs.Prelude.{◌≡◌, ◌≤◌, [], length, map, Some, None, OnOk, if◌then◌else◌};
+    ghost use Rattle.std.specs.Prelude.{◌≡◌, ◌≤◌, [], length, map, Some, None, OnOk};
     ghost use Rattle.spl_cuts.specs.Defines as df;
     ghost use Rattle.spl_cuts.specs.Cutting as cu;
     ghost use Rattle.spl_cuts.specs.Reading as rd;

@@ -1,4 +1,4 @@
-//! Main bodies of statements that are covered, followed where their code stands.
+//! Bodies all of whose statements are covered, followed where their code stands.
 #![tactic(auto)]
 
 mod laws;

@@ -8,7 +8,7 @@ use Rattle.spl_sound_names.specs.spl_tree.declared.expressions.Kind.{Kind}
 use Rattle.spl_sound_names.specs.spl_tree.DeclarationTrees as decl
 use Rattle.spl_sound_names.specs.spl_tree.DeclarationTrees.{Placed, Item, Equal, Declaration, Declarations}
 use Rattle.spl_sound_names.specs.spl_meaning.Names as n
-use Rattle.spl_sound_names.specs.spl_meaning.Names.{Names, Sort, Table, Formal, find, within, same_name, nothing_declared, intrinsic_named, parameters, formals_of, sum_value, sort_by, profile_of}
+use Rattle.spl_sound_names.specs.spl_meaning.Names.{Names, Sort, Table, Formal, find, within, same_name, nothing_declared, intrinsic_named, parameters, sum_value, sort_by, profile_of}
 use Rattle.spl_sound_names.specs.spl_meaning.Tables.{Routine, declared, shaped, intrinsic_sort, with_items, with_equates, with_intrinsics, with_labels, with_declaration, with_declarations}
 use Rattle.spl_sound_names.specs.spl_meaning.Places.{Place, is_own, item_words, where_own, list_words, only, places_from}
 use Rattle.spl_sound_names.specs.spl_meaning.Faults.{unless}

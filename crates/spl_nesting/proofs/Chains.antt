@@ -7,7 +7,6 @@ use Rattle.spl_sound.specs.spl_tree.StatementTrees as stat
 use Rattle.spl_sound.specs.spl_tree.StatementTrees.{statements}
 use Rattle.spl_sound.specs.spl_tree.Statements as st
 use Rattle.spl_sound.specs.spl_tree.DeclarationTrees as decl
-use Rattle.spl_sound.specs.spl_tree.DeclarationTrees.{declarations}
 use Rattle.spl_sound.specs.spl_tree.Units.{Unit_of}
 use Rattle.spl_sound.specs.spl_tree.Parts as part
 use Rattle.spl_sound.specs.spl_tree.Parts.{Part}

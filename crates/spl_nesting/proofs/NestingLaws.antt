@@ -5,7 +5,7 @@ use Rattle.std.proofs.Math.Bridge.{le_prop}
 use Rattle.spl_sound.specs.spl_tree.StatementTrees as stat
 use Rattle.spl_sound.specs.spl_tree.StatementTrees.{Statement, Statements, statements}
 use Rattle.spl_sound.specs.spl_tree.DeclarationTrees as decl
-use Rattle.spl_sound.specs.spl_tree.DeclarationTrees.{Declaration, Declarations, UnitTree, declarations}
+use Rattle.spl_sound.specs.spl_tree.DeclarationTrees.{Declaration, Declarations, declarations}
 use Rattle.spl_sound.specs.spl_tree.OpenExpressions.{limit}
 use Rattle.spl_sound.specs.spl_grammar.Verdicts.{spelled}
 use Rattle.spl_nesting.specs.Nesting.{nested, nested_among, fors, fors_among, most_in, most_in_all, most_in_unit}

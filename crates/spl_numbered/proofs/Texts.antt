@@ -4,7 +4,7 @@ use Rattle.std.specs.List.{slice_get}
 use Rattle.std.specs.Cmp.Lexicographic.{pointwise}
 use Rattle.std.proofs.lemmas.Bool.{lt-ltb, or_parts, or_from, eq-eqb, eqb-true, and_from, and_parts}
 use Rattle.spl_bounds.specs.spl_cuts.Signs.{stop, Found, Placed, Listed}
-use Rattle.spl_bounds.specs.spl_cuts.Cutting.{has_name, with_name, with_names, listed, CutsWithin}
+use Rattle.spl_bounds.specs.spl_cuts.Cutting.{has_name, with_name, with_names, CutsWithin}
 use Rattle.spl_bounds.specs.spl_cuts.Cutting as cu
 use Rattle.spl_bounds.specs.spl_cuts.Lexemes.{lexeme, lexemes}
 use Rattle.spl_bounds.specs.spl_cuts.Whole.{Ends}

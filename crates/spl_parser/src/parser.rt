@@ -1,5 +1,5 @@
 //! The parser: a text's tokens as the unit that they spell, or their first fault.
-ghost use Rattle.std.specs.Prelude.{◌≡◌, ◌≤◌, ◌-◌, IfOk, map, vec_len, length};
+ghost use Rattle.std.specs.Prelude.{◌≡◌, ◌≤◌, IfOk, map, vec_len};
 ghost use Rattle.spl_tree.specs.Views.{letters};
 ghost use Rattle.spl_tree.specs.Spells.{unit_tree};
 ghost use Rattle.spl_grammar.specs.Ends.{Ended};

@@ -11,7 +11,7 @@ use Rattle.spl_module_code.specs.spl_tree.DeclarationTrees.{Declaration, Declara
 use Rattle.spl_module_code.specs.spl_meaning.Names.{Table}
 use Rattle.spl_module_code.specs.spl_meaning.Tables.{Subroutine}
 use Rattle.spl_module_code.specs.spl_meaning.Places as p
-use Rattle.spl_module_code.specs.spl_meaning.Places.{Cell, Initial, cell_word, only}
+use Rattle.spl_module_code.specs.spl_meaning.Places.{Cell, Initial, cell_word}
 use Rattle.spl_module_code.specs.spl_meaning.Pending.{formals_words}
 use Rattle.spl_module_code.specs.spl_meaning.Bodies.{Body, Named, subroutine_body}
 use Rattle.spl_module_code.specs.spl_branch.declared.pieces.Piece.{Piece}

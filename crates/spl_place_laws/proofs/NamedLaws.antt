@@ -1,5 +1,5 @@
 -- The table of places of items, and of parameters, is that of their entries.
-use Rattle.std.proofs.Common.{ℕ, ◌≡◌, ◌+◌, Bool, true, false, nat_lt, List, [], ◌∷◌, ◌++◌, map, refl, sym, ap, ◌∙◌}
+use Rattle.std.proofs.Common.{ℕ, ◌≡◌, ◌+◌, Bool, true, false, nat_lt, List, [], ◌∷◌, ◌++◌, map, refl, ap, ◌∙◌}
 use Rattle.std.specs.Prelude.{pos, if◌then◌else◌}
 use Rattle.spl_entries.specs.hp_word.Words.{word_of}
 use Rattle.spl_entries.specs.spl_tree.declared.expressions.Kind.{Kind}

@@ -1,9 +1,8 @@
 //! The laws of this crate, as the contracts of functions that do nothing.
-ghost use Rattle.std.specs.Prelude.{◌≡◌, ℕ, List, map, pos};
-ghost use Rattle.spl_entries.specs.hp_word.Words.{word_of};
+ghost use Rattle.std.specs.Prelude.{◌≡◌, ℕ, List, map};
 ghost use Rattle.spl_entries.specs.spl_tree.DeclarationTrees.{Declarations};
 ghost use Rattle.spl_entries.specs.spl_meaning.Names.{Names, Formal};
-ghost use Rattle.spl_entries.specs.spl_meaning.Places.{Place, data_word, above_base, below_base, below_return, places_from};
+ghost use Rattle.spl_entries.specs.spl_meaning.Places.{data_word, above_base, below_base, below_return, places_from};
 ghost use Rattle.spl_entries.specs.spl_meaning.Bodies.{parameter_places};
 ghost use Rattle.spl_entries.specs.spl_places.declared.places.Starts.{Starts};
 ghost use Rattle.spl_entries.specs.spl_places.ListedData.{Datum, list_data};

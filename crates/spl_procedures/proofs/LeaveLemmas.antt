@@ -1,7 +1,7 @@
 -- The way out of a procedure: its result is read by the run where the machine has it, and EXIT goes back to the caller, whose frame is as it was.
 -- 1. the words of the result stand on the stack     (words_found)
 -- 2. EXIT goes on behind the call                   (exit_goes)
--- 3. and the machine is the caller's, with a result  (left_result)
+-- 3. and the machine is the caller's, with a result  (left_value)
 use Rattle.std.proofs.Common.{◌≡◌, ◌⊎◌, inl, inr, ℕ, zero, suc, ◌+◌, ◌-◌, ◌≤◌, ◌<◌, Bool, true, false, List, [], ◌∷◌, length, refl, sym, ap, subst, ◌∙◌, arith}
 use Rattle.std.specs.Prelude.{Option, Some, None, take, slice_index, nat_lt, if◌then◌else◌}
 use Rattle.std.proofs.Math.Logic.{⊎_elim}

@@ -1,5 +1,5 @@
 -- What is answered of texts is what they come to.
-use Rattle.std.proofs.Common.{ℕ, ◌≡◌, ◌≤◌, List, map, length, Option, None, Some, Result, Ok, Err, refl, ap, sym, subst, ◌∙◌, arith}
+use Rattle.std.proofs.Common.{ℕ, ◌≡◌, ◌≤◌, List, map, length, None, Result, Ok, Err, sym, subst, arith}
 use Rattle.std.specs.Prelude.{IfOk, IfErr}
 use Rattle.std.proofs.lemmas.List.{length-map}
 use Rattle.spl_tree.specs.declared.names_and_places.Chars.{Chars}
@@ -7,7 +7,6 @@ use Rattle.spl_tree.specs.declared.units.SplUnit.{SplUnit}
 use Rattle.spl_tree.specs.declared.names_and_places.At.{At}
 use Rattle.spl_cuts.specs.Signs.{Listed}
 use Rattle.spl_sound.specs.spl_meaning.Tables.{Source}
-use Rattle.spl_sound.specs.spl_meaning.Sound.{IsSound}
 use Rattle.spl_sound.specs.declared.units.Sound.{Sound}
 use Rattle.spl_sound.specs.Spelled.{source_of}
 use Rattle.spl_limits.specs.declared.faults.LimitFault.{LimitFault}

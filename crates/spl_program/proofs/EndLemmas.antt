@@ -1,5 +1,5 @@
 -- A text's tokens end, as the grammar sees them, with the end of the text, which stands nowhere else.
-use Rattle.std.proofs.Common.{ℕ, zero, suc, ◌≡◌, ◌&&◌, not, Bool, true, false, if◌then◌else◌, List, [], ◌∷◌, map, get_or, refl, ap, sym, ◌∙◌}
+use Rattle.std.proofs.Common.{ℕ, zero, suc, ◌≡◌, ◌&&◌, not, Bool, true, false, if◌then◌else◌, List, [], ◌∷◌, map, get_or, refl, ap}
 use Prim.Native.String.{String}
 use Rattle.spl_tree.specs.declared.symbols.Symbol.{Symbol}
 use Rattle.spl_tree.specs.declared.symbols.Symbol.TheVariants as symbol
@@ -8,7 +8,7 @@ use Rattle.spl_tree.specs.declared.tokens.Token.{Token}
 use Rattle.spl_tree.specs.declared.tokens.What.{What}
 use Rattle.spl_tree.specs.declared.tokens.What.TheVariants as what
 use Rattle.spl_tree.specs.declared.tokens.Lexed.{Lexed}
-use Rattle.spl_tree.specs.Symbols.{Lexeme, lexeme_of, is_word, symbol_among, reserved_words, mark_symbols, symbol_of, letters_of}
+use Rattle.spl_tree.specs.Symbols.{lexeme_of, is_word, symbol_among, reserved_words, mark_symbols, symbol_of, letters_of}
 use Rattle.spl_cuts.specs.Signs.{Sign, word, number, wide, chars, mark, stop, Placed}
 use Rattle.spl_sound.specs.spl_grammar.Ends as ends
 use Rattle.spl_sound.specs.spl_grammar.Ends.{is_stop, Ended}

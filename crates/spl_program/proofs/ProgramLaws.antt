@@ -2,13 +2,12 @@
 -- 1. tokens         (cut_same to uncut_same)
 -- 2. spelling       (source_same to unspelled_same)
 -- 3. programs       (programs_unique, faults_unique, program_has_none)
-use Rattle.std.proofs.Common.{ℕ, ◌≡◌, ◌+◌, List, [], ◌∷◌, Option, Some, None, Result, Ok, Err, refl, sym, ap, subst, ◌∙◌}
+use Rattle.std.proofs.Common.{ℕ, ◌≡◌, List, [], ◌∷◌, Option, Some, None, Result, Ok, Err, refl, sym, ap, subst, ◌∙◌}
 use Rattle.spl_tree.specs.declared.names_and_places.At.{At}
 use Rattle.spl_tree.specs.declared.fault_kinds.FaultKind.{FaultKind}
 use Rattle.spl_tree.specs.DeclarationTrees.{UnitTree}
-use Rattle.spl_cuts.specs.declared.faults.LexKind.{LexKind}
 use Rattle.spl_cuts.specs.Signs.{Listed}
-use Rattle.spl_cuts.specs.Cutting.{CutsWithin, FirstFault}
+use Rattle.spl_cuts.specs.Cutting.{CutsWithin}
 use Rattle.spl_cuts.specs.Reading.{read_text}
 use Rattle.spl_cuts.proofs.TextReads.{cuts_read, fault_is_read}
 use Rattle.spl_cuts.proofs.TextCuts.{faults_unique}

@@ -1,11 +1,9 @@
 -- What the tokens of a text, and what they spell, say of the text.
-use Rattle.std.proofs.Common.{ℕ, zero, suc, ◌≡◌, ◌+◌, ◌<◌, ◌≤◌, List, [], ◌∷◌, map, length, drop, take, get_or, Option, Some, None, Result, Ok, Err, refl, ap, sym, subst, ◌∙◌, arith}
+use Rattle.std.proofs.Common.{ℕ, zero, suc, ◌≡◌, ◌<◌, List, [], ◌∷◌, map, length, drop, get_or, Ok, Err, refl, ap, sym, subst, ◌∙◌, arith}
 use Rattle.std.proofs.lemmas.List.{length-map}
-use Rattle.spl_tree.specs.declared.names_and_places.At.{At}
 use Rattle.spl_tree.specs.declared.tokens.Token.{Token}
 use Rattle.spl_tree.specs.declared.tokens.Lexed.{Lexed}
 use Rattle.spl_tree.specs.declared.units.SplUnit.{SplUnit}
-use Rattle.spl_tree.specs.declared.fault_kinds.FaultKind.{FaultKind}
 use Rattle.spl_tree.specs.declared.fault_kinds.FaultKind.TheVariants as kind
 use Rattle.spl_tree.specs.Symbols.{Lexeme, lexeme_of}
 use Rattle.spl_tree.specs.Expressions.{place}

@@ -1,12 +1,12 @@
 -- What the texts of a program's units come to: units that break no rule, or the first fault. Faults of tokens, of any unit, come
 -- before those of spelling, these before broken rules, and these before limits.
-use Rattle.std.specs.Prelude.{ℕ, ◌≡◌, ◌≤◌, List, map, length, slice_get, Option, None, Some, Result, Ok, Err}
+use Rattle.std.specs.Prelude.{ℕ, ◌≡◌, ◌≤◌, List, map, length, slice_get, None, Some, Result, Ok, Err}
 use Rattle.spl_tree.specs.declared.names_and_places.At.{At}
 use Rattle.spl_tree.specs.declared.fault_kinds.FaultKind.{FaultKind}
 use Rattle.spl_tree.specs.declared.names_and_places.Chars.{Chars}
 use Rattle.spl_cuts.specs.Signs.{Listed}
 use Rattle.spl_sound.specs.spl_meaning.Faults.{fault}
-use Rattle.spl_sound.specs.spl_meaning.Limits.{Full, first_full}
+use Rattle.spl_sound.specs.spl_meaning.Limits.{first_full}
 use Rattle.spl_sound.specs.spl_meaning.Sound.{IsSound, first_broken}
 use Rattle.spl_sound.specs.spl_meaning.Tables.{Source}
 use Rattle.spl_sound.specs.declared.units.Sound.{Sound}

@@ -1,6 +1,5 @@
 -- What is answered on the way to a program: for one text, and for all of them.
-use Rattle.std.specs.Prelude.{ℕ, ◌≡◌, ◌≤◌, ◌+◌, List, length, slice_get, Some}
-use Rattle.std.specs.Vec.{vec_len}
+use Rattle.std.specs.Prelude.{ℕ, ◌≡◌, ◌≤◌, List, length, slice_get, Some}
 use Rattle.spl_tree.specs.declared.tokens.Lexed.{Lexed}
 use Rattle.spl_cuts.specs.Signs.{Listed}
 use Rattle.spl_sound.specs.spl_grammar.Ends.{Ended}

@@ -1,6 +1,6 @@
 -- The texts of a program's units, one behind the other: the tokens that they are cut into and the units that these spell, or the
 -- first fault of tokens, or of spelling.
-use Rattle.std.specs.Prelude.{ℕ, ◌≡◌, ◌+◌, List, [], ◌∷◌, Option, Some}
+use Rattle.std.specs.Prelude.{ℕ, ◌≡◌, ◌+◌, List, [], ◌∷◌, Some}
 use Rattle.spl_tree.specs.declared.names_and_places.At.{At}
 use Rattle.spl_tree.specs.declared.fault_kinds.FaultKind.{FaultKind}
 use Rattle.spl_tree.specs.declared.fault_kinds.FaultKind.TheVariants as kind

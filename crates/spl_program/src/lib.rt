@@ -1,4 +1,4 @@
-//! A program, from the texts of its units: units that break no rule, or the first fault of the texts.
+//! A program, from the texts of its units: units that break no rule and pass no limit, or the first fault of the texts.
 #![tactic(auto)]
 
 mod faults;

@@ -6,7 +6,7 @@ use Rattle.std.proofs.Common.{◌≡◌, ℕ, zero, suc, ◌+◌, Bool, true, fa
 use Rattle.std.specs.Prelude.{slice_get, if◌then◌else◌}
 use Rattle.std.proofs.lemmas.Bool.{eqb-true, eq-eqb, false≢true}
 use Rattle.spl_carries.specs.spl_tree.DeclarationTrees as decl
-use Rattle.spl_carries.specs.spl_tree.DeclarationTrees.{Declaration, Declarations, Heading}
+use Rattle.spl_carries.specs.spl_tree.DeclarationTrees.{Declaration, Declarations}
 use Rattle.spl_carries.specs.spl_meaning.Names.{Sort, Table, nothing_declared}
 use Rattle.spl_carries.specs.spl_meaning.Stops.{declaration_stops}
 use Rattle.spl_carries.specs.spl_meaning.Tables.{Routine, routine_in, routines_among, with_declaration}

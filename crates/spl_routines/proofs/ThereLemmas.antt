@@ -1,7 +1,7 @@
 -- Each segment that a unit uses has its module in the program.
 -- 1. a module of the program stands among those of a segment              (module_stands_in)
 -- 2. a unit has a module for each segment that it uses                    (unit_has)
--- 3. it uses the segments of its procedures                               (routine_uses)
+-- 3. it uses the segments of its procedures                               (among_use, routine_has)
 use Rattle.std.proofs.Common.{◌≡◌, ℕ, zero, suc, ◌+◌, Bool, true, false, nat_eq, List, [], ◌∷◌, ◌++◌, Option, Some, None, refl, sym, ap, subst, ◌∙◌, arith}
 use Rattle.std.specs.Prelude.{◌||◌, not, slice_get, if◌then◌else◌}
 use Rattle.std.specs.Cmp.Lexicographic.{pointwise}

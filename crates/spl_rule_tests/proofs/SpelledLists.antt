@@ -1,6 +1,6 @@
 -- Lists of one and of two units that tokens spell.
-use Rattle.std.proofs.Common.{ℕ, ◌≡◌, ◌+◌, zero, suc, List, [], ◌∷◌, map, Option, Some, None, Result, Ok, Err, refl, sym, ap, subst}
-use Rattle.std.specs.Prelude.{slice_get, IfOk}
+use Rattle.std.proofs.Common.{ℕ, ◌≡◌, zero, suc, List, [], ◌∷◌, map, Option, Some, None, Result, Ok, Err, sym, ap, subst}
+use Rattle.std.specs.Prelude.{IfOk}
 use Rattle.spl_tree.specs.declared.units.SplUnit.{SplUnit}
 use Rattle.spl_front.proofs.spl_cuts_proofs.WholeLemmas.{cut_whole}
 use Rattle.spl_types.specs.spl_meaning.Tables.{Source}

@@ -1,11 +1,11 @@
 //! What the checker tells of texts.
-ghost use Rattle.std.specs.Prelude.{◌≡◌, ◌≤◌, length, map, IfOk};
+ghost use Rattle.std.specs.Prelude.{◌≤◌, length, map, IfOk};
 ghost use Rattle.spl_types.specs.spl_sound.Spelled.{AreSpelled, Spelled, most_units, source_of};
 
 use spl_front::{UnitFault, read_unit};
 use spl_tree::SplUnit;
 use spl_types::{CheckFault, check};
-use std::alloc::{AllocError, Global};
+use std::alloc::Global;
 
 /// The first rule that is broken, with unit, line and column; that none is; or that a text spells no unit.
 #[derive(Clone, Copy, Debug, PartialEq, Eq)]

@@ -1,7 +1,7 @@
 -- The procedures of a list of declarations, one by one.
 -- 1. the body of one by its number                         (routine_numbered)
 -- 2. its subroutines are entries of its module              (inner_entered)
--- 3. what the rules say of it                               (inners_ruled, routine_ruled)
+-- 3. what the rules say of it                               (inners_ruled, routine_told)
 use Rattle.std.proofs.Common.{◌≡◌, ℕ, zero, suc, ◌+◌, ◌&&◌, nat_eq, Bool, true, false, if◌then◌else◌, List, [], ◌∷◌, ◌++◌, Some, refl, sym, subst, ap, ◌∙◌, add-zero, arith, rules}
 use Rattle.std.specs.List.{slice_get}
 use Rattle.std.proofs.lemmas.Bool.{and_parts}

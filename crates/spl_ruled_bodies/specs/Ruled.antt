@@ -3,7 +3,7 @@ use Rattle.std.specs.Prelude.{◌≡◌, ℕ, Bool, true, false, List, [], Optio
 use Rattle.std.specs.List.{list_all, slice_get}
 use Rattle.spl_shapes.specs.spl_tree.StatementTrees.{statements}
 use Rattle.spl_sound_beginnings.specs.spl_meaning.Names as n
-use Rattle.spl_sound_beginnings.specs.spl_meaning.Names.{Sort, Table, Profile, find, parameters, formals_of, intrinsic_named}
+use Rattle.spl_sound_beginnings.specs.spl_meaning.Names.{Sort, Profile, find, parameters, formals_of, intrinsic_named}
 use Rattle.spl_sound_beginnings.specs.spl_meaning.Tables.{Routine, Subroutine, routines_of, routine_table, routine_subroutines, unit_table, unit_subroutines}
 use Rattle.spl_sound_beginnings.specs.spl_meaning.Bodies.{Named, procedure_body}
 use Rattle.spl_sound_beginnings.specs.spl_meaning.ExpressionRules.{Scope}

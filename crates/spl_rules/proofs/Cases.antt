@@ -8,7 +8,7 @@ use Rattle.spl_meaning.specs.spl_tree.Trees as tree
 use Rattle.spl_meaning.specs.spl_tree.Trees.{Tree, Constant}
 use Rattle.spl_meaning.specs.spl_tree.StatementTrees as stat
 use Rattle.spl_meaning.specs.Names as n
-use Rattle.spl_meaning.specs.Names.{Names, Sort, Formal, find, text_value, constant_value, sum_value}
+use Rattle.spl_meaning.specs.Names.{Names, Sort, Formal}
 use Rattle.spl_meaning.specs.Kinds.{kind_of, is_double, reference_kind}
 use Rattle.spl_meaning.specs.Pending.{by_value}
 use Rattle.spl_meaning.specs.Faults.{Fault, fault, unless, IsAmong}

@@ -5,7 +5,7 @@ use Rattle.spl_meaning.specs.spl_tree.declared.names_and_places.At.{At}
 use Rattle.spl_meaning.specs.Tables.{Source}
 use Rattle.spl_meaning.specs.Faults.{Fault, fault, is_before, IsAmong}
 use Rattle.spl_meaning.specs.Sound as list
-use Rattle.spl_meaning.specs.Sound.{IsSound, first_broken, all_faults}
+use Rattle.spl_meaning.specs.Sound.{IsSound, first_broken}
 use Rattle.spl_meaning.specs.Laws.{FirstRulesAreBroken}
 use Rattle.spl_rules.specs.Parts.{Part}
 use Rattle.spl_rules.specs.DeclarationParts.{all_parts}

@@ -4,7 +4,7 @@ use Rattle.spl_meaning.specs.spl_tree.declared.expressions.Kind.TheVariants as k
 use Rattle.spl_meaning.specs.spl_tree.Trees as tree
 use Rattle.spl_meaning.specs.spl_tree.Trees.{Tree, Constant}
 use Rattle.spl_meaning.specs.Names as n
-use Rattle.spl_meaning.specs.Names.{Names, Sort, Profile}
+use Rattle.spl_meaning.specs.Names.{Names, Sort}
 use Rattle.spl_meaning.specs.Kinds.{variable_kind, callable}
 use Rattle.spl_meaning.specs.ExpressionRules.{Scope, has_elements, is_equate, is_pointer, is_open_sort, is_callable, index_fits}
 use Rattle.spl_meaning.specs.StatementRules.{has_name}

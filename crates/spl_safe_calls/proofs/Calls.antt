@@ -1,6 +1,6 @@
 -- Calls are never lost, one within another, and programs are not.
 use Rattle.std.proofs.Common.{◌≡◌, ◌⊎◌, inl, inr, ℕ, zero, suc, ◌+◌, Bool, true, false, List, [], Option, Some, None, is_some, refl, sym, ap, subst, ◌∙◌}
-use Rattle.std.specs.Prelude.{if◌then◌else◌, nat_lt, length}
+use Rattle.std.specs.Prelude.{nat_lt, length}
 use Rattle.spl_frames.specs.Sizes.{IsDone, CallsFit, ValuesHaveTheirWords}
 use Rattle.spl_safe_statements.specs.spl_meaning.hp_word.declared.endings.Trap.TheVariants.{StackOverflow}
 use Rattle.spl_safe_statements.specs.spl_meaning.Bodies.{Body, Named, subroutine_body, body_named}

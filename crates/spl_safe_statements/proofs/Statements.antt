@@ -1,6 +1,5 @@
 -- Statements whose parts are never lost are not, along the tree.
 use Rattle.std.proofs.Common.{◌≡◌, ℕ, zero, suc, ◌+◌, not, Bool, true, false, List, [], ◌∷◌, ◌++◌, refl}
-use Rattle.std.specs.Prelude.{if◌then◌else◌}
 use Rattle.spl_meaning.specs.spl_tree.declared.names_and_places.At.{At}
 use Rattle.spl_meaning.specs.spl_tree.StatementTrees as stat
 use Rattle.spl_meaning.specs.spl_tree.StatementTrees.{Statement, Statements, Test}

@@ -3,7 +3,7 @@ use Rattle.std.proofs.Common.{◌≡◌, ◌⊎◌, inl, inr, ℕ, ◌+◌, ◌�
 use Rattle.std.proofs.lemmas.Bool.{ltb-false}
 use Rattle.spl_ruled_bodies.specs.spl_tree.declared.expressions.Kind.{Kind}
 use Rattle.spl_ruled_bodies.specs.spl_meaning.Names as n
-use Rattle.spl_ruled_bodies.specs.spl_meaning.Names.{Sort, Profile, Formal, find, or_else, same_name, parameters, formals_of, profile_of, sort_by}
+use Rattle.spl_ruled_bodies.specs.spl_meaning.Names.{Sort, Profile, Formal, find, or_else, same_name, parameters, profile_of, sort_by}
 use Rattle.spl_ruled_bodies.specs.spl_meaning.Kinds.{variable_kind}
 use Rattle.spl_ruled_bodies.specs.spl_meaning.Limits.{Use, Full, most_reach, words_below, place_used, reach_by}
 use Rattle.spl_ruled_bodies.specs.spl_meaning.Places.{Place, below_return}

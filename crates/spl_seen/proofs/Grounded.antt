@@ -1,5 +1,5 @@
 -- What is known of the names of bodies.
--- 1. of two tables one before the other         (either_name)
+-- 1. of two tables one before the other         (in_either)
 -- 2. a main body, a procedure, a subroutine      (main_grounded, routine_grounded, inner_grounded)
 -- 3. where code is made of them                  (seen)
 use Rattle.std.proofs.Common.{◌≡◌, ◌⊎◌, inl, inr, ℕ, ◌||◌, Bool, true, false, if◌then◌else◌, List, [], Option, Some, None, option_map, is_some, refl, sym, ap, subst, ◌∙◌}
@@ -8,7 +8,7 @@ use Rattle.spl_ruled_bodies.specs.spl_tree.declared.expressions.Kind.{Kind}
 use Rattle.spl_ruled_bodies.specs.hp_word.declared.intrinsics.Intrinsic.{Intrinsic}
 use Rattle.spl_ruled_bodies.specs.hp_word.declared.intrinsics.Intrinsic.TheVariants as gate
 use Rattle.spl_ruled_bodies.specs.spl_meaning.Names as n
-use Rattle.spl_ruled_bodies.specs.spl_meaning.Names.{Names, Sort, Table, Profile, find, or_else, within, parameters, formals_of, profile_of, intrinsic_profile}
+use Rattle.spl_ruled_bodies.specs.spl_meaning.Names.{Names, Sort, Table, Profile, find, or_else, within, parameters, formals_of, intrinsic_profile}
 use Rattle.spl_ruled_bodies.specs.spl_meaning.Kinds.{callable}
 use Rattle.spl_ruled_bodies.specs.spl_meaning.Places.{Place, below_return}
 use Rattle.spl_ruled_bodies.specs.spl_meaning.Tables.{Routine, routine_table}

@@ -7,7 +7,7 @@ use Rattle.spl_cuts.specs.spl_tree.Operators.{Form, reference, comparison, other
 use Rattle.spl_cuts.specs.spl_tree.Expressions as g
 use Rattle.spl_cuts.specs.spl_tree.Statements.{is_relation}
 use Rattle.spl_cuts.specs.spl_tree.Trees as tree
-use Rattle.spl_cuts.specs.spl_tree.Trees.{Tree, Trees, trees, Constant}
+use Rattle.spl_cuts.specs.spl_tree.Trees.{Tree, trees, Constant}
 use Rattle.spl_shapes.specs.Shapes.{is_reference, is_shaped, are_shaped}
 use Rattle.spl_shapes.specs.Laws.{HaveBytes}
 use Rattle.spl_shapes.proofs.Operators.{operator_small, relation_there, relation_small, sign_small, shift_small}

@@ -4,7 +4,7 @@
 use Rattle.std.proofs.Common.{◌≡◌, ℕ, ◌+◌, not, true, false, List, [], ◌++◌, Option, Some, option_map, is_some, refl, sym, subst, ap}
 use Rattle.std.proofs.lemmas.Bool.{and_from}
 use Rattle.spl_sound_names.specs.spl_tree.DeclarationTrees as decl
-use Rattle.spl_sound_names.specs.spl_tree.DeclarationTrees.{Declaration, Declarations, Heading, declarations}
+use Rattle.spl_sound_names.specs.spl_tree.DeclarationTrees.{Declaration, Declarations, Heading}
 use Rattle.spl_sound_names.specs.spl_tree.StatementTrees.{Statement}
 use Rattle.spl_sound_names.specs.spl_meaning.Names.{Names, Sort, Table, find, within, parameters, formals_of}
 use Rattle.spl_sound_names.specs.spl_meaning.Tables.{Routine, Subroutine, routine_table, subroutine_in, subroutines_among, with_declaration}

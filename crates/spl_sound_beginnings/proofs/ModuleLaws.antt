@@ -13,7 +13,7 @@ use Rattle.spl_sound_names.specs.spl_tree.DeclarationTrees.{Declaration, Declara
 use Rattle.spl_sound_names.specs.spl_meaning.Names.{Table, find, same_name}
 use Rattle.spl_sound_names.specs.spl_meaning.Tables.{Subroutine}
 use Rattle.spl_sound_names.specs.spl_meaning.Places as p
-use Rattle.spl_sound_names.specs.spl_meaning.Places.{Cell, Initial, cell_word, only}
+use Rattle.spl_sound_names.specs.spl_meaning.Places.{Cell, Initial, cell_word}
 use Rattle.spl_sound_names.specs.spl_meaning.Pending.{formals_words}
 use Rattle.spl_sound_names.specs.spl_meaning.Bodies.{Body, Named, subroutine_body}
 use Rattle.spl_beginnings.specs.spl_code.Parts.{Part, nothing}

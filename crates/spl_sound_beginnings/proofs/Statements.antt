@@ -7,11 +7,11 @@ use Rattle.std.proofs.lemmas.Bool.{and_from}
 use Rattle.spl_sound_names.specs.spl_tree.declared.names_and_places.At.{At}
 use Rattle.spl_sound_names.specs.spl_tree.declared.expressions.Kind.TheVariants as kind
 use Rattle.spl_sound_names.specs.spl_tree.Trees as tree
-use Rattle.spl_sound_names.specs.spl_tree.Trees.{Tree, Trees}
+use Rattle.spl_sound_names.specs.spl_tree.Trees.{Tree}
 use Rattle.spl_sound_names.specs.spl_tree.StatementTrees as stat
 use Rattle.spl_sound_names.specs.spl_tree.StatementTrees.{Statement, Statements, Target}
 use Rattle.spl_sound_names.specs.spl_meaning.Names as n
-use Rattle.spl_sound_names.specs.spl_meaning.Names.{Names, Sort, Profile, same_name, text_value}
+use Rattle.spl_sound_names.specs.spl_meaning.Names.{Sort, same_name, text_value}
 use Rattle.spl_sound_names.specs.spl_meaning.Kinds.{kind_of, is_double, callable, variable_kind, compares_text, complement}
 use Rattle.spl_sound_names.specs.spl_meaning.Pending.{profile_formals}
 use Rattle.spl_sound_names.specs.spl_meaning.Places.{Place}
@@ -19,7 +19,7 @@ use Rattle.spl_sound_names.specs.spl_meaning.References.{access_of}
 use Rattle.spl_sound_names.specs.spl_meaning.Values.{sense_of}
 use Rattle.spl_sound_names.specs.spl_meaning.Faults.{Fault, fault, unless}
 use Rattle.spl_sound_names.specs.spl_meaning.ExpressionRules as rule
-use Rattle.spl_sound_names.specs.spl_meaning.ExpressionRules.{count, variable_by, variable_faults, call_faults, uncalled_by, name_by, is_callable, faults, far_faults, indices_faults, arguments_faults, binary_faults, bits_faults, field_faults, constant_faults, is_pointer, single_faults}
+use Rattle.spl_sound_names.specs.spl_meaning.ExpressionRules.{count, variable_by, variable_faults, uncalled_by, name_by, is_callable, faults, far_faults, indices_faults, arguments_faults, binary_faults, bits_faults, field_faults, is_pointer}
 use Rattle.spl_sound_names.specs.spl_meaning.StatementRules.{has_name, called_by, reference_faults, pointer_faults, fit_faults, field_kind, target_kind, is_single, assign_faults, condition_faults, single_value_faults, step_faults, counter_by, test_faults, own_labels, list_labels, statement_faults, statements_faults, arms_faults, sets_code}
 use Rattle.spl_beginnings.specs.spl_code.Calls.{Scope}
 use Rattle.spl_piece_kinds.specs.spl_module_code.LabelsOfBodies.{Label, labels_in, labels_among}

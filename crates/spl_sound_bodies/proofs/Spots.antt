@@ -9,7 +9,7 @@ use Rattle.spl_readings.specs.spl_tree.DeclarationTrees as decl
 use Rattle.spl_readings.specs.spl_tree.DeclarationTrees.{Placed, Item, Equal, Declaration, Declarations}
 use Rattle.spl_readings.specs.spl_tree.declared.expressions.Kind.{Kind}
 use Rattle.spl_ruled_bodies.specs.spl_meaning.Names as n
-use Rattle.spl_ruled_bodies.specs.spl_meaning.Names.{Names, Sort, Table, Formal, find, within, same_name, parameters, formals_of, intrinsic_named, sum_value, profile_of, sort_by}
+use Rattle.spl_ruled_bodies.specs.spl_meaning.Names.{Names, Sort, Table, Formal, find, within, same_name, parameters, intrinsic_named, sum_value, profile_of, sort_by}
 use Rattle.spl_ruled_bodies.specs.spl_meaning.Tables.{declared, shaped, intrinsic_sort, with_items, with_equates, with_intrinsics, with_labels, with_declaration, with_declarations}
 use Rattle.spl_ruled_bodies.specs.spl_meaning.Places.{Place, above_base, Array, is_own, item_words, array_words, where_own, list_words, only, place_of, places_from, array_at, arrays_from}
 use Rattle.spl_ruled_bodies.specs.spl_meaning.Kinds.{width}

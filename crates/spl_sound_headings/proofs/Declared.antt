@@ -5,9 +5,9 @@ use Rattle.std.proofs.lemmas.Bool.{and_from}
 use Rattle.spl_ruled_bodies.specs.spl_tree.declared.names_and_places.At.{At}
 use Rattle.spl_ruled_bodies.specs.spl_tree.declared.expressions.Kind.{Kind}
 use Rattle.spl_ruled_bodies.specs.spl_tree.DeclarationTrees as decl
-use Rattle.spl_ruled_bodies.specs.spl_tree.DeclarationTrees.{Declaration, Item}
+use Rattle.spl_ruled_bodies.specs.spl_tree.DeclarationTrees.{Declaration}
 use Rattle.spl_ruled_bodies.specs.spl_meaning.Names as n
-use Rattle.spl_ruled_bodies.specs.spl_meaning.Names.{Names, Sort, Table, Profile, Formal, find, or_else, same_name, same_flag, nothing_declared, intrinsic_named}
+use Rattle.spl_ruled_bodies.specs.spl_meaning.Names.{Names, Sort, Table, Profile, Formal, find, or_else, same_name, same_flag, intrinsic_named}
 use Rattle.spl_ruled_bodies.specs.spl_meaning.Tables.{declared, shaped, intrinsic_sort, with_declaration}
 use Rattle.spl_ruled_bodies.specs.spl_meaning.DeclarationRules.{Waiting, without, twice, kind_number, same_formals, same_profile}
 use Rattle.spl_ruled_bodies.specs.spl_found.OwnNames.{with_name}

@@ -1,15 +1,15 @@
 -- A subroutine of a subprogram breaks rule 28.
-use Rattle.std.proofs.Common.{ℕ, ◌≡◌, Bool, true, false, not, if◌then◌else◌, List, [], ◌∷◌, ◌++◌, refl, sym, subst, ap, ◌∙◌, ◌+◌}
+use Rattle.std.proofs.Common.{ℕ, ◌≡◌, Bool, true, false, if◌then◌else◌, List, [], ◌∷◌, ◌++◌, refl, subst, ap, ◌∙◌, ◌+◌}
 use Rattle.spl_places.specs.spl_tree.DeclarationTrees as decl
-use Rattle.spl_places.specs.spl_tree.DeclarationTrees.{Heading, Declaration, Declarations, declarations}
-use Rattle.spl_places.specs.spl_tree.StatementTrees.{Statement, statements}
+use Rattle.spl_places.specs.spl_tree.DeclarationTrees.{Declaration, Declarations, declarations}
+use Rattle.spl_places.specs.spl_tree.StatementTrees.{statements}
 use Rattle.spl_places.specs.spl_meaning.Names.{Sort, Table, nothing_declared}
-use Rattle.spl_places.specs.spl_meaning.Tables.{Source, Routine, Subroutine, with_declaration, subroutine_in, subroutines_among, unit_subroutines}
+use Rattle.spl_places.specs.spl_meaning.Tables.{Source, Routine, Subroutine, with_declaration, subroutine_in, subroutines_among}
 use Rattle.spl_places.specs.spl_meaning.Bodies.{all_routines}
 use Rattle.spl_places.specs.spl_meaning.Stops.{declaration_stops}
 use Rattle.spl_places.specs.spl_meaning.ExpressionRules.{Scope}
-use Rattle.spl_places.specs.spl_meaning.Faults.{Fault, fault, unless}
-use Rattle.spl_places.specs.spl_meaning.DeclarationRules.{Around, Waiting, twice, subroutine_faults, declared_subroutine, global_faults, globals_faults, waiting_behind, silent_faults, unit_faults, main_scope}
+use Rattle.spl_places.specs.spl_meaning.Faults.{fault}
+use Rattle.spl_places.specs.spl_meaning.DeclarationRules.{Around, Waiting, twice, subroutine_faults, global_faults, globals_faults, waiting_behind, silent_faults, unit_faults, main_scope}
 use Rattle.spl_places.specs.spl_meaning.StatementRules.{body_faults}
 use Rattle.spl_places.specs.spl_meaning.Sound.{IsSound, all_faults, faults_behind}
 use Rattle.spl_places.specs.Programs.{Each}

@@ -3,10 +3,9 @@
 use Rattle.std.proofs.Common.{ℕ, ◌≡◌, Bool, true, false, not, if◌then◌else◌, List, [], ◌∷◌, ◌++◌, refl, inl, subst, ap, ◌∙◌, ◌+◌}
 use Rattle.spl_places.specs.spl_tree.DeclarationTrees as decl
 use Rattle.spl_places.specs.spl_tree.DeclarationTrees.{Heading, Declaration, Declarations, declarations}
-use Rattle.spl_places.specs.spl_tree.StatementTrees as stat
 use Rattle.spl_places.specs.spl_tree.StatementTrees.{Statement, Statements, statements}
 use Rattle.spl_places.specs.spl_meaning.Names.{Sort, Table, find, nothing_declared, parameters, formals_of}
-use Rattle.spl_places.specs.spl_meaning.Tables.{Source, Routine, Subroutine, with_declaration, routine_in, routines_among, routines_of, subroutine_in, subroutines_among, unit_subroutines}
+use Rattle.spl_places.specs.spl_meaning.Tables.{Source, Routine, with_declaration, routine_in, routines_among, routines_of, subroutine_in, subroutines_among}
 use Rattle.spl_places.specs.spl_meaning.Bodies.{all_routines}
 use Rattle.spl_places.specs.spl_meaning.Stops.{declaration_stops}
 use Rattle.spl_places.specs.spl_meaning.ExpressionRules.{Scope}

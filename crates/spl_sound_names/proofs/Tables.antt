@@ -13,7 +13,7 @@ use Rattle.spl_sound.specs.spl_tree.Trees.{Constant}
 use Rattle.spl_sound.specs.spl_tree.DeclarationTrees as decl
 use Rattle.spl_sound.specs.spl_tree.DeclarationTrees.{Placed, Item, Equal, Term, Declaration, Declarations}
 use Rattle.spl_sound.specs.spl_meaning.Names as n
-use Rattle.spl_sound.specs.spl_meaning.Names.{Names, Sort, Table, find, within, or_else, same_name, nothing_declared, text_value, whole_number, constant_value, sum_with, sum_from, sum_value, kept_value, intrinsic_named, profile_of}
+use Rattle.spl_sound.specs.spl_meaning.Names.{Names, Sort, Table, find, within, or_else, same_name, text_value, whole_number, constant_value, sum_with, sum_from, sum_value, kept_value, intrinsic_named}
 use Rattle.spl_sound.specs.spl_meaning.Tables.{declared, shaped, intrinsic_sort, with_items, with_equates, with_intrinsics, with_labels, with_declaration, with_declarations}
 use Rattle.spl_sound.specs.spl_meaning.Faults.{fault, unless}
 use Rattle.spl_sound.specs.spl_meaning.ExpressionRules.{constant_name, constant_faults}

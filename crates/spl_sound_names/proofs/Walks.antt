@@ -3,7 +3,7 @@ use Rattle.std.proofs.Common.{◌≡◌, ℕ, Bool, true, false, if◌then◌els
 use Rattle.spl_sound.specs.spl_tree.DeclarationTrees as decl
 use Rattle.spl_sound.specs.spl_tree.DeclarationTrees.{Declaration, Declarations, Heading}
 use Rattle.spl_sound.specs.spl_meaning.Names as n
-use Rattle.spl_sound.specs.spl_meaning.Names.{Names, Sort, Table, find, same_name, nothing_declared, profile_of}
+use Rattle.spl_sound.specs.spl_meaning.Names.{Sort, Table, find, same_name, nothing_declared, profile_of}
 use Rattle.spl_sound.specs.spl_meaning.Tables.{Routine, with_declaration, with_declarations}
 use Rattle.spl_sound.specs.spl_meaning.ExpressionRules.{Scope}
 use Rattle.spl_sound.specs.spl_meaning.DeclarationRules.{Around, Waiting, local_faults_of, local_faults, global_faults, globals_faults, waiting_behind}

@@ -3,7 +3,7 @@ use Rattle.std.specs.Prelude.{◌≡◌, ℕ, Bool, true, false, if◌then◌els
 use Rattle.spl_sound.specs.spl_tree.DeclarationTrees as decl
 use Rattle.spl_sound.specs.spl_tree.DeclarationTrees.{Declaration, Declarations}
 use Rattle.spl_sound.specs.spl_meaning.Names as n
-use Rattle.spl_sound.specs.spl_meaning.Names.{Names, Sort, Table, find, same_name}
+use Rattle.spl_sound.specs.spl_meaning.Names.{Names, Sort, same_name}
 use Rattle.spl_sound.specs.spl_meaning.Places.{Place}
 
 -- it is declared rightly, and an EQUATE name has a value

@@ -5,7 +5,7 @@ use Rattle.std.proofs.lemmas.Bool.{and_from, eq-eqb}
 use Rattle.spl_linked_names.specs.spl_meaning.Tables.{Source, Routine, routines_of}
 use Rattle.spl_linked_names.specs.spl_meaning.Bodies.{Named, Reached, reached_behind, all_routines, main_body, program_of}
 use Rattle.spl_sound_bodies.specs.spl_scopes.Entries.{main, routine, module_entries}
-use Rattle.spl_sound_bodies.specs.spl_scopes.Scopes.{Placed, first_reached, placed_units, unit_at, routine_bodies, global_places, body_segment}
+use Rattle.spl_sound_bodies.specs.spl_scopes.Scopes.{Placed, first_reached, placed_units, routine_bodies, global_places, body_segment}
 use Rattle.spl_linked_names.specs.spl_callable.Callable.{is_among, is_covered_frame, is_covered_procedure, are_covered_procedures, are_callable}
 use Rattle.spl_linked_names.specs.spl_carried.Covered.{main_count, is_covered_unit}
 use Rattle.spl_linked_names.specs.spl_carried.Laws.{CoveredProgramsCarry}

@@ -1,14 +1,9 @@
 -- Programs whose subroutines are covered. Of main bodies and of procedures nothing is asked, but that their subroutines are.
-use Rattle.std.specs.Prelude.{ℕ, suc, ◌&&◌, ◌||◌, Bool, true, List, [], ◌∷◌, ◌++◌}
-use Rattle.std.specs.List.{list_all}
+use Rattle.std.specs.Prelude.{ℕ, List, [], ◌∷◌, ◌++◌}
 use Rattle.spl_linked_names.specs.spl_meaning.Names as n
 use Rattle.spl_linked_names.specs.spl_meaning.Names.{Sort, Table}
 use Rattle.spl_linked_names.specs.spl_meaning.Limits.{joined}
 use Rattle.spl_linked_names.specs.spl_meaning.Tables.{Source, routine_table, routines_of, unit_table}
-use Rattle.spl_linked_names.specs.spl_meaning.Bodies.{Named, main_body, program_of}
-use Rattle.spl_sound_bodies.specs.spl_scopes.Entries.{main, routine, module_entries}
-use Rattle.spl_sound_bodies.specs.spl_scopes.Scopes.{Placed, first_reached, placed_units, routine_bodies, global_places, body_segment}
-use Rattle.spl_linked_names.specs.spl_callable.Callable.{are_covered_inners}
 
 -- the names that stand for procedures in a list
 abbrev pub procedures_in : Table Sort → List (List ℕ)

@@ -6,7 +6,7 @@ use Rattle.spl_sound_values.specs.spl_tree.declared.names_and_places.At.{At}
 use Rattle.spl_sound_values.specs.spl_tree.declared.expressions.Kind.{Kind}
 use Rattle.spl_sound_values.specs.spl_tree.declared.expressions.Kind.TheVariants as kind
 use Rattle.spl_sound_values.specs.spl_tree.Trees as tree
-use Rattle.spl_sound_values.specs.spl_tree.Trees.{Tree, Trees}
+use Rattle.spl_sound_values.specs.spl_tree.Trees.{Tree}
 use Rattle.spl_sound_values.specs.spl_tree.StatementTrees as stat
 use Rattle.spl_sound_values.specs.spl_tree.StatementTrees.{Source, Effect}
 use Rattle.spl_sound_values.specs.spl_meaning.Kinds.{is_byte, variable_kind, reference_kind}

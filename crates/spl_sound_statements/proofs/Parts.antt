@@ -18,14 +18,14 @@ use Rattle.spl_sound_values.specs.spl_meaning.References.{Setting}
 use Rattle.spl_sound_values.specs.spl_meaning.Values.{Who, procedure, subroutine}
 use Rattle.spl_sound_values.specs.spl_meaning.Faults.{fault, unless}
 use Rattle.spl_sound_values.specs.spl_meaning.ExpressionRules as rule
-use Rattle.spl_sound_values.specs.spl_meaning.ExpressionRules.{fits, count, has_elements, field_faults, is_bits, bits_faults, single_faults, place_in, faults, indices_faults, arguments_faults, call_faults, split_use}
+use Rattle.spl_sound_values.specs.spl_meaning.ExpressionRules.{fits, count, has_elements, field_faults, is_bits, bits_faults, single_faults, place_in, faults, indices_faults, arguments_faults}
 use Rattle.spl_sound_values.specs.spl_meaning.StatementRules as statement
-use Rattle.spl_sound_values.specs.spl_meaning.StatementRules.{target_by, target_kind_by, target_kind, reference_faults, pointer_faults, fit_faults, field_kind, assign_faults, may_be_moved_to, effect_faults, answer_by, answer_faults, assign_effect_faults, called_by, call_statement_faults, counter_by, single_value_faults, step_faults, condition_faults}
+use Rattle.spl_sound_values.specs.spl_meaning.StatementRules.{target_by, target_kind_by, target_kind, reference_faults, pointer_faults, fit_faults, field_kind, assign_faults, may_be_moved_to, effect_faults, answer_faults, assign_effect_faults, called_by, call_statement_faults, counter_by, single_value_faults, step_faults, condition_faults}
 use Rattle.spl_sound_values.specs.spl_code.Calls.{Scope}
 use Rattle.spl_sound_values.specs.spl_names.Names.{has_reached, has_seen}
 use Rattle.spl_sound_values.specs.spl_whom.Whom.{is_gate}
 use Rattle.spl_sound_values.specs.spl_covered.Covered.{is_covered, is_wide, are_covered_arguments}
-use Rattle.spl_stores.specs.spl_targets.Targets.{keeps_answer, is_word_target}
+use Rattle.spl_stores.specs.spl_targets.Targets.{is_word_target}
 use Rattle.spl_stores.specs.spl_wide.Wide.{is_wide_target}
 use Rattle.spl_stores.specs.spl_assigned.Assigned.{is_covered_assignment}
 use Rattle.spl_stores.specs.spl_calls.Covered.{is_covered_call}

@@ -4,7 +4,7 @@ use Rattle.std.proofs.lemmas.Bool.{and_from, and_parts}
 use Rattle.spl_sound_values.specs.spl_tree.declared.names_and_places.At.{At}
 use Rattle.spl_sound_values.specs.spl_tree.declared.expressions.Kind.{Kind}
 use Rattle.spl_sound_values.specs.spl_tree.StatementTrees as stat
-use Rattle.spl_sound_values.specs.spl_tree.StatementTrees.{Statement, Statements, Target, Effect, Test}
+use Rattle.spl_sound_values.specs.spl_tree.StatementTrees.{Statement, Statements, Test}
 use Rattle.spl_sound_values.specs.spl_meaning.Limits.{uses, test_uses, step_uses, statement_uses, statements_uses}
 use Rattle.spl_sound_values.specs.spl_meaning.Places.{Place}
 use Rattle.spl_sound_values.specs.spl_meaning.References.{Setting}

@@ -1,6 +1,6 @@
 -- Targets of assignments that break no rule are covered.
 -- 1. variables, elements and bit fields of them       (stored_bare, fields_bare)
--- 2. results                                           (result_stored)
+-- 2. results                                           (result_target, result_field)
 -- 3. targets                                           (plain_covered, field_covered, pointer_covered)
 use Rattle.std.proofs.Common.{◌≡◌, ℕ, ◌+◌, ◌==◌, ◌&&◌, ◌||◌, not, Bool, true, false, List, [], ℤ, Option, Some, None, is_some, refl, sym, subst, ap, ◌∙◌, arith}
 use Rattle.std.proofs.lemmas.Bool.{and_from, or_left, or_right, and_parts, not_from_false, leb-true}
@@ -19,7 +19,7 @@ use Rattle.spl_sound_values.specs.spl_meaning.References.{Setting, access_of}
 use Rattle.spl_sound_values.specs.spl_meaning.Values.{Who, small_constant}
 use Rattle.spl_sound_values.specs.spl_meaning.Faults.{fault, unless}
 use Rattle.spl_sound_values.specs.spl_meaning.ExpressionRules as rule
-use Rattle.spl_sound_values.specs.spl_meaning.ExpressionRules.{count, variable_faults, indices_faults, field_faults, split_use}
+use Rattle.spl_sound_values.specs.spl_meaning.ExpressionRules.{count, variable_faults, field_faults}
 use Rattle.spl_sound_values.specs.spl_meaning.StatementRules.{has_name, result_faults, target_by, target_kind_by, pointer_faults}
 use Rattle.spl_sound_values.specs.spl_meaning.StatementRules as statement
 use Rattle.spl_sound_values.specs.spl_code.Calls.{Scope}
@@ -32,7 +32,6 @@ use Rattle.spl_sound_values.specs.spl_covered.Covered.{is_covered}
 use Rattle.spl_stores.specs.spl_targets.Results.{result_kind, same_kind, is_result}
 use Rattle.spl_stores.specs.spl_targets.Targets.{holds_words, is_own, has_fields, has_field_elements, is_stored_name, is_stored_result, holds_result, is_field_target, is_word_target}
 use Rattle.spl_sound_values.proofs.spl_tops_proofs.SeenLemmas.{seen_reached}
-use Rattle.spl_sound_values.specs.spl_tops.Seen.{is_fixed}
 use Rattle.spl_stores.specs.spl_wide.Wide.{is_wide_result, is_wide_target}
 use Rattle.spl_sound_values.proofs.spl_sound_names_proofs.Tables.{left_none, right_none, clash, unless_none, never}
 use Rattle.spl_sound_values.specs.Seen.{Seen, UseAllowed}

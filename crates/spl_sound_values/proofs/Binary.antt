@@ -1,13 +1,12 @@
--- Operators of two operands, and comparisons of bytes, that break no rule.
+-- Operators of two operands that break no rule.
 -- 1. operators by their numbers       (always)
--- 2. comparisons of bytes             (byte_element, text_covered, bytes_covered)
--- 3. operators                        (binary_covered)
+-- 2. operators                        (binary_covered)
 use Rattle.std.proofs.Common.{◌≡◌, ℕ, ◌+◌, ◌&&◌, ◌||◌, not, nat_lt, Bool, true, false, if◌then◌else◌, List, [], ◌++◌, refl, sym, subst, ap, ◌∙◌, arith}
 use Rattle.std.proofs.lemmas.Bool.{and_from, or_left, or_right, not_from_false, ltb-true, agree_below, agree_below_at}
 use Rattle.spl_shapes.specs.spl_tree.declared.names_and_places.At.{At}
 use Rattle.spl_shapes.specs.spl_tree.declared.expressions.Kind.TheVariants as kind
 use Rattle.spl_shapes.specs.spl_tree.Trees as tree
-use Rattle.spl_shapes.specs.spl_tree.Trees.{Tree, Trees}
+use Rattle.spl_shapes.specs.spl_tree.Trees.{Tree}
 use Rattle.spl_near_places.specs.spl_meaning.Kinds.{of, Class, integers, logicals, doubles, mixed, class_of, class_operand, is_double, is_unknown, is_connective, is_relation, works_on_bits, gives_logical, multiplies, operand_width, kind_of, compares_text}
 use Rattle.spl_near_places.specs.spl_meaning.Pending.{left_words}
 use Rattle.spl_near_places.specs.spl_meaning.References.{Setting}

@@ -1,7 +1,6 @@
 -- Calls in expressions that break no rule, and their arguments.
--- 1. whom a name calls            (procedure_called, subroutine_called, intrinsic_called)
+-- 1. what the rules ask of a call     (call_sound)
 -- 2. one argument                 (argument_covered)
--- 3. a name in an expression      (named_covered)
 use Rattle.std.proofs.Common.{◌≡◌, ℕ, ◌==◌, ◌&&◌, ◌||◌, not, Bool, true, false, if◌then◌else◌, List, [], ◌++◌, length, Option, Some, None, is_some, refl, sym, ap, ◌∙◌}
 use Rattle.std.proofs.lemmas.Bool.{and_from, not_from_false, false_from_ne_true}
 use Rattle.spl_near_places.specs.hp_word.declared.intrinsics.Intrinsic.{Intrinsic}
@@ -11,7 +10,7 @@ use Rattle.spl_shapes.specs.spl_tree.declared.names_and_places.At.{At}
 use Rattle.spl_shapes.specs.spl_tree.declared.expressions.Kind.{Kind}
 use Rattle.spl_shapes.specs.spl_tree.declared.expressions.Kind.TheVariants as kind
 use Rattle.spl_shapes.specs.spl_tree.Trees as tree
-use Rattle.spl_shapes.specs.spl_tree.Trees.{Tree, Trees}
+use Rattle.spl_shapes.specs.spl_tree.Trees.{Tree}
 use Rattle.spl_near_places.specs.spl_meaning.Names as n
 use Rattle.spl_near_places.specs.spl_meaning.Names.{Names, Sort, Formal, Profile, intrinsic_named, intrinsic_profile}
 use Rattle.spl_near_places.specs.spl_meaning.Kinds.{result_of, named_operand, kind_of, reference_kind, variable_kind, is_double, is_unknown}
@@ -20,7 +19,7 @@ use Rattle.spl_near_places.specs.spl_meaning.References.{Setting}
 use Rattle.spl_near_places.specs.spl_meaning.Values.{Who}
 use Rattle.spl_near_places.specs.spl_meaning.Faults.{Fault, unless}
 use Rattle.spl_near_places.specs.spl_meaning.ExpressionRules as rule
-use Rattle.spl_near_places.specs.spl_meaning.ExpressionRules.{count, fits, passes, value_fits, is_callable, is_open_sort, is_open, is_label, is_label_name, is_subroutine, own_faults, argument_faults, place_in, call_faults, uncalled_by, name_by, variable_faults, faults, arguments_faults, indices_faults}
+use Rattle.spl_near_places.specs.spl_meaning.ExpressionRules.{fits, passes, value_fits, is_open_sort, is_open, is_label, is_label_name, is_subroutine, own_faults, argument_faults, place_in, call_faults}
 use Rattle.spl_near_places.specs.spl_code.Calls.{Scope}
 use Rattle.spl_covered.specs.spl_whom.Whom.{is_word_result, is_double_result, entry_of, is_that, is_gate}
 use Rattle.spl_covered.specs.Covered.{is_passed, is_covered, is_wide, is_covered_reference}

@@ -5,7 +5,7 @@ use Rattle.spl_shapes.specs.spl_tree.declared.names_and_places.At.{At}
 use Rattle.spl_shapes.specs.spl_tree.declared.expressions.Kind.{Kind}
 use Rattle.spl_shapes.specs.spl_tree.declared.expressions.Kind.TheVariants as kind
 use Rattle.spl_shapes.specs.spl_tree.Trees as tree
-use Rattle.spl_shapes.specs.spl_tree.Trees.{Tree, Trees}
+use Rattle.spl_shapes.specs.spl_tree.Trees.{Trees}
 use Rattle.spl_near_places.specs.spl_meaning.Names as n
 use Rattle.spl_near_places.specs.spl_meaning.Names.{Sort}
 use Rattle.spl_near_places.specs.spl_meaning.Kinds.{of, named_operand, is_double, is_unknown}

@@ -1,7 +1,6 @@
 -- Names of variables that break no rule: what they stand for, that they are seen, and what is covered of them.
 -- 1. what a name stands for           (variable_cases)
 -- 2. its place is seen                (variable_seen)
--- 3. it is covered by itself, and with an index     (bare, element)
 use Rattle.std.proofs.Common.{◌≡◌, ℕ, ◌==◌, ◌||◌, not, nat_le, Bool, true, false, List, [], ◌++◌, Option, Some, None, is_some, refl, sym, ap, ◌∙◌, arith, ℤ}
 use Rattle.std.proofs.lemmas.Bool.{or_right, le-leb, eqb-true}
 use Rattle.spl_shapes.specs.spl_tree.declared.names_and_places.At.{At}
@@ -15,7 +14,7 @@ use Rattle.spl_near_places.specs.spl_meaning.References.{Setting}
 use Rattle.spl_near_places.specs.spl_meaning.Values.{Who}
 use Rattle.spl_near_places.specs.spl_meaning.Faults.{fault, unless}
 use Rattle.spl_near_places.specs.spl_meaning.ExpressionRules as rule
-use Rattle.spl_near_places.specs.spl_meaning.ExpressionRules.{count, index_fits, split_use, variable_by, variable_faults}
+use Rattle.spl_near_places.specs.spl_meaning.ExpressionRules.{index_fits, split_use, variable_by, variable_faults}
 use Rattle.spl_near_places.specs.spl_code.Calls.{Scope}
 use Rattle.spl_covered.specs.spl_names.Names.{has_seen}
 use Rattle.spl_near_places.specs.spl_sound_names.Known.{is_item, is_passed}

@@ -3,7 +3,7 @@ use Rattle.std.specs.Prelude.{ℕ, ◌+◌, ◌&&◌, not, Bool, true, false, Li
 use Rattle.spl_counts.specs.spl_tree.declared.expressions.Kind.{Kind}
 use Rattle.spl_counts.specs.spl_tree.declared.expressions.Kind.TheVariants as kind
 use Rattle.spl_counts.specs.spl_tree.Trees as tree
-use Rattle.spl_counts.specs.spl_tree.Trees.{Tree, Trees}
+use Rattle.spl_counts.specs.spl_tree.Trees.{Trees}
 use Rattle.spl_counts.specs.spl_tree.StatementTrees as stat
 use Rattle.spl_counts.specs.spl_tree.StatementTrees.{Statement, Statements, Target, Effect}
 use Rattle.spl_counts.specs.spl_meaning.Values.{Who}

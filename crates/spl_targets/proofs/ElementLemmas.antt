@@ -12,7 +12,7 @@ use Rattle.spl_covered.specs.spl_tree.Trees.{Tree, Trees}
 use Rattle.spl_covered.specs.spl_tree.StatementTrees as stat
 use Rattle.spl_covered.specs.spl_tree.StatementTrees.{Target}
 use Rattle.spl_covered.specs.spl_meaning.Names as n
-use Rattle.spl_covered.specs.spl_meaning.Names.{Names, Sort}
+use Rattle.spl_covered.specs.spl_meaning.Names.{Sort}
 use Rattle.spl_covered.specs.spl_meaning.Operations.{kept}
 use Rattle.spl_covered.specs.spl_meaning.Places.{Place}
 use Rattle.spl_covered.specs.spl_meaning.References.{Here, Setting, Located, Access, its_own, by_address, by_cell, its_result, nowhere, access_of, target_access, index_or_zero, led_located, locate_by, locate_target, store}

@@ -1,5 +1,5 @@
 -- Which targets of assignments of one word are proved. A further construct makes it larger.
-use Rattle.std.specs.Prelude.{ℕ, ◌&&◌, ◌||◌, not, Bool, false, List, Option, Some, None}
+use Rattle.std.specs.Prelude.{ℕ, ◌&&◌, ◌||◌, Bool, false, List, Option, Some, None}
 use Rattle.spl_covered.specs.spl_tree.declared.expressions.Kind.{Kind}
 use Rattle.spl_covered.specs.spl_tree.Trees as tree
 use Rattle.spl_covered.specs.spl_tree.Trees.{Tree}
@@ -9,7 +9,7 @@ use Rattle.spl_covered.specs.spl_meaning.Kinds.{Operand, of, named_operand}
 use Rattle.spl_covered.specs.spl_meaning.Names as n
 use Rattle.spl_covered.specs.spl_meaning.Names.{Names, Sort}
 use Rattle.spl_covered.specs.spl_meaning.Places.{Place}
-use Rattle.spl_covered.specs.spl_meaning.References.{Setting, Access, its_own, by_address, by_cell, access_of}
+use Rattle.spl_covered.specs.spl_meaning.References.{Setting, Access, its_own, access_of}
 use Rattle.spl_covered.specs.spl_meaning.Statements.{is_intrinsic_alone, target_keeps_code}
 use Rattle.spl_covered.specs.spl_meaning.Values.{Who, small_constant}
 use Rattle.spl_covered.specs.spl_code.Calls.{Scope}

@@ -16,14 +16,14 @@ use Rattle.spl_doubles.specs.spl_branch.declared.pieces.Piece.{Piece}
 use Rattle.spl_doubles.specs.spl_branch.declared.pieces.Piece.TheVariants.{Do, Begin}
 use Rattle.spl_doubles.specs.spl_meaning.Kinds.{width}
 use Rattle.spl_doubles.specs.spl_meaning.Operations.{kept}
-use Rattle.spl_doubles.specs.spl_meaning.Places.{Place, data_word, above_base, below_base, below_return}
-use Rattle.spl_doubles.specs.spl_meaning.References.{Setting, Located, address_of, own_located, element_address, element_located, led_located, word_at, read, store}
+use Rattle.spl_doubles.specs.spl_meaning.Places.{data_word, above_base, below_base, below_return}
+use Rattle.spl_doubles.specs.spl_meaning.References.{Setting, own_located, element_address, element_located, led_located, word_at, read, store}
 use Rattle.spl_doubles.specs.spl_meaning.States.{Data, State, Outcome, done, leaves, spent, ends, strays, then_go, stopping}
 use Rattle.spl_doubles.specs.spl_code.Code.{as_value}
 use Rattle.spl_doubles.specs.spl_code.Instructions.{LDXN, XCH, DEL}
 use Rattle.spl_doubles.specs.spl_code.Operands.{mode_of}
 use Rattle.spl_doubles.specs.spl_code.Parts.{Part, pieces, piece, nothing, ◌⨟◌}
-use Rattle.spl_doubles.specs.spl_code.Stores.{from_top, cell_stored}
+use Rattle.spl_doubles.specs.spl_code.Stores.{cell_stored}
 use Rattle.spl_doubles.specs.spl_follow.Spots.{Spot, pos, on, Ground}
 use Rattle.spl_doubles.specs.spl_follow.Leading.{Leads}
 use Rattle.spl_doubles.specs.spl_follow.Matching.{Outer, Matched, Coded, IsValue}
@@ -37,12 +37,11 @@ use Rattle.spl_doubles.proofs.spl_follow_proofs.KeepLemmas.{kept_same, kept_top,
 use Rattle.spl_doubles.proofs.spl_follow_proofs.RowLemmas.{row_value}
 use Rattle.spl_doubles.specs.spl_values.Reached.{IsWhole}
 use Rattle.spl_doubles.proofs.spl_values_proofs.GiveLemmas.{last_leads}
-use Rattle.spl_doubles.specs.spl_operands.Operands.{Finds, Refers, Loading, Storing}
+use Rattle.spl_doubles.specs.spl_operands.Operands.{Finds, Refers, Storing}
 use Rattle.spl_doubles.proofs.spl_operands_proofs.OperandLemmas.{top_based, through, first_element}
 use Rattle.spl_doubles.proofs.spl_operands_proofs.LoadLemmas.{load_follows}
 use Rattle.spl_doubles.proofs.spl_operands_proofs.StoreLemmas.{storing, store_follows, index_deleted}
 use Rattle.spl_doubles.proofs.spl_operands_proofs.AssignLemmas.{value_stored, cells_assigned}
-use Rattle.spl_tops.specs.Seen.{is_seen}
 use Rattle.spl_tops.specs.Laws.{CellsPut}
 use Rattle.spl_tops.proofs.SeenLemmas.{IsBelow, below_is, below_based, below_low}
 use Rattle.spl_tops.proofs.StoreLemmas.{Down, x_down, down_finds}

@@ -20,7 +20,7 @@ use Rattle.spl_doubles.specs.spl_branch.declared.pieces.Piece.{Piece}
 use Rattle.spl_doubles.specs.spl_branch.declared.pieces.Piece.TheVariants.{Do, Begin}
 use Rattle.spl_doubles.specs.spl_meaning.Kinds.{width}
 use Rattle.spl_doubles.specs.spl_meaning.Operations.{kept}
-use Rattle.spl_doubles.specs.spl_meaning.Places.{Place, data_word, above_base, below_base, below_return}
+use Rattle.spl_doubles.specs.spl_meaning.Places.{data_word, above_base, below_base, below_return}
 use Rattle.spl_doubles.specs.spl_meaning.References.{Setting, address_of, variable_address, variable_located, own_located, store}
 use Rattle.spl_doubles.specs.spl_meaning.States.{Data, State, Outcome, done, then_go, stopping}
 use Rattle.spl_doubles.specs.spl_code.Code.{as_value}
@@ -30,10 +30,9 @@ use Rattle.spl_doubles.specs.spl_code.Parts.{Part, pieces, piece, nothing, â—Œâ¨
 use Rattle.spl_doubles.specs.spl_code.Stores.{units_above, own_stored}
 use Rattle.spl_doubles.specs.spl_follow.Spots.{Spot, pos, on, landed, Ground}
 use Rattle.spl_doubles.specs.spl_follow.Leading.{Leads}
-use Rattle.spl_doubles.specs.spl_follow.Matching.{outer, Matches, Matched, Kept, Stand, IsValue}
+use Rattle.spl_doubles.specs.spl_follow.Matching.{outer, Kept, Stand, IsValue}
 use Rattle.spl_doubles.specs.spl_follow.Following.{Rate, tally, Follows, NoExit}
 use Rattle.spl_doubles.specs.spl_follow.Doing.{doing}
-use Rattle.spl_doubles.specs.spl_follow.Standing.{Stands}
 use Rattle.spl_doubles.specs.spl_follow.Yielding.{Becomes}
 use Rattle.spl_doubles.specs.spl_follow.Parts.{Completes}
 use Rattle.spl_doubles.specs.spl_follow.Simulating.{Surroundings, Simulates, Performs}
@@ -47,7 +46,6 @@ use Rattle.spl_doubles.proofs.spl_operands_proofs.StoreLemmas.{storing, store_fo
 use Rattle.spl_doubles.proofs.spl_operands_proofs.AssignLemmas.{value_stored, value_storing}
 use Rattle.spl_doubles.proofs.spl_variables_proofs.OwnLemmas.{own_words_assigned}
 use Rattle.spl_doubles.proofs.StoreLemmas as double
-use Rattle.spl_tops.specs.Seen.{is_seen}
 use Rattle.spl_tops.specs.Laws.{OwnWordsPut, DoublesPut}
 use Rattle.spl_tops.proofs.SeenLemmas.{IsBelow, below_is, below_based, below_low}
 

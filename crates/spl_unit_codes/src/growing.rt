@@ -1,5 +1,5 @@
 //! The code of a unit in a segment while it grows.
-ghost use Rattle.std.specs.Prelude.{◌≡◌, ◌++◌, ℕ, map, length, OnOk, IfOk};
+ghost use Rattle.std.specs.Prelude.{◌≡◌, map, IfOk};
 ghost use Rattle.spl_tree.specs.Views.{letters};
 ghost use Rattle.spl_module_code.specs.spl_sound.Spelled.{source_of};
 ghost use Rattle.spl_module_code.specs.spl_modules.Made.{made_of};

@@ -1,5 +1,5 @@
 //! The order of modules: that in which the program first uses their segments.
-ghost use Rattle.std.specs.Prelude.{◌≡◌, ◌++◌, List, map, OnOk, IfOk};
+ghost use Rattle.std.specs.Prelude.{◌≡◌, ◌++◌, map, OnOk, IfOk};
 ghost use Rattle.spl_tree.specs.Spells.{declaration};
 ghost use Rattle.spl_tree.specs.Views.{letters};
 ghost use Rattle.spl_module_code.specs.spl_meaning.Names.{find};

@@ -1,6 +1,5 @@
 -- The codes of a unit behind its main body may be finished.
-use Rattle.std.specs.Prelude.{◌≡◌, ℕ, List, length, Some}
-use Rattle.std.specs.List.{slice_get}
+use Rattle.std.specs.Prelude.{List, length}
 use Rattle.spl_sound_labels.specs.spl_tree.DeclarationTrees as decl
 use Rattle.spl_sound_labels.specs.spl_tree.DeclarationTrees.{declarations}
 use Rattle.spl_sound_labels.specs.spl_meaning.Tables.{Source}

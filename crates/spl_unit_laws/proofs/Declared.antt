@@ -1,43 +1,39 @@
 -- What a declaration adds to the code of a segment is what the module has of it.
-use Rattle.std.proofs.Common.{◌≡◌, ◌<◌, ℕ, suc, ◌+◌, Bool, true, false, if◌then◌else◌, nat_eq, List, [], ◌∷◌, ◌++◌, map, drop, length, Option, Some, None, refl, sym, ap, subst, ◌∙◌, add-one, arith}
+use Rattle.std.proofs.Common.{◌≡◌, ℕ, suc, ◌+◌, false, List, [], ◌∷◌, Option, Some, None, refl, sym, ap, ◌∙◌}
 use Rattle.std.specs.List.{slice_get}
 use Rattle.std.specs.Prelude.{option_map, unwrap_or}
 use Rattle.std.proofs.lemmas.Option.{slice_get-map}
 use Rattle.spl_sound_labels.specs.spl_tree.DeclarationTrees as decl
 use Rattle.spl_sound_labels.specs.spl_tree.DeclarationTrees.{Heading, Declaration, Declarations, declarations}
 use Rattle.spl_sound_labels.specs.spl_tree.StatementTrees as stat
-use Rattle.spl_sound_labels.specs.spl_tree.StatementTrees.{statements}
-use Rattle.spl_sound_labels.specs.spl_meaning.Stops.{declaration_stops}
-use Rattle.spl_sound_labels.specs.spl_meaning.Names.{Names, Sort, Table, find, nothing_declared, formals_of}
-use Rattle.spl_sound_labels.specs.spl_meaning.Tables.{Source, Routine, Subroutine, routines_of, routines_among, outer_names, routine_subroutines, subroutines_among, unit_subroutines, unit_table, with_declaration}
-use Rattle.spl_sound_labels.specs.spl_meaning.Bodies.{Body, Named, procedure_body, main_body, subroutine_body}
+use Rattle.spl_sound_labels.specs.spl_meaning.Names.{Names, find, nothing_declared}
+use Rattle.spl_sound_labels.specs.spl_meaning.Tables.{Routine, Subroutine, routines_of, routine_subroutines, subroutines_among, unit_subroutines}
+use Rattle.spl_sound_labels.specs.spl_meaning.Bodies.{Body, Named, main_body, subroutine_body}
 use Rattle.spl_gen_routines.specs.spl_found.OwnNames.{behind_declarations}
 use Rattle.spl_sound_labels.specs.spl_places.Programs.{Each}
 use Rattle.spl_gen_routines.specs.spl_rooms.declared.room_type.Room.{Room}
-use Rattle.spl_gen_routines.specs.spl_rooms.Rooms.{room_within, routine_room}
+use Rattle.spl_gen_routines.specs.spl_rooms.Rooms.{routine_room}
 use Rattle.spl_gen_routines.specs.spl_branch.declared.buffer.Code.{Code}
 use Rattle.spl_gen_routines.specs.spl_code.Calls.{Scope}
 use Rattle.spl_gen_routines.specs.spl_body_code.Bodies.{Frame, frame_of}
-use Rattle.spl_gen_routines.specs.spl_scopes.Entries.{Owner, main, routine, Entry, module_entries, subroutine_index, procedure_index}
-use Rattle.spl_gen_routines.specs.spl_scopes.Scopes.{Placed, outer, inner, body_segment, segment_of, routine_bodies, outer_body, global_places, body_in, inner_body}
+use Rattle.spl_gen_routines.specs.spl_scopes.Entries.{main, routine, module_entries, subroutine_index, procedure_index}
+use Rattle.spl_gen_routines.specs.spl_scopes.Scopes.{Placed, outer, inner, segment_of, outer_body, global_places, body_in, inner_body}
 use Rattle.spl_unit_codes.specs.spl_modules.Entered.{Walk, Indexes}
 use Rattle.spl_unit_codes.specs.spl_modules.UnitModules.{IsUnitModules}
-use Rattle.spl_gen_routines.specs.spl_body_scopes.Levels.{Level, unit_level, routine_level}
+use Rattle.spl_gen_routines.specs.spl_body_scopes.Levels.{Level, unit_level}
 use Rattle.spl_gen_routines.specs.spl_body_scopes.Walks.{State, Left, behind, globals_in, inner_headings}
 use Rattle.spl_gen_routines.specs.spl_body_scopes.Found.{Calls, calls_of}
 use Rattle.spl_gen_routines.proofs.spl_body_scopes_proofs.ScopeLaws.{made, routine_next, body_next, body_left, all_headings, body_names, main_there}
 use Rattle.spl_gen_routines.specs.spl_body_scopes.Results.{result_of, results_through}
 use Rattle.spl_gen_routines.specs.spl_statement_scopes.Levels.{no_names, with_results}
-use Rattle.spl_gen_routines.specs.spl_statement_scopes.Scopes.{statements_in, StatesRoutine, StatesInner, StatesMain, StatesMainInner}
-use Rattle.spl_unit_codes.specs.spl_module_code.Bodies.{statements_scope, routine_part, subroutine_part}
-use Rattle.spl_gen_routines.specs.Generates.{Generates, GeneratesFrom}
-use Rattle.spl_gen_routines.specs.Routines.{Around, inners_among, room_at, FrameFits, InnerStands, RoutineStands}
-use Rattle.spl_gen_routines.proofs.OpenMarks.{one_generated}
-use Rattle.spl_unit_laws.specs.declared.cursors.Cursor.{Cursor}
+use Rattle.spl_gen_routines.specs.spl_statement_scopes.Scopes.{statements_in, StatesMain}
+use Rattle.spl_unit_codes.specs.spl_module_code.Bodies.{statements_scope, routine_part}
+use Rattle.spl_gen_routines.specs.Generates.{GeneratesFrom}
+use Rattle.spl_gen_routines.specs.Routines.{Around, inners_among, room_at, FrameFits, RoutineStands}
 use Rattle.spl_unit_laws.specs.Known.{Fixed, main_around}
 use Rattle.spl_unit_laws.specs.Steps.{routine_around}
 use Rattle.spl_unit_laws.specs.Units.{fixed_for, whole_level}
-use Rattle.spl_unit_laws.proofs.InnerParts.{Seen, AllRoomy, inner_made}
+use Rattle.spl_unit_laws.proofs.InnerParts.{Seen, AllRoomy}
 use Rattle.spl_unit_laws.proofs.RoutineParts.{RoutineSeen, routine_made}
 
 -- ---- lists

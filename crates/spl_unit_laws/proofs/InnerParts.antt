@@ -1,23 +1,21 @@
 -- Subroutines that were appended one behind the other are the subroutines of their body.
-use Rattle.std.proofs.Common.{◌≡◌, ℕ, suc, ◌+◌, List, [], ◌∷◌, ◌++◌, refl, sym, ap, subst, ◌∙◌, add-one, arith}
+use Rattle.std.proofs.Common.{◌≡◌, ℕ, suc, ◌+◌, List, [], ◌∷◌, refl, sym, subst, add-one, arith}
 use Rattle.spl_sound_labels.specs.spl_tree.DeclarationTrees as decl
-use Rattle.spl_sound_labels.specs.spl_tree.DeclarationTrees.{Heading, Declaration, Declarations}
-use Rattle.spl_sound_labels.specs.spl_tree.StatementTrees as stat
+use Rattle.spl_sound_labels.specs.spl_tree.DeclarationTrees.{Declaration, Declarations}
 use Rattle.spl_sound_labels.specs.spl_tree.StatementTrees.{statements}
 use Rattle.spl_sound_labels.specs.spl_meaning.Stops.{declaration_stops}
 use Rattle.spl_sound_labels.specs.spl_meaning.Names.{formals_of}
 use Rattle.spl_sound_labels.specs.spl_meaning.Pending.{formals_words}
-use Rattle.spl_sound_labels.specs.spl_meaning.Tables.{Subroutine, subroutine_in, subroutines_among}
+use Rattle.spl_sound_labels.specs.spl_meaning.Tables.{Subroutine, subroutines_among}
 use Rattle.spl_sound_labels.specs.spl_meaning.Bodies.{Body, subroutine_body}
 use Rattle.spl_sound_labels.specs.spl_places.Programs.{Each}
 use Rattle.spl_gen_routines.specs.spl_rooms.declared.room_type.Room.{Room}
 use Rattle.spl_gen_routines.specs.spl_branch.declared.buffer.Code.{Code}
-use Rattle.spl_gen_routines.specs.spl_code.Parts.{Part, ◌⨟◌}
 use Rattle.spl_gen_routines.specs.spl_code.Calls.{Scope}
 use Rattle.spl_gen_routines.specs.spl_scopes.Entries.{Owner, Entry}
 use Rattle.spl_gen_routines.specs.spl_statement_scopes.Scopes.{StatesInner, StatesMainInner}
 use Rattle.spl_gen_routines.specs.spl_landings.Bodies.{statements_part}
-use Rattle.spl_unit_codes.specs.spl_module_code.Bodies.{statements_scope, body_statements, subroutine_part, subroutine_parts}
+use Rattle.spl_unit_codes.specs.spl_module_code.Bodies.{statements_scope, subroutine_part, subroutine_parts}
 use Rattle.spl_gen_routines.specs.Generates.{Generates, GeneratesFrom}
 use Rattle.spl_gen_routines.specs.Scoped.{subroutine_with}
 use Rattle.spl_gen_routines.specs.Routines.{Around, inner_count, inners_among, room_at, inner_first, InnerStands, InnerStep, InnersStand}

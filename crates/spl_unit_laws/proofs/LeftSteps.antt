@@ -1,5 +1,5 @@
 -- What a unit has left of its declarations behind one of them, in a form whose parts are seen.
-use Rattle.std.proofs.Common.{ℕ, suc, ◌≡◌, ◌+◌, add-zero, add_assoc, true, false, None, List, [], ◌∷◌, ◌++◌, map, drop, refl, sym, ap, subst, ◌∙◌}
+use Rattle.std.proofs.Common.{ℕ, suc, ◌≡◌, ◌+◌, add-zero, add_assoc, true, false, None, List, [], ◌∷◌, ◌++◌, drop, refl, sym, ap, subst, ◌∙◌}
 use Rattle.spl_sound_labels.specs.spl_tree.DeclarationTrees as decl
 use Rattle.spl_sound_labels.specs.spl_tree.DeclarationTrees.{Heading, Declaration, Declarations, declarations}
 use Rattle.spl_sound_labels.specs.spl_tree.StatementTrees as stat

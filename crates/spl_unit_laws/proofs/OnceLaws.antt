@@ -1,5 +1,5 @@
 -- Where no label stands twice in the bodies of units, none does in those of a unit's declarations.
-use Rattle.std.proofs.Common.{◌≡◌, ℕ, ◌+◌, List, [], ◌∷◌, ◌++◌}
+use Rattle.std.proofs.Common.{ℕ, ◌+◌, List, [], ◌∷◌, ◌++◌}
 use Rattle.spl_sound_labels.specs.spl_tree.DeclarationTrees as decl
 use Rattle.spl_sound_labels.specs.spl_tree.DeclarationTrees.{Declaration, Declarations, declarations}
 use Rattle.spl_sound_labels.specs.spl_meaning.Stops.{declaration_stops}
@@ -8,7 +8,7 @@ use Rattle.spl_sound_labels.specs.spl_meaning.Tables.{Source, routine_in, routin
 use Rattle.spl_sound_labels.specs.spl_meaning.Bodies.{all_routines}
 use Rattle.spl_sound_labels.specs.spl_places.Programs.{Each}
 use Rattle.spl_gen_routines.proofs.spl_body_scopes_proofs.ScopeLaws.{each_second}
-use Rattle.spl_sound_labels.specs.Labels.{LabelsOnceInSubroutine, LabelsOnceInRoutine, LabelsOnceInUnit, LabelsOnceInAll}
+use Rattle.spl_sound_labels.specs.Labels.{LabelsOnceInSubroutine, LabelsOnceInRoutine, LabelsOnceInAll}
 use Rattle.spl_gen_routines.specs.Routines.{OnceIn, OnceAmong}
 use Rattle.spl_unit_laws.specs.Steps.{OnceInUnit, OnceInAll}
 use Rattle.spl_unit_laws.specs.Units.{OnceInBodies}

@@ -1,5 +1,5 @@
 -- Modules that are taken out along names of segments are those of their unit.
-use Rattle.std.proofs.Common.{◌≡◌, ◌<◌, ◌≤◌, ℕ, zero, suc, ◌+◌, Bool, true, false, if◌then◌else◌, nat_eq, not, ◌&&◌, ◌||◌, List, [], ◌∷◌, ◌++◌, length, set, get_or, Option, Some, None, refl, sym, ap, subst, ◌∙◌, add-zero, arith}
+use Rattle.std.proofs.Common.{◌≡◌, ◌<◌, ℕ, zero, suc, ◌+◌, Bool, true, false, if◌then◌else◌, nat_eq, not, ◌&&◌, ◌||◌, List, [], ◌∷◌, ◌++◌, length, set, get_or, Option, Some, None, refl, sym, ap, subst, ◌∙◌, add-zero, arith}
 use Rattle.std.specs.List.{slice_get}
 use Rattle.std.proofs.lemmas.Bool.{and_parts, eqb-true, eqb-false, ne_eqb}
 use Rattle.std.proofs.lemmas.Option.{slice_get_within, slice_get-get_or}
@@ -11,7 +11,7 @@ use Rattle.spl_gen_routines.specs.spl_scopes.Scopes.{Placed}
 use Rattle.spl_unit_codes.specs.spl_module_code.Modules.{uses, is_taken, next_number, numbered, IsCodeOf, IsModuleOf, AreOfUnit}
 use Rattle.spl_unit_codes.specs.spl_module_code.Modules.{AreOfUnit as o}
 use Rattle.spl_unit_codes.specs.declared.growing.Growing.{Growing}
-use Rattle.spl_unit_codes.specs.Slots.{is_used, IsFinish, IsSlot, AreSlots, TakenAt, Taken, Picked}
+use Rattle.spl_unit_codes.specs.Slots.{IsFinish, IsSlot, AreSlots, TakenAt, Taken, Picked}
 use Rattle.spl_unit_codes.specs.Slots.{TakenAt as t}
 use Rattle.spl_unit_codes.specs.Slots.{Picked as k}
 use Rattle.spl_unit_laws.proofs.UnitWalks.{some_inside}

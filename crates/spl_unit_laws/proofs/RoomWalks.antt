@@ -1,16 +1,15 @@
 -- The rooms of a program along its units and declarations: those of the procedures that are left come first, and those of the main body's
 -- subroutines that are left at a place of their own.
-use Rattle.std.proofs.Common.{◌≡◌, ℕ, zero, suc, ◌+◌, Bool, true, false, List, [], ◌∷◌, ◌++◌, map, drop, length, Option, Some, None, refl, sym, ap, subst, ◌∙◌, append_assoc, add-one, arith}
+use Rattle.std.proofs.Common.{◌≡◌, ℕ, suc, ◌+◌, Bool, true, false, List, [], ◌∷◌, ◌++◌, map, drop, length, Option, refl, sym, ap, ◌∙◌, append_assoc, add-one, arith}
 use Rattle.std.specs.Prelude.{if◌then◌else◌, unwrap_or}
-use Rattle.std.specs.List.{slice_get}
-use Rattle.std.proofs.lemmas.List.{length-append, length-map, map-append}
+use Rattle.std.proofs.lemmas.List.{length-append, length-map}
 use Rattle.spl_sound_labels.specs.spl_tree.DeclarationTrees as decl
-use Rattle.spl_sound_labels.specs.spl_tree.DeclarationTrees.{Heading, Declaration, Declarations, declarations}
+use Rattle.spl_sound_labels.specs.spl_tree.DeclarationTrees.{Declaration, Declarations, declarations}
 use Rattle.spl_sound_labels.specs.spl_meaning.Stops.{declaration_stops}
-use Rattle.spl_sound_labels.specs.spl_meaning.Names.{Names, Sort, Table, find, nothing_declared}
+use Rattle.spl_sound_labels.specs.spl_meaning.Names.{Sort, Table, find, nothing_declared}
 use Rattle.spl_sound_labels.specs.spl_meaning.Tables.{Source, Routine, Subroutine, routine_in, routines_among, routines_of, routine_names, routine_subroutines, subroutine_in, subroutines_among, unit_subroutines, unit_table, with_declaration}
 use Rattle.spl_sound_labels.specs.spl_meaning.Limits.{joined}
-use Rattle.spl_sound_labels.specs.spl_meaning.Bodies.{Body, subroutine_body}
+use Rattle.spl_sound_labels.specs.spl_meaning.Bodies.{Body}
 use Rattle.spl_gen_routines.specs.spl_rooms.declared.room_type.Room.{Room}
 use Rattle.spl_gen_routines.specs.spl_rooms.Rooms.{room_within, routine_room, main_room, rooms_in}
 use Rattle.spl_gen_routines.specs.spl_rooms.Rooms as r

@@ -1,16 +1,14 @@
 -- A procedure that was appended behind its subroutines, and a main body, are those of their unit.
-use Rattle.std.proofs.Common.{◌≡◌, ℕ, suc, ◌+◌, List, None, refl, sym, ap, subst, ◌∙◌, add-one}
+use Rattle.std.proofs.Common.{◌≡◌, ℕ, suc, ◌+◌, List, None, sym, subst, add-one}
 use Rattle.spl_sound_labels.specs.spl_tree.DeclarationTrees.{Heading, Declarations}
 use Rattle.spl_sound_labels.specs.spl_tree.StatementTrees.{Statement, statements}
-use Rattle.spl_sound_labels.specs.spl_meaning.Names.{Names, Table, formals_of}
+use Rattle.spl_sound_labels.specs.spl_meaning.Names.{Names, formals_of}
 use Rattle.spl_sound_labels.specs.spl_meaning.Pending.{formals_words}
-use Rattle.spl_sound_labels.specs.spl_meaning.Places.{Place}
 use Rattle.spl_sound_labels.specs.spl_meaning.Tables.{subroutines_among}
-use Rattle.spl_sound_labels.specs.spl_meaning.Bodies.{Body, Named, procedure_body}
+use Rattle.spl_sound_labels.specs.spl_meaning.Bodies.{Body, Named}
 use Rattle.spl_sound_labels.specs.spl_places.Programs.{Each}
 use Rattle.spl_gen_routines.specs.spl_rooms.declared.room_type.Room.{Room}
 use Rattle.spl_gen_routines.specs.spl_branch.declared.buffer.Code.{Code}
-use Rattle.spl_gen_routines.specs.spl_code.Parts.{Part}
 use Rattle.spl_gen_routines.specs.spl_code.Calls.{Scope}
 use Rattle.spl_gen_routines.specs.spl_body_code.Bodies.{Frame, frame_of, procedure_code}
 use Rattle.spl_gen_routines.specs.spl_scopes.Entries.{Owner, main, routine, Entry}
@@ -24,7 +22,7 @@ use Rattle.spl_unit_codes.specs.spl_module_code.Bodies.{statements_scope, body_s
 use Rattle.spl_gen_routines.specs.Generates.{Generates, GeneratesFrom}
 use Rattle.spl_gen_routines.specs.Scoped.{procedure_with, main_with}
 use Rattle.spl_gen_routines.specs.Routines.{Around, inners_among, room_at, FrameFits, ProcedureStands, RoutineStands, MainBodyStands}
-use Rattle.spl_gen_routines.proofs.OpenMarks.{one_generated, over_generated}
+use Rattle.spl_gen_routines.proofs.OpenMarks.{over_generated}
 use Rattle.spl_unit_laws.proofs.InnerParts.{Seen, AllRoomy, inners_made}
 
 -- the scope that a procedure's statements see through its levels is that of its body

@@ -1,21 +1,19 @@
 -- Behind its main body the code of each segment is that of its module.
-use Rattle.std.proofs.Common.{◌≡◌, ◌<◌, ℕ, zero, suc, ◌+◌, Bool, true, false, if◌then◌else◌, nat_eq, nat_lt, not, ◌&&◌, ◌||◌, List, [], ◌∷◌, ◌++◌, map, drop, length, get_or, replicate, Option, Some, None, refl, sym, ap, subst, ◌∙◌, append_assoc, append-nil, arith}
+use Rattle.std.proofs.Common.{◌≡◌, ◌<◌, ℕ, zero, suc, ◌+◌, Bool, true, false, if◌then◌else◌, nat_eq, nat_lt, not, ◌&&◌, ◌||◌, List, [], ◌∷◌, ◌++◌, length, get_or, replicate, Option, Some, None, refl, sym, ap, subst, ◌∙◌, append-nil, arith}
 use Rattle.std.specs.List.{slice_get}
 use Rattle.std.specs.Prelude.{is_some}
 use Rattle.std.proofs.lemmas.Bool.{eqb-true, lt-ltb}
 use Rattle.std.proofs.lemmas.Option.{slice_get_within, slice_get-get_or}
-use Rattle.std.proofs.lemmas.List.{length-append, length-map, length-replicate, replicate-append-replicate}
+use Rattle.std.proofs.lemmas.List.{length-map, length-replicate, replicate-append-replicate}
 use Rattle.spl_sound_labels.specs.spl_tree.DeclarationTrees as decl
 use Rattle.spl_sound_labels.specs.spl_tree.DeclarationTrees.{declarations}
-use Rattle.spl_sound_labels.specs.spl_tree.StatementTrees.{Statement}
-use Rattle.spl_sound_labels.specs.spl_meaning.Tables.{Source}
 use Rattle.spl_sound_labels.specs.spl_meaning.Bodies.{Body, main_body}
 use Rattle.spl_gen_routines.specs.spl_rooms.declared.room_type.Room.{Room}
 use Rattle.spl_gen_routines.specs.spl_rooms.Rooms.{main_room}
 use Rattle.spl_gen_routines.specs.spl_branch.declared.buffer.Code.{Code}
 use Rattle.spl_gen_routines.specs.spl_code.Parts.{Part, Written, nothing, wants_of}
 use Rattle.spl_gen_routines.specs.spl_code.Appends as appended
-use Rattle.spl_gen_routines.specs.spl_scopes.Entries.{Entry, main, module_entries, in_segment, entries_among}
+use Rattle.spl_gen_routines.specs.spl_scopes.Entries.{Entry, main, module_entries}
 use Rattle.spl_gen_routines.specs.spl_scopes.Scopes.{Placed, outer_body, global_places}
 use Rattle.spl_unit_codes.specs.spl_modules.Made.{made_of, made_from}
 use Rattle.spl_unit_codes.specs.spl_modules.Entered.{Walk}
@@ -23,19 +21,18 @@ use Rattle.spl_unit_codes.specs.spl_modules.UnitModules.{IsUnitModules}
 use Rattle.spl_gen_routines.specs.spl_body_scopes.Walks.{State}
 use Rattle.spl_gen_routines.proofs.spl_body_scopes_proofs.ScopeLaws.{main_there}
 use Rattle.spl_unit_codes.specs.spl_module_code.Bodies.{main_part}
-use Rattle.spl_unit_codes.specs.spl_module_code.Modules.{holds_main, main_at, module_part, module_written, marks_before, main_mark, IsCodeOf, uses}
+use Rattle.spl_unit_codes.specs.spl_module_code.Modules.{holds_main, main_at, module_part, module_written, marks_before, IsCodeOf, uses}
 use Rattle.spl_gen_routines.specs.Generates.{Generates, GeneratesFrom}
 use Rattle.spl_gen_routines.specs.Routines.{room_at}
 use Rattle.spl_gen_routines.proofs.OpenMarks.{one_generated}
 use Rattle.spl_unit_codes.specs.declared.growing.Growing.{Growing}
-use Rattle.spl_unit_laws.specs.Known.{Fixed}
-use Rattle.spl_unit_laws.specs.Steps.{Grows, IsOpen, AreFree, main_count}
+use Rattle.spl_unit_laws.specs.Steps.{IsOpen, AreFree, main_count}
 use Rattle.spl_unit_codes.specs.Begun.{IsBegun, AreBegun, has_main}
 use Rattle.spl_unit_codes.specs.Slots.{is_used}
-use Rattle.spl_unit_laws.specs.Units.{MainGrows, MainStep}
+use Rattle.spl_unit_laws.specs.Units.{MainStep}
 use Rattle.spl_unit_laws.proofs.RoutineParts.{main_made}
 use Rattle.spl_unit_laws.proofs.Declared.{fixed_in, AllBehind, main_seen}
-use Rattle.spl_unit_laws.proofs.Reaches.{main_or_nothing, left_part, module_left, IsFrame, frame_kept, Makes, Reaches, makes_next}
+use Rattle.spl_unit_laws.proofs.Reaches.{main_or_nothing, left_part, module_left, IsFrame, frame_kept, Makes, Reaches}
 use Rattle.spl_unit_laws.proofs.UnitWalks.{AllReach, some_inside}
 
 -- ---- marks that are all set

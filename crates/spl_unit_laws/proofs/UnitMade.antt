@@ -1,5 +1,5 @@
 -- The modules of a unit, and of units in order.
-use Rattle.std.proofs.Common.{◌≡◌, ℕ, suc, ◌+◌, Bool, true, false, List, [], ◌∷◌, ◌++◌, map, drop, length, Some, refl, sym, ap, subst, ◌∙◌}
+use Rattle.std.proofs.Common.{◌≡◌, ℕ, suc, ◌+◌, false, List, [], ◌∷◌, ◌++◌, map, drop, length, Some, refl, sym, ap, subst, ◌∙◌}
 use Rattle.std.specs.List.{slice_get}
 use Rattle.spl_sound_labels.specs.spl_tree.DeclarationTrees as decl
 use Rattle.spl_sound_labels.specs.spl_tree.DeclarationTrees.{declarations}
@@ -11,17 +11,16 @@ use Rattle.spl_sound_labels.specs.spl_places.Counters.{total_words}
 use Rattle.spl_sound_labels.specs.spl_places.Programs.{Each, NewInUnit, NewInRoutine, unit_items}
 use Rattle.spl_sound_labels.specs.spl_meaning.Bodies.{all_routines, reached_behind}
 use Rattle.spl_gen_routines.specs.spl_rooms.declared.room_type.Room.{Room}
-use Rattle.spl_gen_routines.specs.spl_rooms.Rooms.{room_within, main_room, rooms_in}
+use Rattle.spl_gen_routines.specs.spl_rooms.Rooms.{room_within, rooms_in}
 use Rattle.spl_gen_routines.specs.spl_branch.declared.modules.Module.{Module}
-use Rattle.spl_gen_routines.specs.spl_scopes.Scopes.{Placed, unit_at, placed_units}
+use Rattle.spl_gen_routines.specs.spl_scopes.Scopes.{Placed, placed_units}
 use Rattle.spl_unit_codes.specs.spl_modules.Entered.{Walk}
 use Rattle.spl_unit_codes.specs.spl_modules.UnitModules.{IsUnitModules}
 use Rattle.spl_gen_routines.specs.spl_body_scopes.Walks.{State, Left, first_state}
 use Rattle.spl_gen_routines.specs.spl_body_scopes.Levels.{unit_level}
 use Rattle.spl_gen_routines.specs.spl_body_scopes.Units.{UnitsLeft}
-use Rattle.spl_gen_routines.proofs.spl_body_scopes_proofs.UnitLaws.{units_enter}
 use Rattle.spl_unit_laws.proofs.LeftSteps.{left_first, units_behind, first_of}
-use Rattle.spl_unit_codes.specs.spl_module_code.Modules.{numbered, AreOfUnit, AreOf}
+use Rattle.spl_unit_codes.specs.spl_module_code.Modules.{AreOfUnit, AreOf}
 use Rattle.spl_unit_codes.specs.spl_module_code.Modules.{AreOf as o}
 use Rattle.spl_gen_routines.specs.Routines.{room_at}
 use Rattle.spl_unit_codes.specs.declared.growing.Growing.{Growing}

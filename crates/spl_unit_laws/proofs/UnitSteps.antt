@@ -1,45 +1,38 @@
 -- Along the declarations of a unit the code of each segment reaches that of its module, but for the main body.
-use Rattle.std.proofs.Common.{◌≡◌, ◌<◌, ◌≤◌, ℕ, suc, ◌+◌, Bool, true, false, if◌then◌else◌, nat_eq, List, [], ◌∷◌, ◌++◌, map, drop, length, Option, Some, None, refl, sym, ap, subst, ◌∙◌, append_assoc, add-one, arith}
+use Rattle.std.proofs.Common.{◌≡◌, ℕ, suc, ◌+◌, Bool, true, false, if◌then◌else◌, nat_eq, List, [], ◌∷◌, ◌++◌, map, drop, length, Option, Some, refl, sym, ap, subst, ◌∙◌, append_assoc, arith}
 use Rattle.std.specs.List.{slice_get}
-use Rattle.std.specs.Prelude.{unwrap_or}
 use Rattle.std.proofs.lemmas.Bool.{eqb-true}
-use Rattle.std.proofs.lemmas.Option.{slice_get_within, slice_get-get_or}
 use Rattle.spl_sound_labels.specs.spl_tree.DeclarationTrees as decl
-use Rattle.spl_sound_labels.specs.spl_tree.DeclarationTrees.{Heading, Declaration, Declarations, declarations}
+use Rattle.spl_sound_labels.specs.spl_tree.DeclarationTrees.{Heading, Declaration, Declarations}
 use Rattle.spl_sound_labels.specs.spl_tree.StatementTrees as stat
 use Rattle.spl_sound_labels.specs.spl_meaning.Stops.{declaration_stops}
-use Rattle.spl_sound_labels.specs.spl_meaning.Names.{Names, Sort, Table, find, nothing_declared}
+use Rattle.spl_sound_labels.specs.spl_meaning.Names.{find, nothing_declared}
 use Rattle.spl_sound_labels.specs.spl_meaning.Tables.{Routine, Subroutine, routines_among, routines_of, routine_table, routine_subroutines, subroutines_among, unit_subroutines, unit_table, with_declaration}
 use Rattle.spl_sound_labels.specs.spl_meaning.Places.{list_array_words, sum}
 use Rattle.spl_sound_labels.specs.spl_meaning.Limits.{joined}
 use Rattle.spl_sound_labels.specs.spl_meaning.Bodies.{Body, Named, main_body}
-use Rattle.spl_sound_labels.specs.spl_places.Counters.{total_words}
-use Rattle.spl_gen_routines.specs.spl_areas.Gathered.{items_in}
 use Rattle.spl_gen_routines.specs.spl_rooms.declared.room_type.Room.{Room}
 use Rattle.spl_gen_routines.specs.spl_rooms.Rooms as r
-use Rattle.spl_gen_routines.specs.spl_rooms.Rooms.{room_within, routine_room}
+use Rattle.spl_gen_routines.specs.spl_rooms.Rooms.{room_within}
 use Rattle.spl_gen_routines.specs.spl_code.Parts.{Part, nothing}
 use Rattle.spl_gen_routines.specs.spl_scopes.Entries as callee
-use Rattle.spl_gen_routines.specs.spl_scopes.Entries.{Owner, main, routine, Entry, module_entries, in_segment, inner_entry, inner_entries, declared_entries, entries_among, routines_behind}
+use Rattle.spl_gen_routines.specs.spl_scopes.Entries.{Owner, main, routine, Entry, module_entries, in_segment, inner_entry, inner_entries, declared_entries}
 use Rattle.spl_gen_routines.specs.spl_scopes.Scopes.{Placed, outer_body, global_places, routine_bodies}
 use Rattle.spl_unit_codes.specs.spl_modules.Entered.{Walk}
 use Rattle.spl_unit_codes.specs.spl_modules.UnitModules.{IsUnitModules}
 use Rattle.spl_gen_routines.specs.spl_body_scopes.Walks.{State, Left, behind, globals_in}
-use Rattle.spl_gen_routines.proofs.spl_body_scopes_proofs.ScopeLaws.{goes_on, made, body_next, body_left, drop_more, first_at, main_there}
+use Rattle.spl_gen_routines.proofs.spl_body_scopes_proofs.ScopeLaws.{made, body_next, body_left, first_at, main_there}
 use Rattle.spl_unit_codes.specs.spl_module_code.Bodies.{routine_part, subroutine_part}
-use Rattle.spl_unit_codes.specs.spl_module_code.Modules.{declared_part, routine_at, inner_at, inner_with, inner_behind}
+use Rattle.spl_unit_codes.specs.spl_module_code.Modules.{declared_part, routine_at, inner_at, inner_with}
 use Rattle.spl_gen_routines.specs.Generates.{GeneratesFrom}
 use Rattle.spl_gen_routines.specs.Routines.{inner_count, inners_among, room_at}
 use Rattle.spl_gen_routines.proofs.OpenMarks.{one_generated, none_generated}
 use Rattle.spl_unit_codes.specs.declared.growing.Growing.{Growing}
-use Rattle.spl_unit_laws.specs.declared.cursors.Cursor.{Cursor}
-use Rattle.spl_unit_laws.specs.Known.{Fixed, Known}
-use Rattle.spl_unit_laws.specs.Steps.{Grows, RoutineGrows, InnerGrows, Step, Steps, PartsStep}
-use Rattle.spl_unit_laws.specs.Units.{fixed_for}
+use Rattle.spl_unit_laws.specs.Steps.{Grows, RoutineGrows, InnerGrows}
 use Rattle.spl_unit_laws.proofs.InnerParts.{inner_made}
 use Rattle.spl_unit_laws.proofs.Declared.{fixed_in, routine_declared, AllBehind, main_inner_seen}
-use Rattle.spl_unit_laws.proofs.RoomWalks.{roomy, room_first, routine_first, inners_are}
-use Rattle.spl_unit_laws.proofs.Reaches.{Reaches, reaches_next, in_both}
+use Rattle.spl_unit_laws.proofs.RoomWalks.{roomy, room_first, routine_first}
+use Rattle.spl_unit_laws.proofs.Reaches.{in_both}
 
 -- ---- entries of one segment
 

@@ -1,11 +1,10 @@
 -- All declarations of a unit: the code of each segment reaches that of its module, but for the main body.
-use Rattle.std.proofs.Common.{◌≡◌, ◌<◌, ℕ, zero, suc, ◌+◌, Bool, true, false, List, [], ◌∷◌, ◌++◌, map, drop, length, get_or, Option, Some, None, refl, sym, ap, subst, ◌∙◌, append_assoc, add-zero, add_assoc, add-one, arith}
+use Rattle.std.proofs.Common.{◌≡◌, ◌<◌, ℕ, zero, suc, ◌+◌, Bool, true, false, List, [], ◌∷◌, ◌++◌, map, drop, length, get_or, Some, refl, sym, ap, subst, ◌∙◌, append_assoc, add-zero, add_assoc, add-one, arith}
 use Rattle.std.specs.List.{slice_get}
 use Rattle.std.specs.Prelude.{unwrap_or}
 use Rattle.std.proofs.lemmas.Option.{slice_get_within, slice_get-get_or}
 use Rattle.spl_sound_labels.specs.spl_tree.DeclarationTrees as decl
-use Rattle.spl_sound_labels.specs.spl_tree.DeclarationTrees.{Heading, Declaration, Declarations, declarations}
-use Rattle.spl_sound_labels.specs.spl_tree.StatementTrees as stat
+use Rattle.spl_sound_labels.specs.spl_tree.DeclarationTrees.{Declaration, Declarations, declarations}
 use Rattle.spl_sound_labels.specs.spl_meaning.Stops.{declaration_stops}
 use Rattle.spl_sound_labels.specs.spl_meaning.Names.{Names, find, nothing_declared}
 use Rattle.spl_sound_labels.specs.spl_meaning.Tables.{Routine, Subroutine, routines_among, routines_of, routine_table, subroutines_among, unit_subroutines, unit_table, with_declaration}
@@ -32,10 +31,10 @@ use Rattle.spl_gen_routines.specs.Routines.{inners_among}
 use Rattle.spl_unit_codes.specs.declared.growing.Growing.{Growing}
 use Rattle.spl_unit_laws.specs.declared.cursors.Cursor.{Cursor}
 use Rattle.spl_unit_laws.specs.Known.{Known}
-use Rattle.spl_unit_laws.specs.Steps.{Step, Steps, PartsStep, level_behind}
+use Rattle.spl_unit_laws.specs.Steps.{Step, Steps, PartsStep}
 use Rattle.spl_unit_laws.specs.Steps.{Steps as t}
 use Rattle.spl_unit_laws.proofs.Declared.{fixed_in, AllBehind}
-use Rattle.spl_unit_laws.proofs.RoomWalks.{routine_first, drop_part}
+use Rattle.spl_unit_laws.proofs.RoomWalks.{routine_first}
 use Rattle.spl_unit_laws.proofs.Reaches.{Reaches, reaches_next}
 use Rattle.spl_unit_laws.proofs.UnitSteps.{Grown, unchanged, routines_arrays, Along, routine_grown, inner_grown}
 

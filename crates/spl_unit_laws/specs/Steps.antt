@@ -1,5 +1,5 @@
 -- What a declaration adds to the code of a unit.
-use Rattle.std.specs.Prelude.{◌≡◌, ℕ, suc, ◌+◌, Bool, true, false, nat_eq, if◌then◌else◌, List, [], ◌∷◌, ◌++◌, length, replicate, Option, Some, None}
+use Rattle.std.specs.Prelude.{◌≡◌, ℕ, ◌+◌, Bool, true, false, nat_eq, if◌then◌else◌, List, [], ◌++◌, length, replicate, Some}
 use Rattle.std.specs.List.{slice_get}
 use Rattle.spl_sound_labels.specs.spl_tree.DeclarationTrees as decl
 use Rattle.spl_sound_labels.specs.spl_tree.DeclarationTrees.{Heading, Declaration, Declarations}

@@ -1,7 +1,6 @@
 -- The code of a unit from its beginning to its modules.
-use Rattle.std.specs.Prelude.{◌≡◌, ℕ, ◌+◌, ◌≤◌, ◌<◌, Bool, true, false, not, ◌&&◌, ◌||◌, nat_eq, nat_lt, if◌then◌else◌, List, [], ◌∷◌, ◌++◌, length, map, replicate, Option, Some, None, unwrap_or, is_some, slice_set}
+use Rattle.std.specs.Prelude.{◌≡◌, ℕ, ◌+◌, Bool, true, false, if◌then◌else◌, List, [], ◌∷◌, ◌++◌, Option, unwrap_or}
 use Rattle.std.specs.List.{slice_get}
-use Rattle.spl_sound_labels.specs.spl_tree.Views.{letters}
 use Rattle.spl_sound_labels.specs.spl_tree.DeclarationTrees as decl
 use Rattle.spl_sound_labels.specs.spl_tree.DeclarationTrees.{Declaration, Declarations, declarations}
 use Rattle.spl_sound_labels.specs.spl_tree.StatementTrees.{Statement, statements}
@@ -13,11 +12,8 @@ use Rattle.spl_gen_routines.specs.spl_found.OwnNames.{behind_declarations}
 use Rattle.spl_sound_labels.specs.spl_places.Counters.{total_words}
 use Rattle.spl_sound_labels.specs.spl_places.Programs.{unit_items}
 use Rattle.spl_gen_routines.specs.spl_rooms.declared.room_type.Room.{Room}
-use Rattle.spl_gen_routines.specs.spl_branch.declared.buffer.Code.{Code}
 use Rattle.spl_gen_routines.specs.spl_branch.declared.modules.Module.{Module}
-use Rattle.spl_gen_routines.specs.spl_branch.Modules.{Finished, Oversized}
-use Rattle.spl_unit_codes.specs.spl_modules.Made.{Made, made_of}
-use Rattle.spl_unit_codes.specs.spl_modules.Entered.{Walk, Indexes}
+use Rattle.spl_unit_codes.specs.spl_modules.Entered.{Walk}
 use Rattle.spl_unit_codes.specs.spl_modules.UnitModules.{IsUnitModules}
 use Rattle.spl_unit_codes.specs.spl_module_code.Modules.{numbered}
 use Rattle.spl_gen_routines.specs.spl_body_scopes.Levels.{Level, unit_level}

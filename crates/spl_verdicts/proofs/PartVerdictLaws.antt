@@ -1,6 +1,6 @@
 -- A list has at most one verdict as an expression or a condition, at one place; and in a list that ends what is read
 -- is it.
--- 1. what is known of the two readers              (explained to refuses)
+-- 1. what is known of the two readers              (explained to got_begins_none)
 -- 2. a part that stands before a token with which none begins is read to there   (same_tree)
 -- 3. of two verdicts neither place is before the other                (one_verdict)
 -- 4. each answer is a verdict                      (verdict_by)
@@ -14,7 +14,7 @@ use Rattle.spl_grammar.specs.Answers as an
 use Rattle.spl_grammar.specs.Answers.{Explains, Spelled, SpelledCondition, ChainsReach, Reaches, Agrees}
 use Rattle.spl_grammar.specs.Ends.{Ended}
 use Rattle.spl_grammar.proofs.LocalReaders as lr
-use Rattle.spl_grammar.proofs.LocalReaders.{Left, entire, cut, IsLocal, Like, end_of}
+use Rattle.spl_grammar.proofs.LocalReaders.{Left, IsLocal, Like, end_of}
 use Rattle.spl_grammar.proofs.LocalExpressions.{local_expression, local_condition}
 use Rattle.spl_grammar.proofs.NearReaders.{Near, deep}
 use Rattle.spl_grammar.proofs.SoundExpressions.{expression_explained, condition_explained}

@@ -1,21 +1,18 @@
 -- The entry of a main body: the word of its label is the offset at which it starts.
-use Rattle.std.proofs.Common.{◌≡◌, ℕ, ◌+◌, ◌-◌, ◌*◌, ◌<◌, ◌≤◌, Bool, List, [], ◌∷◌, ◌++◌, map, length, get_or, Option, Some, None, refl, sym, ap, ◌∙◌, arith, zero-add, add-zero}
-use Rattle.std.specs.Prelude.{slice_get, unwrap_or, if◌then◌else◌, is_some}
+use Rattle.std.proofs.Common.{◌≡◌, ℕ, ◌+◌, ◌-◌, ◌<◌, Bool, List, [], ◌∷◌, ◌++◌, map, length, get_or, Option, Some, None, refl, sym, ap, ◌∙◌, arith, zero-add, add-zero}
+use Rattle.std.specs.Prelude.{unwrap_or, if◌then◌else◌, is_some}
 use Rattle.std.proofs.lemmas.List.{length-append, length-map, get_or-map, get_or_append_left, get_or-append-add}
 use Rattle.spl_sites.specs.hp_instr.declared.labels.Label.{Label}
 use Rattle.spl_sites.specs.hp_instr.declared.labels.Label.TheVariants.{Local}
 use Rattle.spl_sites.specs.hp_instr.Labels.{label_bits}
-use Rattle.spl_sites.specs.hp_program.Programs.{words_of}
 use Rattle.spl_sites.specs.hp_program.Valid.{label_of}
-use Rattle.spl_sites.specs.spl_branch.declared.modules.Define.{Define}
 use Rattle.spl_sites.specs.spl_branch.declared.modules.Module.{Module}
 use Rattle.spl_sites.specs.mpe_segmenter.Names.{Part}
 use Rattle.spl_sites.specs.mpe_segmenter.Entries.{Own, own_of, main_of, owns, own_count, owned, Table, table_of}
 use Rattle.spl_sites.specs.mpe_segmenter.Segments.{own_label, wanted_label, labels_of}
 use Rattle.spl_sites.specs.mpe_segmenter.Counts.{entries_in, sizes}
-use Rattle.spl_sites.specs.mpe_segmenter.Programs.{tables_of, label_words, part_words, program_words}
-use Rattle.spl_sites.specs.mpe_segmenter.Sites.{no_entry, IsModule}
-use Rattle.spl_sites.specs.mpe_segmenter.Whole.{IsWhole}
+use Rattle.spl_sites.specs.mpe_segmenter.Programs.{tables_of, label_words, part_words}
+use Rattle.spl_sites.specs.mpe_segmenter.Sites.{no_entry}
 use Rattle.spl_sites.proofs.mpe_segmenter_proofs.EntryLemmas.{length-owns}
 use Rattle.spl_sites.proofs.mpe_segmenter_proofs.FitLemmas.{Fits, fits_at}
 use Rattle.spl_sites.proofs.mpe_segmenter_proofs.LayLemmas.{label_count}

@@ -1,17 +1,16 @@
 -- Where entries lead.
--- 1. an entry among those of its table, by its label                     (label_way, local_leads)
--- 2. own entries, and names that are wanted                              (own_at, wanted_leads)
+-- 1. an entry among those of its table, by its label                     (by_label, leads_somewhere, gate_way)
+-- 2. own entries, and names that are wanted                              (own_at, entry_within)
 -- 3. so the calls of a module                                            (define_leads, want_leads, calls_lead)
-use Rattle.std.proofs.Common.{◌≡◌, ℕ, ◌+◌, ◌<◌, ◌≤◌, ◌==◌, Bool, true, false, nat_lt, List, [], ◌∷◌, ◌++◌, map, length, get_or, slice_index, Option, Some, None, is_some, slice_get, refl, sym, ap, subst, ◌∙◌, inl, inr, arith}
+use Rattle.std.proofs.Common.{◌≡◌, ℕ, ◌+◌, ◌<◌, ◌≤◌, ◌==◌, Bool, true, false, nat_lt, List, [], ◌∷◌, ◌++◌, length, get_or, Option, Some, None, is_some, slice_get, refl, sym, ap, ◌∙◌, inl, inr, arith}
 use Rattle.std.specs.Prelude.{◌&&◌, ◌||◌, not, if◌then◌else◌, unwrap_or}
 use Rattle.std.specs.List.{list_all}
-use Rattle.std.proofs.lemmas.List.{length-append, length-map, get_or-map, get_or_append_left, get_or-append-add}
 use Rattle.std.proofs.lemmas.Bool.{and_parts, ltb-true, lt-ltb, le-ltb, ne_eqb, eqb-true}
 use Rattle.spl_sites.specs.hp_instr.declared.instruction.Instr.{Instr}
 use Rattle.spl_sites.specs.hp_instr.declared.instruction.Instr.TheVariants as i
 use Rattle.spl_sites.specs.hp_instr.declared.labels.Label.{Label}
 use Rattle.spl_sites.specs.hp_instr.declared.labels.Label.TheVariants.{Local, External, Bad}
-use Rattle.spl_sites.specs.hp_instr.Labels.{label, is_label}
+use Rattle.spl_sites.specs.hp_instr.Labels.{label}
 use Rattle.spl_sites.specs.hp_program.Programs.{words_of}
 use Rattle.spl_sites.specs.hp_program.Valid.{entries_of, label_of}
 use Rattle.spl_sites.specs.spl_branch.declared.pieces.Piece.{Piece}
@@ -22,13 +21,11 @@ use Rattle.spl_sites.specs.spl_branch.declared.modules.Module.{Module}
 use Rattle.spl_sites.specs.spl_branch.Pieces.{is_indexed}
 use Rattle.spl_sites.specs.spl_branch.Modules.{sites}
 use Rattle.spl_sites.specs.mpe_segmenter.Names.{Part}
-use Rattle.spl_sites.specs.mpe_segmenter.Entries.{Own, own_of, owns, called_at, Wanted, wanted_of, is_wanted, is_met, all_wants, want_at, Table, table_of, entry_of, entry_count, owned, home_from, gate_of}
-use Rattle.spl_sites.specs.mpe_segmenter.Segments.{own_label, wanted_label, home_label, labels_of}
+use Rattle.spl_sites.specs.mpe_segmenter.Entries.{Own, own_of, owns, called_at, Wanted, wanted_of, is_met, all_wants, want_at, table_of, entry_of, entry_count, owned, gate_of}
 use Rattle.spl_sites.specs.mpe_segmenter.Counts.{entries_in, sizes}
 use Rattle.spl_sites.specs.mpe_segmenter.Programs.{tables_of, part_words, program_words}
-use Rattle.spl_sites.specs.mpe_segmenter.Homes.{home_at}
-use Rattle.spl_sites.specs.mpe_segmenter.Whole.{is_resolved, IsWhole}
-use Rattle.spl_sites.specs.mpe_segmenter.Sites.{Site, Gate, label_at, local_site, label_site, site_of, no_entry, IsModule, module_entries, Links}
+use Rattle.spl_sites.specs.mpe_segmenter.Whole.{IsWhole}
+use Rattle.spl_sites.specs.mpe_segmenter.Sites.{Site, Gate, label_at, local_site, label_site, site_of, no_entry, IsModule, module_entries}
 use Rattle.spl_sites.proofs.mpe_segmenter_proofs.EntryLemmas.{length-owns}
 use Rattle.spl_sites.proofs.mpe_segmenter_proofs.HomeLemmas.{called_within}
 use Rattle.spl_sites.proofs.mpe_segmenter_proofs.FitLemmas.{fits_at}

@@ -1,5 +1,5 @@
 -- The laws of this crate.
-use Rattle.std.specs.Prelude.{◌≡◌, ◌+◌, ℕ, Bool, true, false, List, length, Some, slice_get}
+use Rattle.std.specs.Prelude.{◌≡◌, ◌+◌, ℕ, true, false, List, length, Some, slice_get}
 use Rattle.std.specs.List.{list_all}
 use Rattle.spl_sites.specs.spl_branch.declared.pieces.Piece.{Piece}
 use Rattle.spl_sites.specs.hp_program.Programs.{words_of}

@@ -1,7 +1,7 @@
 -- Where the calls of a module lead, by the tables of its program.
 use Rattle.std.specs.Prelude.{ℕ, ◌+◌, Bool, false, List, unwrap_or}
 use Rattle.spl_sites.specs.spl_follow.Spots.{Spot}
-use Rattle.spl_sites.specs.spl_follow.Doing.{Way, gate, body}
+use Rattle.spl_sites.specs.spl_follow.Doing.{Way, gate}
 use Rattle.spl_sites.specs.spl_follow.Standing.{Sites}
 use Rattle.spl_sites.specs.hp_leads.Words.{entry_way}
 

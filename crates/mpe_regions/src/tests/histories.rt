@@ -1,7 +1,7 @@
 //! A random history of calls, beside the same calls of a plain form.
 
 use crate::{Region, Regions};
-use std::alloc::{AllocError, Global};
+use std::alloc::AllocError;
 use std::process::Abort;
 use std::test::Fail;
 

@@ -1,5 +1,5 @@
 -- The points are those of the world that the monitor stands for.
-use Rattle.std.proofs.Common.{List, map, ap, ◌∙◌, sym, subst}
+use Rattle.std.proofs.Common.{List, map, ap, ◌∙◌}
 use Rattle.job_text.specs.Views.{text_value}
 use Rattle.job_report.specs.Reports.{reported}
 use Rattle.mpe_turns.specs.declared.session.Session.{Session}

@@ -1,5 +1,5 @@
 -- Turn by turn.
-use Rattle.std.proofs.Common.{◌≡◌, ◌+◌, ◌-◌, ◌*◌, ◌≤◌, Vec, Global, None, Some, sym, ap, subst, ◌∙◌, arith}
+use Rattle.std.proofs.Common.{◌≡◌, ◌+◌, ◌-◌, ◌*◌, ◌≤◌, Vec, Global, Some, sym, ap, subst, ◌∙◌, arith}
 use Rattle.job_report.specs.hp_program.declared.program.Program.{Program}
 use Rattle.mpe_turns.specs.mpe_overlay.Codes.{codes_of}
 use Rattle.mpe_turns.specs.mpe_worlds.Worlds.{World}

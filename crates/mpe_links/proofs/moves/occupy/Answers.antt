@@ -1,9 +1,6 @@
-use Rattle.std.proofs.Common.{◌≡◌, ◌≢◌, ℕ, List, [], ◌∷◌, ◌++◌, refl, sym, ap, subst, ◌∙◌, arith, false}
+use Rattle.std.proofs.Common.{◌∷◌, ◌++◌, ap, ◌∙◌}
 use Rattle.mpe_links.specs.declared.node.Node.{Node}
-use Rattle.mpe_links.specs.Lists.{times}
-use Rattle.mpe_links.specs.Nodes.{node_at}
-use Rattle.mpe_links.specs.Writes.{less_use, less_place, less_links}
-use Rattle.mpe_links.specs.Rings.{InUse, InPlace, AreFree}
+use Rattle.mpe_links.specs.Writes.{less_use, less_place}
 use Rattle.mpe_links.proofs.TableLemmas.{placed_still, used_still, free_still}
 use Rattle.mpe_links.proofs.moves.occupy.Goals as goal
 

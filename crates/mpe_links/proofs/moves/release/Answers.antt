@@ -1,10 +1,8 @@
-use Rattle.std.proofs.Common.{◌≡◌, ◌≢◌, ℕ, List, [], ◌∷◌, ◌++◌, refl, sym, ap, subst, ◌∙◌, arith, false}
+use Rattle.std.proofs.Common.{◌≡◌, ◌≢◌, ℕ, List, ◌∷◌, ◌++◌, refl, sym, ap, subst, ◌∙◌, arith, false}
 use Rattle.mpe_links.specs.declared.node.Node.{Node}
-use Rattle.mpe_links.specs.Lists.{times}
 use Rattle.mpe_links.specs.Nodes.{node_at}
 use Rattle.mpe_links.specs.Writes.{less_use, less_place, less_links}
 use Rattle.mpe_links.specs.Rings.{InUse, InPlace, AreFree}
-use Rattle.std.specs.Prelude.{slice_set}
 use Rattle.mpe_links.proofs.NodeLemmas.{node_there, node_other}
 use Rattle.mpe_links.proofs.TableLemmas.{placed_still, used_still, free_still, placed_apart, used_apart, pushed, apart_absent}
 use Rattle.mpe_links.proofs.moves.release.Goals as goal

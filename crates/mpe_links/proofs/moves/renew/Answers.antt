@@ -1,11 +1,5 @@
-use Rattle.std.proofs.Common.{◌≡◌, ◌≢◌, ℕ, List, [], ◌∷◌, ◌++◌, refl, sym, ap, subst, ◌∙◌, arith, false}
-use Rattle.mpe_links.specs.declared.node.Node.{Node}
-use Rattle.mpe_links.specs.Lists.{times}
-use Rattle.mpe_links.specs.Nodes.{node_at}
-use Rattle.mpe_links.specs.Writes.{less_use, less_place, less_links}
-use Rattle.mpe_links.specs.Rings.{InUse, InPlace, AreFree}
+use Rattle.std.proofs.Common.{◌≢◌, ◌++◌, ◌∙◌, arith}
 use Rattle.mpe_links.proofs.TableLemmas.{older_within, newer_within, newest_within, apart_absent}
-use Rattle.mpe_links.proofs.WayLaws.{times_append}
 use Rattle.mpe_links.proofs.TableLemmas.{less_counts}
 use Rattle.mpe_links.proofs.moves.renew.Goals as goal
 

@@ -1,5 +1,4 @@
-use Rattle.std.proofs.Common.{◌≡◌, ◌≢◌, ℕ, refl, arith}
-use Rattle.mpe_links.specs.Nodes.{node_at}
+use Rattle.std.proofs.Common.{◌≢◌, arith}
 use Rattle.mpe_links.proofs.RingLemmas.{use_linked, use_same_4}
 use Rattle.mpe_links.proofs.rings.link_last.Goals as goal
 

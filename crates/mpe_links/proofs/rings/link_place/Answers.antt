@@ -1,5 +1,4 @@
-use Rattle.std.proofs.Common.{◌≡◌, ◌≢◌, ℕ, refl, arith}
-use Rattle.mpe_links.specs.Nodes.{node_at}
+use Rattle.std.proofs.Common.{◌≢◌, arith}
 use Rattle.mpe_links.proofs.RingLemmas.{place_linked, place_same_4, free_linked}
 use Rattle.mpe_links.proofs.rings.link_place.Goals as goal
 

@@ -1,4 +1,4 @@
-use Rattle.std.proofs.Common.{◌≡◌, ◌≢◌, ℕ, refl, arith}
+use Rattle.std.proofs.Common.{◌≢◌, refl, arith}
 use Rattle.mpe_links.specs.Nodes.{node_at}
 use Rattle.mpe_links.proofs.RingLemmas.{place_unlinked, place_same, free_unlinked}
 use Rattle.mpe_links.proofs.rings.unlink_place.Goals as goal

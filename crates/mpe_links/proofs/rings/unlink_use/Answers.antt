@@ -1,4 +1,4 @@
-use Rattle.std.proofs.Common.{◌≡◌, ◌≢◌, ℕ, refl, arith}
+use Rattle.std.proofs.Common.{◌≢◌, refl, arith}
 use Rattle.mpe_links.specs.Nodes.{node_at}
 use Rattle.mpe_links.proofs.RingLemmas.{use_unlinked, use_same}
 use Rattle.mpe_links.proofs.rings.unlink_use.Goals as goal

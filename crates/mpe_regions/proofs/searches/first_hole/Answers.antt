@@ -1,4 +1,4 @@
-use Rattle.std.proofs.Common.{sym, ◌∙◌, arith, rules, length, ◌<◌, ◌+◌}
+use Rattle.std.proofs.Common.{sym, ◌∙◌, rules}
 use Rattle.mpe_links.specs.Nodes.{node_at}
 use Rattle.mpe_regions.proofs.SearchSteps.{hole_next, hole_here}
 use Rattle.mpe_regions.proofs.searches.first_hole.Goals as goal

@@ -1,10 +1,9 @@
 -- The first free node is filled, which touches no link, and then linked.
-use Rattle.std.proofs.Common.{◌≡◌, ◌≢◌, ◌∙◌, ◌<◌, ℕ, List, [], ◌∷◌, ◌++◌, length, ap, subst, sym, refl, arith, true, cond}
-use Rattle.std.specs.Prelude.{slice_set}
+use Rattle.std.proofs.Common.{◌≡◌, ◌≢◌, ◌∙◌, ℕ, List, ◌++◌, ap, subst, sym, refl, arith, true}
 use Rattle.mpe_links.specs.declared.node.Node.{Node}
 use Rattle.mpe_links.specs.Nodes.{node_at, right_of}
 use Rattle.mpe_links.specs.Writes.{less_links}
-use Rattle.mpe_links.specs.Rings.{InUse, InPlace, AreFree}
+use Rattle.mpe_links.specs.Rings.{AreFree}
 use Rattle.mpe_links.proofs.NodeLemmas.{node_there, node_other}
 use Rattle.mpe_links.proofs.RingLemmas.{ends}
 use Rattle.mpe_links.proofs.TableLemmas.{placed_still, used_still, free_still, popped}

@@ -1,4 +1,4 @@
-use Rattle.std.proofs.Common.{◌≡◌, ℕ, List, subst, sym, refl, arith, false}
+use Rattle.std.proofs.Common.{◌≡◌, List, subst, sym, refl, arith, false}
 use Rattle.mpe_links.specs.declared.node.Node.{Node}
 use Rattle.mpe_regions.specs.Fresh.{IsFresh}
 use Rattle.mpe_regions.proofs.FreshLemmas.{fresh_none, fresh_more}

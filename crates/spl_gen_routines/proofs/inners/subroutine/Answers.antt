@@ -1,7 +1,7 @@
 -- The first level has the parameters, and the results of both bodies.
-use Rattle.std.proofs.Common.{List, [], ◌∷◌, map, ap, subst, ◌∙◌}
+use Rattle.std.proofs.Common.{map, ap, subst, ◌∙◌}
 use Rattle.spl_tree.specs.Spells.{heading_tree}
-use Rattle.spl_tree.specs.StatementTrees.{Statement, statements}
+use Rattle.spl_tree.specs.StatementTrees.{statements}
 use Rattle.spl_tree.specs.Views as view
 use Rattle.spl_sorts.specs.spl_meaning.Names.{formals_of}
 use Rattle.spl_sorts.specs.spl_meaning.Pending.{formals_words}

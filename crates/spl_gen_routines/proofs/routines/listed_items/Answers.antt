@@ -1,5 +1,5 @@
 -- The names before the declarations are those of the heading's parameters.
-use Rattle.std.proofs.Common.{List, map, ap, ◌∙◌}
+use Rattle.std.proofs.Common.{map}
 use Rattle.spl_tree.specs.DeclarationTrees.{declarations}
 use Rattle.spl_tree.specs.Spells.{declaration, heading_tree}
 use Rattle.spl_sorts.specs.spl_meaning.Names.{find}

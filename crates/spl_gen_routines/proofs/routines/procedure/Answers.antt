@@ -16,7 +16,7 @@ use Rattle.spl_statement_scopes.specs.spl_places.Spots.{frame_starts}
 use Rattle.spl_statement_scopes.specs.spl_areas.Gathered.{items_under}
 use Rattle.spl_gen_body.proofs.spl_operations_proofs.PutLemmas.{ok_then}
 use Rattle.spl_gen_body.specs.spl_gen_expr.Scopes.{scope_of}
-use Rattle.spl_statement_scopes.specs.spl_body_scopes.Levels.{Level, level_of}
+use Rattle.spl_statement_scopes.specs.spl_body_scopes.Levels.{Level}
 use Rattle.spl_statement_scopes.specs.spl_body_scopes.Results.{result_of, results_through}
 use Rattle.spl_statement_scopes.specs.Levels.{with_results}
 use Rattle.spl_statement_scopes.specs.Scopes.{StatesRoutine}

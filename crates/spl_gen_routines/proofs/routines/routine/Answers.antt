@@ -9,7 +9,7 @@ use Rattle.spl_sorts.specs.Tables.{table_of}
 use Rattle.spl_statement_scopes.specs.spl_scopes.Scopes.{Results}
 use Rattle.spl_statement_scopes.specs.spl_body_scopes.Levels.{level_of}
 use Rattle.spl_statement_scopes.specs.spl_body_scopes.Found.{calls_in}
-use Rattle.spl_statement_scopes.specs.spl_body_scopes.Results.{result_of, routine_result}
+use Rattle.spl_statement_scopes.specs.spl_body_scopes.Results.{result_of}
 use Rattle.spl_gen_routines.specs.Generates.{AreOpen}
 use Rattle.spl_gen_routines.specs.Routines.{Around, inners_among}
 use Rattle.spl_gen_routines.specs.Views.{routine_around}

@@ -3,7 +3,7 @@ use Rattle.std.proofs.Common.{List, ◌++◌, map, ap, ◌∙◌}
 use Rattle.spl_tree.specs.DeclarationTrees.{declarations}
 use Rattle.spl_tree.specs.Spells.{declaration}
 use Rattle.spl_sound.specs.spl_meaning.Names as n
-use Rattle.spl_sound.specs.spl_meaning.Names.{Names, find, parameters, formals_of}
+use Rattle.spl_sound.specs.spl_meaning.Names.{Names, find, parameters}
 use Rattle.spl_sorts.specs.declared.profiles.Formal.{Formal}
 use Rattle.spl_sorts.specs.Profiles.{formal_of}
 use Rattle.spl_sorts.specs.Tables.{table_of}

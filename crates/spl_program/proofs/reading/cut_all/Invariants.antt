@@ -1,5 +1,5 @@
 -- The texts so far are cut into the lists so far.
-use Rattle.std.proofs.Common.{◌≡◌, length, map, take}
+use Rattle.std.proofs.Common.{map, take}
 use Rattle.spl_lexer.specs.TokenViews.{listed_of}
 use Rattle.spl_program.specs.Texts.{AreCut}
 use Rattle.spl_program.specs.Programs.{texts_of}

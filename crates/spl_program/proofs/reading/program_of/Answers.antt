@@ -1,5 +1,5 @@
 -- What the parts answer is what the texts come to.
-use Rattle.std.proofs.Common.{ap, map, subst, sym, List, Vec, Global}
+use Rattle.std.proofs.Common.{ap, map, subst, List, Vec, Global}
 use Rattle.spl_tree.specs.declared.units.SplUnit.{SplUnit}
 use Rattle.spl_tree.specs.declared.tokens.Lexed.{Lexed}
 use Rattle.spl_sound.specs.Spelled.{source_of}

@@ -1,5 +1,5 @@
 -- The tokens of the texts so far spell the units so far.
-use Rattle.std.proofs.Common.{◌≡◌, length, map, take}
+use Rattle.std.proofs.Common.{map, take}
 use Rattle.spl_lexer.specs.TokenViews.{listed_of}
 use Rattle.spl_sound.specs.Spelled.{source_of}
 use Rattle.spl_program.specs.Texts.{AreUnits}

@@ -1,6 +1,5 @@
-use Rattle.std.proofs.Common.{◌≡◌, ◌∷◌, [], ◌++◌, refl, ap, sym, ◌∙◌}
 use Rattle.job_gen.specs.Generated as generated
-use Rattle.job_gen.proofs.GrowthLemmas.{line_grows, lines_grow, bytes_grow, grows_then}
+use Rattle.job_gen.proofs.GrowthLemmas.{line_grows}
 use Rattle.job_gen.proofs.growing.Growing.first_procedure.Goals as goal
 
 -- the draws are made in the order in which they stand

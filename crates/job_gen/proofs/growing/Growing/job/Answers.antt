@@ -1,6 +1,6 @@
-use Rattle.std.proofs.Common.{◌≡◌, ◌∷◌, [], ◌++◌, refl, ap, sym, ◌∙◌}
+use Rattle.std.proofs.Common.{◌++◌}
 use Rattle.job_gen.specs.Generated as generated
-use Rattle.job_gen.proofs.GrowthLemmas.{line_grows, lines_grow, bytes_grow, grows_then}
+use Rattle.job_gen.proofs.GrowthLemmas.{line_grows, bytes_grow, grows_then}
 use Rattle.job_gen.proofs.growing.Growing.job.Goals as goal
 
 -- settings, programs, sessions and the end

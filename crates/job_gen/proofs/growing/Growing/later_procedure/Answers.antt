@@ -1,6 +1,6 @@
-use Rattle.std.proofs.Common.{ℕ, List, Vec, Global, ◌≡◌, ◌∷◌, [], ◌++◌, refl, ap, sym, ◌∙◌}
+use Rattle.std.proofs.Common.{ℕ, List, Vec, Global, ◌++◌, ap, ◌∙◌}
 use Rattle.job_gen.specs.Generated as generated
-use Rattle.job_gen.proofs.GrowthLemmas.{line_grows, lines_grow, bytes_grow, later_told}
+use Rattle.job_gen.proofs.GrowthLemmas.{line_grows, later_told}
 use Rattle.job_gen.specs.Draws.{next, drawn}
 use Rattle.job_gen.proofs.growing.Growing.later_procedure.Goals as goal
 

@@ -1,6 +1,6 @@
-use Rattle.std.proofs.Common.{◌≡◌, subst, List, ℕ, ◌∷◌, [], ◌++◌, refl, ap, sym, ◌∙◌}
+use Rattle.std.proofs.Common.{subst, List, ◌∷◌, [], sym}
 use Rattle.job_gen.specs.Generated as generated
-use Rattle.job_gen.proofs.GrowthLemmas.{line_grows, lines_grow, bytes_grow, grows_then, with_segment, without_segment}
+use Rattle.job_gen.proofs.GrowthLemmas.{grows_then, with_segment, without_segment}
 use Rattle.job_gen.specs.Grows.{Grows}
 use Rattle.job_gen.specs.declared.growing.Growing.{Growing}
 use Rattle.job_gen.specs.Pieces.{Line}

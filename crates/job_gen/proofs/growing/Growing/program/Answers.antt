@@ -1,6 +1,6 @@
-use Rattle.std.proofs.Common.{◌≡◌, ◌∷◌, [], ◌++◌, refl, ap, sym, ◌∙◌}
+use Rattle.std.proofs.Common.{◌∷◌, [], ◌++◌, ap, ◌∙◌}
 use Rattle.job_gen.specs.Generated as generated
-use Rattle.job_gen.proofs.GrowthLemmas.{line_grows, lines_grow, bytes_grow, grows_then, head_told}
+use Rattle.job_gen.proofs.GrowthLemmas.{bytes_grow, grows_then, head_told}
 use Rattle.job_gen.proofs.growing.Growing.program.Goals as goal
 
 pub returns : goal.returns

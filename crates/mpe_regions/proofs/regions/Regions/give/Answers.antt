@@ -1,5 +1,5 @@
 -- A key that is found is in a node that leaves both orders and is free; one that is not found is not live.
-use Rattle.std.proofs.Common.{◌≡◌, ◌≢◌, ◌∙◌, ◌<◌, ℕ, List, [], ◌∷◌, ◌++◌, length, ap, subst, sym, refl, arith, true, false, Some, None}
+use Rattle.std.proofs.Common.{◌≡◌, ◌∙◌, ◌<◌, List, ◌∷◌, ◌++◌, length, ap, subst, sym, refl, arith, false, Some, None}
 use Rattle.std.specs.Vec.{with_items}
 use Rattle.std.proofs.lemmas.List.{with_items_is}
 use Rattle.mpe_links.specs.declared.node.Node.{Node}
@@ -12,7 +12,7 @@ use Rattle.mpe_regions.specs.Area.{is_live}
 use Rattle.mpe_regions.specs.Loads.{dropped}
 use Rattle.mpe_regions.specs.Sound.{IsSound}
 use Rattle.mpe_regions.specs.Kept.{Kept}
-use Rattle.mpe_regions.specs.LinkedForm.{area_of, found_in}
+use Rattle.mpe_regions.specs.LinkedForm.{area_of}
 use Rattle.mpe_regions.proofs.LinkLemmas.{sound_of}
 use Rattle.mpe_regions.proofs.LinkReads.{find_gives, live_is, dropped_none}
 use Rattle.mpe_regions.proofs.TableMoves.{Moved}

@@ -1,4 +1,4 @@
-use Rattle.std.proofs.Common.{◌≡◌, ◌∙◌, ap, subst, length}
+use Rattle.std.proofs.Common.{◌∙◌, ap, subst, length}
 use Rattle.std.specs.Prelude.{nat_le}
 use Rattle.mpe_regions.specs.Sound.{IsSound}
 use Rattle.mpe_regions.specs.Kept.{Kept}

@@ -1,4 +1,4 @@
-use Rattle.std.proofs.Common.{◌≡◌, refl, arith}
+use Rattle.std.proofs.Common.{refl, arith}
 use Rattle.mpe_regions.specs.declared.regions.Regions.TheInside.{Inside}
 use Rattle.mpe_regions.proofs.TableAfter.{fresh_is}
 use Rattle.mpe_regions.proofs.regions.Regions.make.Goals as goal

@@ -1,4 +1,4 @@
-use Rattle.std.proofs.Common.{◌≡◌, ◌∙◌, ap, subst, length, cond, List, Some, None}
+use Rattle.std.proofs.Common.{◌∙◌, ap, subst, length, cond, List, Some, None}
 use Rattle.std.specs.Prelude.{nat_lt}
 use Rattle.mpe_links.specs.declared.node.Node.{Node}
 use Rattle.mpe_regions.specs.Area.{oldest_of}

@@ -1,11 +1,11 @@
-use Rattle.std.proofs.Common.{◌≡◌, ◌∙◌, ◌<◌, ap, subst, sym, length, List, Option, ℕ}
+use Rattle.std.proofs.Common.{◌≡◌, ◌∙◌, ◌<◌, ap, subst, sym, length, List}
 use Rattle.std.specs.Prelude.{option_map, IfSome}
 use Rattle.mpe_links.specs.declared.node.Node.{Node}
 use Rattle.mpe_regions.specs.Area.{region_of}
 use Rattle.mpe_regions.specs.Sound.{IsSound}
 use Rattle.mpe_regions.specs.Kept.{Kept}
-use Rattle.mpe_regions.specs.LinkedForm.{region_at, found_in, IsListed}
-use Rattle.mpe_regions.proofs.LinkLemmas.{sound_of, listed}
+use Rattle.mpe_regions.specs.LinkedForm.{region_at, found_in}
+use Rattle.mpe_regions.proofs.LinkLemmas.{sound_of}
 use Rattle.mpe_regions.proofs.LinkReads.{find_gives, found_within, region_found}
 use Rattle.mpe_regions.proofs.regions.Regions.region.Goals as goal
 

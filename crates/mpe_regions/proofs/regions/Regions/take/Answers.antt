@@ -1,9 +1,8 @@
 -- The region is entered in the hole that was found; the table has a free node.
-use Rattle.std.proofs.Common.{◌≡◌, ◌≢◌, ◌∙◌, ◌<◌, ◌+◌, ℕ, List, [], ◌∷◌, ◌++◌, length, ap, subst, sym, refl, arith, true, false, Option, Some, None}
+use Rattle.std.proofs.Common.{◌≡◌, ◌∙◌, ◌<◌, List, [], ◌∷◌, ◌++◌, length, ap, subst, sym, refl, arith, Some, None}
 use Rattle.std.specs.Vec.{with_items}
 use Rattle.std.proofs.lemmas.List.{with_items_is}
 use Rattle.mpe_links.specs.declared.node.Node.{Node}
-use Rattle.mpe_links.specs.Lists.{times, last_or}
 use Rattle.mpe_links.specs.Nodes.{node_at, right_of, IsLink}
 use Rattle.mpe_links.specs.Writes.{less_links}
 use Rattle.mpe_links.specs.Rings.{InUse, InPlace, AreFree}

@@ -1,5 +1,5 @@
 -- A key that is found is in a node that goes to the end of the order of use; one that is not found is not live.
-use Rattle.std.proofs.Common.{◌≡◌, ◌∙◌, ◌<◌, ℕ, List, [], ◌∷◌, ◌++◌, length, ap, subst, sym, refl, arith, true, false, Some, None}
+use Rattle.std.proofs.Common.{◌≡◌, ◌∙◌, ◌<◌, ℕ, List, [], ◌∷◌, ◌++◌, length, ap, subst, sym, refl, arith, Some, None}
 use Rattle.std.specs.Vec.{with_items}
 use Rattle.std.proofs.lemmas.List.{with_items_is}
 use Rattle.mpe_links.specs.declared.node.Node.{Node}
@@ -11,7 +11,7 @@ use Rattle.mpe_regions.specs.Area.{is_live}
 use Rattle.mpe_regions.specs.Loads.{used, touched}
 use Rattle.mpe_regions.specs.Sound.{IsSound}
 use Rattle.mpe_regions.specs.Kept.{Kept}
-use Rattle.mpe_regions.specs.LinkedForm.{area_of, found_in}
+use Rattle.mpe_regions.specs.LinkedForm.{area_of}
 use Rattle.mpe_regions.proofs.SoundLemmas.{sound-touched}
 use Rattle.mpe_regions.proofs.LinkLemmas.{sound_of}
 use Rattle.mpe_regions.proofs.LinkReads.{find_gives, found_within, renew_needs, live_is, touched_absent, touched_live}
