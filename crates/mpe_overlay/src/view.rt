@@ -11,6 +11,7 @@ ghost use Rattle.mpe_overlay.specs.Held.{held_in};
 use crate::words::key;
 use hp_program::{CodeStore, Fetched};
 use mpe_regions::{Region, Regions};
+use std::mem::swap;
 
 /// The loaded segments of one program. It has no program, and reads the area alone.
 #[derive(Clone, Copy)]
@@ -118,25 +119,19 @@ impl SegmentView<'_> {
 
     /// Takes a segment at hand. The one that was read is kept beside it, so that going back to it needs no search. Where it is not
     /// loaded nothing changes, and false is the answer.
-    #[inline(never)]
+    #[inline(always)]
     pub fn turn_to(&mut self, seg: u8) -> bool
         ensures value { result ≡ is_some (held_in self.old.view.area.now.items self.old.view.regions.now.area self.old.view.program seg) }
         ensures view { self.new.view ≡ self.old.view }
         ensures seg { OnTrue result (self.new.seg ≡ seg) }
         ensures kept { OnFalse result (self.new ≡ self.old) }
     {
-        if seg == self.seg {
+        if seg == self.before {
+            swap(&mut self.seg, &mut self.before);
+            swap(&mut self.words, &mut self.words_before);
             return true;
         }
-        if seg != self.before {
-            return self.look_up(seg);
-        }
-        let words = self.words_before;
-        self.before = self.seg;
-        self.words_before = self.words;
-        self.seg = seg;
-        self.words = words;
-        true
+        seg == self.seg || self.look_up(seg)
     }
 }
 

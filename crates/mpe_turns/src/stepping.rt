@@ -108,13 +108,16 @@ pub(crate) fn run(session: &mut Session, overlay: &Overlay, until: u64)
         None => return,
         Some(code) => code,
     };
-    'stepping: while session.steps < until {
+    // counted apart from the session's steps, so that the test of a step needs no word of memory
+    let mut left = until - session.steps;
+    'stepping: while left > 0 {
         if !follow(session, &mut code) {
             return;
         }
         if !make_step(session, &code) {
             return;
         }
+        left -= 1;
     }
 }
 

@@ -34,6 +34,7 @@ stepping-init c =
     record {
       running = c.requires.running;
       below = c.requires.below;
+      left = refl;
       program = refl;
       views = views_of overlay c.view.result c.in-Some.code s.program c.in-Some.ensures.view c.view.ensures.program c.view.ensures.regions c.view.ensures.holds;
       some = λ p of is. begins p overlay.regions.area c.args.until s is;
@@ -62,7 +63,7 @@ made c p of is =
     let t = c.stepping.session in
     let before = c.stepping.invariant in
     let some = before.some p of is in
-    let lt : t.steps < c.args.until = omega arith in
+    let lt : t.steps < c.args.until = omega (arith, before.left) in
     let views : Views overlay t.program code = views_stay overlay t.program c.stepping.code code c.follow.ensures.view before.views in
     let here : RunsOver p code t = runs_over overlay code p t views (ap (slice_get overlay.programs.items) before.program ∙ of) some.session in
     one_last p overlay.regions.area c.args.until c.args.session.now t c.make_step.new.session some lt
@@ -83,11 +84,12 @@ stepping-preserved c =
     let before = c.stepping.invariant in
     let goes_on : c.make_step.result ≡ true = c.if-not-make_step.false in
     let went = c.make_step.ensures.on goes_on in
-    let lt : t.steps < c.args.until = omega arith in
+    let lt : t.steps < c.args.until = omega (arith, before.left) in
     let views : Views overlay t.program code = views_stay overlay t.program c.stepping.code code c.follow.ensures.view before.views in
     record {
       running = went.1;
       below = omega (arith, went.0);
+      left = omega (arith, before.left, went.0);
       program = c.make_step.ensures.program ∙ before.program;
       views = subst (λ (k : ℕ). Views overlay k code) (sym c.make_step.ensures.program) views;
       some = λ p of is.
@@ -100,5 +102,5 @@ stepping-preserved c =
 
 pub returns-clause-steps : goal.returns-clause-steps
 returns-clause-steps c = λ p of is.
-    let done : c.args.until ≤ c.stepping.session.steps = omega arith in
+    let done : c.args.until ≤ c.stepping.session.steps = omega (arith, c.stepping.invariant.left) in
     all_made p c.args.overlay.now.regions.area c.args.until c.args.session.now c.stepping.session (c.stepping.invariant.some p of is) done

@@ -11,6 +11,7 @@ abbrev pub invariant-stepping : goal.invariant-stepping
 invariant-stepping l = record {
   running : l.session.ending ≡ Running;
   below : l.session.steps ≤ l.until;
+  left : l.left ≡ l.until - l.session.steps;
   program : l.session.program ≡ l.fn.session.program;
   views : Views l.overlay l.session.program l.code;
   some : (p : Program) → slice_get l.overlay.programs.items l.fn.session.program ≡ Some p → IsSessionOf p l.fn.session
@@ -18,4 +19,4 @@ invariant-stepping l = record {
 }
 
 abbrev pub decreases-stepping : goal.decreases-stepping
-decreases-stepping l = l.until - l.session.steps
+decreases-stepping l = l.left
