@@ -5,7 +5,7 @@ use Rattle.spl_tree.specs.declared.expressions.Const.{Const}
 use Rattle.spl_tree.specs.Operators.{shift_of}
 use Rattle.spl_tree.specs.Trees as tree
 use Rattle.spl_tree.specs.Views as view
-use Rattle.spl_reading.specs.Readers.{Parser, pure, take, expect, named_number}
+use Rattle.spl_reading.specs.Readers.{Parser, ◌>>=◌, pure, take, expect, named_number}
 use Rattle.spl_reading.specs.ReadExpressions as r
 use Rattle.spl_levels.specs.Nests.{counted_bytes}
 
