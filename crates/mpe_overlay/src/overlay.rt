@@ -5,7 +5,7 @@ ghost use Rattle.mpe_regions.specs.Area.{region_of, is_live};
 ghost use Rattle.mpe_regions.specs.Loads.{needed, dropped};
 ghost use Rattle.mpe_overlay.specs.Codes.{codes_of, key_of, segment_at, size_of};
 ghost use Rattle.mpe_overlay.specs.Holds.{HoldsCode};
-ghost use Rattle.mpe_overlay.specs.Held.{held_in};
+ghost use Rattle.mpe_overlay.specs.Held.{held_by};
 ghost use Rattle.mpe_overlay.specs.Needs.{answer, counted};
 
 use crate::loaded::Loaded;
@@ -128,7 +128,7 @@ impl Overlay {
         ensures area { result.area.now ≡ self.now.area }
         ensures regions { result.regions.now ≡ self.now.regions }
         ensures program { result.program ≡ program }
-        ensures holds { (segments : List (List ℕ)) (seg : ℕ) (words : List ℕ) → slice_get (codes_of self.now.programs.items) program ≡ Some segments → held_in result.area.now.items result.regions.now.area result.program seg ≡ Some words → slice_get segments seg ≡ Some words }
+        ensures holds { (segments : List (List ℕ)) (seg : ℕ) (words : List ℕ) → slice_get (codes_of self.now.programs.items) program ≡ Some segments → held_by result seg ≡ Some words → slice_get segments seg ≡ Some words }
     {
         View {
             area: &self.area,

@@ -13,16 +13,16 @@ use Rattle.mpe_worlds.specs.hp_flat.Step.{is_running}
 use Rattle.mpe_overlay.specs.mpe_regions.Area.{Area, is_live}
 use Rattle.mpe_overlay.specs.mpe_regions.Kept.{Kept}
 use Rattle.mpe_overlay.specs.declared.overlay.Overlay.{Overlay}
-use Rattle.mpe_overlay.specs.declared.view.SegmentView.{SegmentView}
+use Rattle.mpe_overlay.specs.declared.at_hand.SegmentView.{SegmentView}
 use Rattle.mpe_overlay.specs.declared.view.View.{View}
 use Rattle.mpe_overlay.specs.Codes.{codes_of}
-use Rattle.mpe_overlay.specs.Held.{held_in}
+use Rattle.mpe_overlay.specs.Held.{held_by}
 use Rattle.mpe_worlds.specs.Worlds.{Run}
 use Rattle.mpe_worlds.specs.RunSteps.{can_step, key_needed, stepped, stepping}
 use Rattle.mpe_worlds.proofs.RunLaws.{stepping-more, stepping-none, stepping-one, stepping-stays}
 use Rattle.mpe_turns.specs.declared.session.Session.{Session}
 use Rattle.mpe_turns.specs.Stands.{IsSessionOf, run_of}
-use Rattle.mpe_turns.specs.Steps.{MakesOne, MakesSome, RunsOver, Views, held_by}
+use Rattle.mpe_turns.specs.Steps.{MakesOne, MakesSome, RunsOver, Views}
 
 module _ (p : Program) (a : Area) (until : ℕ) where
   pub begins : (s : Session) → IsSessionOf p s → MakesSome p a until s true s
@@ -92,13 +92,13 @@ holds_by segments held h seg = by (held seg) refl where
 pub views_of : (overlay : Overlay) (view : View) (code : SegmentView) (program : ℕ)
     → code.view ≡ view → view.program ≡ program → view.regions.now ≡ overlay.regions
     → ((segments : List (List ℕ)) (seg : ℕ) (words : List ℕ) → slice_get (codes_of overlay.programs.items) program ≡ Some segments
-    → held_in view.area.now.items view.regions.now.area view.program seg ≡ Some words → slice_get segments seg ≡ Some words)
+    → held_by view seg ≡ Some words → slice_get segments seg ≡ Some words)
     → Views overlay program code
 views_of overlay view code program same its sees holds = record {
   area = ap (λ (v : View). v.regions.now.area) same ∙ ap (λ (k : Kept). k.area) sees;
   program = ap (λ (v : View). v.program) same ∙ its;
-  holds = λ p of. holds_by (segments_of p) (held_by code) (λ seg words h. holds (segments_of p) seg words (at p of)
-      (sym (ap (λ (v : View). held_in v.area.now.items v.regions.now.area v.program seg) same) ∙ h));
+  holds = λ p of. holds_by (segments_of p) (held_by code.view) (λ seg words h. holds (segments_of p) seg words (at p of)
+      (sym (ap (λ (v : View). held_by v seg) same) ∙ h));
 } where
   at : (p : Program) → slice_get overlay.programs.items program ≡ Some p → slice_get (codes_of overlay.programs.items) program ≡ Some (segments_of p)
   at p of = slice_get-map segments_of overlay.programs.items program ∙ ap (option_map segments_of) of
@@ -107,7 +107,7 @@ pub views_stay : (overlay : Overlay) (program : ℕ) (one other : SegmentView) �
 views_stay overlay program one other same views = record {
   area = ap (λ (v : View). v.regions.now.area) same ∙ views.area;
   program = ap (λ (v : View). v.program) same ∙ views.program;
-  holds = λ p of. subst (λ (v : View). HoldsOf (segments_of p) (held_in v.area.now.items v.regions.now.area v.program)) (sym same) (views.holds p of);
+  holds = λ p of. subst (λ (v : View). HoldsOf (segments_of p) (held_by v)) (sym same) (views.holds p of);
 }
 
 -- a session of a program runs over such a view

@@ -43,9 +43,9 @@ use Rattle.mpe_gate.specs.declared.gate.Served.TheVariants.{Went, Ended, Trapped
 use Rattle.mpe_gate.specs.Seated.{seated}
 use Rattle.mpe_gate.specs.Serves.{CameTo, serve_moved}
 use Rattle.mpe_overlay.specs.mpe_regions.Area.{Area, is_live, region_of}
-use Rattle.mpe_overlay.specs.declared.view.SegmentView.{SegmentView}
+use Rattle.mpe_overlay.specs.declared.at_hand.SegmentView.{SegmentView}
 use Rattle.mpe_overlay.specs.Codes.{key_of}
-use Rattle.mpe_overlay.specs.Held.{held_in}
+use Rattle.mpe_overlay.specs.Held.{held_by, held_in}
 use Rattle.mpe_overlay.specs.Holds.{words_in}
 use Rattle.mpe_worlds.specs.Worlds.{Run}
 use Rattle.mpe_worlds.specs.RunSteps.{answer_of, can_step, key_needed, numbers_stepped, stack_of, stepped}
@@ -53,7 +53,7 @@ use Rattle.mpe_worlds.proofs.CountLemmas.{numbers_after-reserved}
 use Rattle.mpe_worlds.proofs.RunLaws.{stepping-one, stepping-stays}
 use Rattle.mpe_turns.specs.declared.session.Session.{Session}
 use Rattle.mpe_turns.specs.Stands.{IsSessionOf, machine_of, run_of}
-use Rattle.mpe_turns.specs.Steps.{MakesOne, RunsOver, ServesCall, area_of, ending_after, held_by, is_went}
+use Rattle.mpe_turns.specs.Steps.{MakesOne, RunsOver, ServesCall, area_of, ending_after, is_went}
 
 -- The segment that is needed.
 
@@ -297,28 +297,28 @@ ends_so o seat new (Ended ending) is e ended runs = is.0 cc
 ends_so o seat new (Trapped t) is e ended runs = cc
 
 module _ (p : Program) (code : SegmentView) (old : Session) (over : RunsOver p code old) (runs : old.ending ≡ Running) where
-  can_is : can_step (area_of code) (run_of (segments_of p) old) ≡ is_some (held_by code (needed old.cpu))
+  can_is : can_step (area_of code) (run_of (segments_of p) old) ≡ is_some (held_by code.view (needed old.cpu))
   can_is = can_step-held (segments_of p) code.view.area.now.items (area_of code) old runs (needed_small p old over.session)
       ∙ ap (λ (k : ℕ). is_some (held_in code.view.area.now.items (area_of code) k (needed old.cpu))) over.same_program
 
-  pub one_went : (cpu : Cpu) → Goes (segments_of p) (held_by code) old.cpu cpu → Suits (segments_of p) cpu
+  pub one_went : (cpu : Cpu) → Goes (segments_of p) (held_by code.view) old.cpu cpu → Suits (segments_of p) cpu
       → MakesOne p (area_of code) old true (record old { cpu = cpu; steps = old.steps + 1 })
-  one_went cpu goes suits = makes_stepped p (area_of code) old true _ (can_is ∙ is_some-true _ goes.present) (went (segments_of p) (held_by code) old cpu runs goes)
+  one_went cpu goes suits = makes_stepped p (area_of code) old true _ (can_is ∙ is_some-true _ goes.present) (went (segments_of p) (held_by code.view) old cpu runs goes)
       (ap is_running (sym runs)) (session_of p _ suits)
 
-  pub one_waits : (seg : ℕ) (cpu : Cpu) → Waits (held_by code) old.cpu seg cpu → MakesOne p (area_of code) old false (record old { cpu = cpu })
+  pub one_waits : (seg : ℕ) (cpu : Cpu) → Waits (held_by code.view) old.cpu seg cpu → MakesOne p (area_of code) old false (record old { cpu = cpu })
   one_waits seg cpu waits = makes_none p (area_of code) old _
-      (can_is ∙ ap (λ (k : ℕ). is_some (held_by code k)) (sym waits.needs) ∙ ap is_some waits.absent)
+      (can_is ∙ ap (λ (k : ℕ). is_some (held_by code.view k)) (sym waits.needs) ∙ ap is_some waits.absent)
       (ap (λ (c : Cpu). record old { cpu = c }) waits.same) over.session
 
-  pub one_trapped : (t : Trap) (cpu : Cpu) → Traps (segments_of p) (held_by code) old.cpu t cpu → Suits (segments_of p) cpu
+  pub one_trapped : (t : Trap) (cpu : Cpu) → Traps (segments_of p) (held_by code.view) old.cpu t cpu → Suits (segments_of p) cpu
       → MakesOne p (area_of code) old false (record old { cpu = cpu; ending = StoodTrapped t; steps = old.steps + 1 })
-  one_trapped t cpu traps suits = makes_stepped p (area_of code) old false _ (can_is ∙ is_some-true _ traps.present) (trapped (segments_of p) (held_by code) old t cpu runs traps)
+  one_trapped t cpu traps suits = makes_stepped p (area_of code) old false _ (can_is ∙ is_some-true _ traps.present) (trapped (segments_of p) (held_by code.view) old t cpu runs traps)
       refl (session_of p _ suits)
 
-  pub one_served : (i : Intrinsic) (cpu : Cpu) (on : Bool) (new : Session) → Calls (segments_of p) (held_by code) old.cpu i cpu → Suits (segments_of p) cpu
+  pub one_served : (i : Intrinsic) (cpu : Cpu) (on : Bool) (new : Session) → Calls (segments_of p) (held_by code.view) old.cpu i cpu → Suits (segments_of p) cpu
       → ServesCall i (record old { cpu = cpu }) on new → MakesOne p (area_of code) old on new
   one_served i cpu on new calls suits did = makes_stepped p (area_of code) old on new (can_is ∙ is_some-true _ calls.present)
-      (served (segments_of p) (held_by code) old i cpu on new runs calls did)
+      (served (segments_of p) (held_by code.view) old i cpu on new runs calls did)
       (did.told ∙ went_runs did.answer (ends_so _ _ _ did.answer did.serves.does) ∙ ap (λ (s : Session). is_running s.ending) (sym did.left))
-      (session_of p new (serve_suits p (held_by code) old i cpu on new runs calls suits did))
+      (session_of p new (serve_suits p (held_by code.view) old i cpu on new runs calls suits did))

@@ -1,5 +1,5 @@
 -- What the steps of a turn make of a session, over the segment at hand.
-use Rattle.std.specs.Prelude.{◌≡◌, ℕ, ◌+◌, ◌-◌, Bool, true, false, ◌&&◌, List, Option, Some, slice_get}
+use Rattle.std.specs.Prelude.{◌≡◌, ℕ, ◌+◌, ◌-◌, Bool, true, false, ◌&&◌, Some, slice_get}
 use Rattle.hp_word.specs.declared.endings.Ending.{Ending}
 use Rattle.hp_word.specs.declared.endings.Ending.TheVariants.{Running, Trapped as StoodTrapped}
 use Rattle.hp_word.specs.declared.intrinsics.Intrinsic.{Intrinsic}
@@ -13,29 +13,26 @@ use Rattle.mpe_gate.specs.declared.gate.Served.TheVariants.{Went, Ended, Trapped
 use Rattle.mpe_gate.specs.Serves.{Serves}
 use Rattle.mpe_overlay.specs.mpe_regions.Area.{Area}
 use Rattle.mpe_overlay.specs.declared.overlay.Overlay.{Overlay}
-use Rattle.mpe_overlay.specs.declared.view.SegmentView.{SegmentView}
-use Rattle.mpe_overlay.specs.Held.{held_in}
+use Rattle.mpe_overlay.specs.declared.at_hand.SegmentView.{SegmentView}
+use Rattle.mpe_overlay.specs.Held.{held_by}
 use Rattle.mpe_worlds.specs.RunSteps.{can_step, stepping}
 use Rattle.mpe_turns.specs.declared.session.Session.{Session}
 use Rattle.mpe_turns.specs.Stands.{IsSessionOf, run_of}
 
--- the area that a view sees, and the segments that it holds
+-- the area that a view sees
 abbrev pub area_of : SegmentView → Area
 area_of code = code.view.regions.now.area
-
-abbrev pub held_by : SegmentView → ℕ → Option (List ℕ)
-held_by code = held_in code.view.area.now.items code.view.regions.now.area code.view.program
 
 -- a view of an overlay for a program: it sees the overlay's area, and holds segments of that program
 pub record Views (overlay : Overlay) (number : ℕ) (code : SegmentView) : Type 0 where
   pub area : area_of code ≡ overlay.regions.area
   pub program : code.view.program ≡ number
-  pub holds : (p : Program) → slice_get overlay.programs.items number ≡ Some p → HoldsOf (segments_of p) (held_by code)
+  pub holds : (p : Program) → slice_get overlay.programs.items number ≡ Some p → HoldsOf (segments_of p) (held_by code.view)
 
 -- a session of a program runs over a view that holds segments of it
 pub record RunsOver (p : Program) (code : SegmentView) (s : Session) : Type 0 where
   pub session : IsSessionOf p s
-  pub holds : HoldsOf (segments_of p) (held_by code)
+  pub holds : HoldsOf (segments_of p) (held_by code.view)
   pub same_program : s.program ≡ code.view.program
 
 -- where a session stands after an intrinsic was served, and whether it goes on

@@ -5,11 +5,12 @@ ghost use Rattle.hp_word.specs.declared.endings.Ending.TheVariants.{Running};
 ghost use Rattle.hp_program.specs.declared.program.Program.{Program};
 ghost use Rattle.hp_program.specs.Programs.{segments_of};
 ghost use Rattle.mpe_gate.specs.hp_tos.StackView.{seen};
+ghost use Rattle.mpe_overlay.specs.Held.{held_by};
 ghost use Rattle.mpe_worlds.specs.hp_cpu.Stood.{needed};
 ghost use Rattle.mpe_worlds.specs.RunSteps.{stepping};
 ghost use Rattle.mpe_turns.specs.Stands.{IsSessionOf, run_of};
 ghost use Rattle.mpe_turns.specs.Answers.{answer_by};
-ghost use Rattle.mpe_turns.specs.Steps.{MakesOne, RunsOver, ServesCall, area_of, held_by};
+ghost use Rattle.mpe_turns.specs.Steps.{MakesOne, RunsOver, ServesCall, area_of};
 
 use crate::session::{Session, Turned};
 use hp_word::{Ending, Intrinsic};
@@ -83,7 +84,7 @@ fn make_step(session: &mut Session, code: &SegmentView<'_>) -> bool
 #[inline(always)]
 fn follow(session: &Session, code: &mut SegmentView<'_>) -> bool
     ensures view { code.new.view ≡ code.old.view }
-    ensures absent { OnFalse result (is_some (held_by code.old (needed session.now.cpu)) ≡ false) }
+    ensures absent { OnFalse result (is_some (held_by code.old.view (needed session.now.cpu)) ≡ false) }
 {
     match session.cpu.phase {
         Phase::Ready => true,
