@@ -22,7 +22,7 @@ use Rattle.spl_reading.specs.ReadDeclarations as r
 use Rattle.spl_reading.specs.ReadDeclarations.{bodies}
 use Rattle.spl_tokens.specs.declared.faults.Fault.{Fault}
 use Rattle.spl_tokens.specs.Reads.{Reads}
-use Rattle.spl_items.specs.Lists as lists
+use Rattle.spl_listed.specs.Lists as lists
 
 pub record ReadsBodies (room : ℕ) (unit : Bool) (pre : Global → MutBor (List Lexeme) → ℕ → ℕ → Type 0)
     (post : Global → MutBor (List Lexeme) → ℕ → ℕ → Result (Vec Decl Global × Vec Stmt Global) Fault

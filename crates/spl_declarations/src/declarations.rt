@@ -4,15 +4,17 @@ ghost use Rattle.std.specs.Prelude.{◌≡◌, ◌++◌, [], ◌∷◌, if◌the
 ghost use Rattle.spl_tree.specs.Spells as spells;
 ghost use Rattle.spl_reading.specs.Readers as readers;
 ghost use Rattle.spl_tokens.specs.Reads.{Reads, paired};
-ghost use Rattle.spl_items.specs.Lists as lists;
-ghost use Rattle.spl_items.specs.Headings as headings;
+ghost use Rattle.spl_listed.specs.Lists as lists;
+ghost use Rattle.spl_headings.specs.Headings as headings;
 ghost use Rattle.spl_declarations.specs.Nests.{ReadsBodies, ReadsStatements};
 ghost use Rattle.spl_declarations.specs.Nests as nests;
 ghost use Rattle.spl_declarations.specs.Pieces as pieces;
 
-use spl_items::{
-    Options, arrays, declared_data, equals, equate, external, forward, heading, intrinsic,
-    is_subroutine, items, label, names, option_list, pointers, procedure, subroutine, with_split,
+use spl_headings::{Options, heading, names, option_list, with_split};
+use spl_items::{arrays, equals, items, pointers};
+use spl_listed::{
+    declared_data, equate, external, forward, intrinsic, is_subroutine, label, procedure,
+    subroutine,
 };
 use spl_tokens::{Fault, Tokens, same};
 use spl_tree::{Decl, Heading, Kind, Reserved, Stmt, Symbol};

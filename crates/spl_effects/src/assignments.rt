@@ -8,9 +8,9 @@ ghost use Rattle.spl_effects.specs.References.{place_of, behind};
 
 use crate::effects::{begins_effect, effect};
 use crate::references::{called, place};
-use spl_levels::expression_within;
 use spl_tokens::{Fault, Tokens, constant, same};
 use spl_tree::{At, Effect, Expr, Ref, Stmt, Symbol, Target};
+use spl_within::expression_within;
 use std::alloc::Global;
 
 /// A value stored into a target.

@@ -7,9 +7,9 @@ ghost use Rattle.spl_reading.specs.ReadStatements as spec;
 ghost use Rattle.spl_tokens.specs.Reads.{Reads, same_as};
 
 use crate::references::reference;
-use spl_levels::{condition_within, enclosed_within, expression_within};
 use spl_tokens::{Fault, Tokens, is_word, operator_of, same, text};
 use spl_tree::{Effect, Ref, Reserved, Source, Symbol, Test, binary, class};
+use spl_within::{condition_within, enclosed_within, expression_within};
 use std::alloc::Global;
 
 /// The number of the class of characters with these letters.

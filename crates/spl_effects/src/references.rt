@@ -7,9 +7,9 @@ ghost use Rattle.spl_reading.specs.ReadStatements as spec;
 ghost use Rattle.spl_tokens.specs.Reads.{Reads, lexeme};
 ghost use Rattle.spl_effects.specs.References.{place_of, call_of};
 
-use spl_levels::enclosed_within;
 use spl_tokens::{Fault, Tokens, name, same};
 use spl_tree::{At, Expr, Name, Ref, Stmt, Symbol, Token};
+use spl_within::enclosed_within;
 use std::alloc::{AllocError, Global};
 
 /// A name alone.

@@ -7,7 +7,7 @@ use Rattle.spl_tree.specs.Symbols.{Lexeme, lexeme_of}
 use Rattle.spl_tree.specs.OpenExpressions.{limit}
 use Rattle.spl_tree.specs.Trees.{Tree}
 use Rattle.spl_tree.specs.Views as view
-use Rattle.spl_levels.specs.spl_reading.Readers.{Outcome, Got, Bad, Deep}
+use Rattle.spl_within.specs.spl_reading.Readers.{Outcome, Got, Bad, Deep}
 use Rattle.spl_verdicts.specs.spl_grammar.Ends.{Ended, last, before}
 use Rattle.spl_verdicts.proofs.spl_grammar_proofs.LocalReaders.{Left, entire, cut, left_then, end_of}
 use Rattle.spl_verdicts.specs.PartVerdicts.{Verdict, spelled, refused, too_deep, read}

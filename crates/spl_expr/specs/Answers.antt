@@ -4,7 +4,7 @@ use Rattle.spl_tree.specs.declared.expressions.Expr.{Expr}
 use Rattle.spl_tree.specs.Symbols.{Lexeme}
 use Rattle.spl_tree.specs.Trees.{Tree}
 use Rattle.spl_tree.specs.Views.{expression}
-use Rattle.spl_levels.specs.spl_reading.Readers.{Outcome, Got, Bad, Deep}
+use Rattle.spl_within.specs.spl_reading.Readers.{Outcome, Got, Bad, Deep}
 use Rattle.spl_verdicts.specs.PartVerdicts.{Verdict}
 use Rattle.spl_tokens.specs.declared.faults.Fault.{Fault}
 use Rattle.spl_tokens.specs.declared.faults.Fault.TheVariants as fault

@@ -4,9 +4,9 @@ ghost use Rattle.spl_tree.specs.Symbols.{lexeme_of};
 ghost use Rattle.spl_verdicts.specs.spl_grammar.Ends.{Ended};
 ghost use Rattle.spl_expr.specs.Answers.{Answers, Exact, answer_at};
 
-use spl_levels::{condition_within, expression_within};
 use spl_tokens::{Fault, ParseFault, Tokens};
 use spl_tree::{Expr, Token};
+use spl_within::{condition_within, expression_within};
 use std::alloc::Global;
 
 /// The most constructs that may be open at a token.

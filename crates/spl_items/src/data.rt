@@ -1,17 +1,17 @@
-//! Data items: variables with their values, arrays, views and pointers.
-ghost use Rattle.std.specs.Prelude.{◌≡◌, [], IfOk};
+//! Data items: variables with their values, arrays and views.
+ghost use Rattle.std.specs.Prelude.{◌≡◌, []};
 ghost use Rattle.spl_tree.specs.declared.symbols.Symbol.{Symbol};
-ghost use Rattle.spl_tree.specs.Declarations as decls;
 ghost use Rattle.spl_tree.specs.Spells as spells;
 ghost use Rattle.spl_reading.specs.Readers as readers;
 ghost use Rattle.spl_reading.specs.ReadExpressions as expressions;
 ghost use Rattle.spl_reading.specs.ReadDeclarations as spec;
 ghost use Rattle.spl_tokens.specs.Reads.{Reads, lexeme, paired};
-ghost use Rattle.spl_items.specs.Lists as lists;
+ghost use Rattle.spl_listed.specs.Lists as lists;
 
+use spl_listed::with_values;
 use spl_tokens::{Fault, Tokens, constant, name, operator_of, same};
-use spl_tree::{At, Const, Item, Name, Shape, Symbol, Token, binary};
-use std::alloc::{AllocError, Global};
+use spl_tree::{Const, Item, Shape, Symbol, Token, binary};
+use std::alloc::Global;
 
 /// An item with the name that stands at a token.
 #[tactic(auto, using(spl_tokens::proofs::Steps::lexeme_at))]
@@ -181,18 +181,6 @@ fn array(alloc: Global, tokens: &mut Tokens<'_>) -> Result<Item, Fault>
     Ok(shaped(token, shape, Vec::new(alloc)))
 }
 
-/// An item with these values.
-fn with_values(item: Item, first: Vec<Const>) -> Item
-    ensures { spells.item_tree result ≡ spec.with_values (lists.constants first) (spells.item_tree item) }
-{
-    Item {
-        name: item.name,
-        at: item.at,
-        shape: item.shape,
-        first,
-    }
-}
-
 /// What goes on with a list of arrays: a further one, or the values of the last; and whether another may follow.
 #[tactic(auto, using(spl_tokens::proofs::Steps::steps, spl_tokens::proofs::Steps::pushed), unfolding(spl_reading::specs::Readers::pure, spl_reading::specs::Readers::refuse, spl_reading::specs::Readers::followed, spl_reading::specs::Readers::and_then, spl_reading::specs::ReadDeclarations::more_arrays))]
 fn further_array(
@@ -250,28 +238,4 @@ pub fn arrays(alloc: Global, tokens: &mut Tokens<'_>) -> Result<Vec<Item>, Fault
     let (mut read, last) = more_arrays(alloc, tokens, first)?;
     read.push(last)?;
     Ok(read)
-}
-
-/// A pointer.
-fn pointer(alloc: Global, name: Name, at: At) -> Item
-    ensures { spells.item_tree result ≡ decls.pointer (spells.placed (name, at)) }
-{
-    Item {
-        name,
-        at,
-        shape: Shape::Pointer,
-        first: Vec::new(alloc),
-    }
-}
-
-#[tactic(auto, using(crate::proofs::ItemLemmas::one_pointer))]
-/// Pointers with these names.
-pub fn pointers(alloc: Global, names: Vec<(Name, At)>) -> Result<Vec<Item>, AllocError>
-    ensures { IfOk result (λ items. lists.items items ≡ decls.pointers (lists.names names)) }
-{
-    let mut items = Vec::new(alloc);
-    for (name, at) in names {
-        items.push(pointer(alloc, name, at))?;
-    }
-    Ok(items)
 }

@@ -2,7 +2,7 @@
 ghost use Rattle.spl_reading.specs.Readers as readers;
 ghost use Rattle.spl_reading.specs.ReadDeclarations as spec;
 ghost use Rattle.spl_tokens.specs.Reads.{Reads, paired};
-ghost use Rattle.spl_items.specs.Lists as lists;
+ghost use Rattle.spl_listed.specs.Lists as lists;
 
 use spl_tokens::{Fault, Tokens, constant, is_sign, name, operator_of, same};
 use spl_tree::{At, Const, Name, Symbol, binary};

@@ -8,7 +8,7 @@ use Rattle.spl_tree.specs.Symbols.{Lexeme}
 use Rattle.spl_tree.specs.Operators.{binds, is_sign}
 use Rattle.spl_reading.specs.Readers.{◌>>=◌, by_symbol, take, at_place, repeat, pure}
 use Rattle.spl_reading.specs.ReadExpressions as r
-use Rattle.spl_levels.specs.Nests.{counted_bytes, level, first, term, turn, bytes, whole, inner, operand_at}
+use Rattle.spl_levels.specs.Nests.{counted_bytes, level, first, term, turn, bytes, whole}
 
 -- the first term of a sum
 pub first_sum : (c : Bool) (room taken height count : ℕ) (minus : Option At) (ts : List Lexeme) → height ≡ 2
@@ -56,15 +56,3 @@ unfolding r.turn_by
 turn_shifted c room taken height at f k ts n h a = let t : (binds (r.operator_of k) == suc height) ≡ false =
     grind (arith, nat_tests) in
     let u : (suc height == 1) ≡ true = rw h refl in rw (t, u, a) refl
-
--- an operand behind a NOT
-pub inner_is : (room taken : ℕ) (ts : List Lexeme) → 0 < room → inner room taken ts ≡ r.unary (room - 1) taken None ts
-inner_is zero taken ts h = absurd (omega arith)
-inner_is (suc room) taken ts h = let e : suc room - 1 ≡ room = omega arith in rw e refl
-
--- an operand, by what is inside
-pub operand_is : (room taken : ℕ) (minus : Option At) (ts : List Lexeme)
-    → r.unary room taken minus ts ≡ operand_at room taken minus ts
-unfolding r.unary r.within r.expression
-operand_is zero taken minus ts = refl
-operand_is (suc room) taken minus ts = refl

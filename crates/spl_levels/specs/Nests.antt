@@ -1,18 +1,16 @@
 -- A function value that reads operands, where fewer than so many constructs may be opened.
-use Rattle.std.specs.Prelude.{ℕ, zero, suc, ◌≤◌, ◌<◌, Bool, true, false, Option, None, List, Result}
+use Rattle.std.specs.Prelude.{ℕ, ◌≤◌, ◌<◌, Bool, true, false, Option, None, List, Result}
 use Rattle.std.specs.declared.alloc.Global.{Global}
 use denote.Ref.{MutBor}
 use Rattle.spl_tree.specs.declared.names_and_places.At.{At}
-use Rattle.spl_tree.specs.declared.expressions.Kind.{Kind}
 use Rattle.spl_tree.specs.Symbols.{Lexeme}
-use Rattle.spl_tree.specs.Operators.{other}
 use Rattle.spl_tree.specs.Trees as tree
-use Rattle.spl_reading.specs.Readers.{Parser, ◌>>=◌, by_symbol, take, pure, refuse}
+use Rattle.spl_reading.specs.Readers.{Parser, ◌>>=◌, by_symbol, pure, refuse}
 use Rattle.spl_reading.specs.ReadExpressions as r
-use Rattle.spl_levels.specs.declared.parts.Part.{Part}
+use Rattle.spl_parts.specs.declared.parts.Part.{Part}
 use Rattle.spl_tokens.specs.declared.faults.Fault.{Fault}
 use Rattle.spl_tokens.specs.Reads.{Reads}
-use Rattle.spl_levels.specs.Parts.{operand}
+use Rattle.spl_parts.specs.Parts.{operand}
 
 pub record Nests (bound : ℕ) (pre : Global → MutBor (List Lexeme) → ℕ → ℕ → Option At → Type 0)
     (post : Global → MutBor (List Lexeme) → ℕ → ℕ → Option At → Result Part Fault → MutBor (List Lexeme)
@@ -24,11 +22,6 @@ pub record Nests (bound : ℕ) (pre : Global → MutBor (List Lexeme) → ℕ �
       (result : Result Part Fault)
       → room < bound → post alloc old room taken minus result new
       → Reads operand (r.unary room taken minus old.now) result new.now
-
--- the operand behind a NOT, with which one more construct is open
-abbrev pub inner : ℕ → ℕ → Parser r.Found
-inner zero taken = refuse
-inner (suc room) taken = r.unary room taken None
 
 -- the number of bytes of a comparison, which a condition alone has
 abbrev pub counted_bytes : Bool → ℕ → ℕ → Parser tree.Tree
@@ -66,46 +59,3 @@ bytes room taken f = r.bytes (r.unary room) (r.within room) room true taken f
 -- a whole expression or condition
 abbrev pub whole : Bool → ℕ → ℕ → Parser tree.Tree
 whole c room taken = level c room taken 10 0 None >>= λ f. pure f.tree
-
--- an expression in parentheses, with which one more construct is open
-abbrev pub enclosed : ℕ → ℕ → Parser tree.Tree
-enclosed room taken = r.enclosed room (inner room taken) (r.within room taken) taken
-
--- a further argument
-abbrev pub more_arguments : ℕ → ℕ → List tree.Tree → Parser (Bool × List tree.Tree)
-more_arguments room taken es = r.more_arguments room (inner room taken) (r.within room taken) taken es
-
--- arguments in parentheses
-abbrev pub arguments : ℕ → ℕ → Parser (List tree.Tree)
-arguments room taken = r.arguments room (inner room taken) (r.within room taken) taken
-
--- a name, with the arguments behind it
-abbrev pub named : ℕ → ℕ → Lexeme → Parser r.Found
-named room taken t = r.named room (inner room taken) (r.within room taken) taken t
-
--- the address of what a name stands for
-abbrev pub addressed : ℕ → ℕ → Lexeme → Lexeme → Parser r.Found
-addressed room taken a t = r.addressed room (inner room taken) (r.within room taken) taken a t
-
--- a value taken as one of another kind
-abbrev pub transfer : ℕ → ℕ → Kind → Parser r.Found
-transfer room taken k = take >>= λ t. enclosed room taken >>= λ e. pure (r.plain other (tree.Tree.transfer k e t.at))
-
--- an operand without a bit field
-abbrev pub atom : ℕ → ℕ → Parser r.Found
-atom room taken = by_symbol (r.primary_by room (inner room taken) (r.within room taken) taken)
-
-abbrev pub primary : ℕ → ℕ → Parser r.Found
-primary room taken = r.primary room (inner room taken) (r.within room taken) taken
-
--- NOT and its operand
-abbrev pub inverse : ℕ → ℕ → Parser r.Found
-inverse room taken = r.inverse room (inner room taken) (r.within room taken) taken
-
--- an operand; a minus may stand before its number
-abbrev pub operand_at : ℕ → ℕ → Option At → Parser r.Found
-operand_at room taken minus = r.unary_step room (inner room taken) (r.within room taken) taken minus
-
--- the number behind a minus
-abbrev pub negated_at : At → Parser r.Found
-negated_at at = by_symbol (r.negative_by at) >>= r.field at

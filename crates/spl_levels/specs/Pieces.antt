@@ -9,17 +9,6 @@ use Rattle.spl_reading.specs.Readers.{Parser, ◌>>=◌, pure, take, expect, nam
 use Rattle.spl_reading.specs.ReadExpressions as r
 use Rattle.spl_levels.specs.Nests.{counted_bytes}
 
--- ".(" const ":" const ")"
-unfoldable pub extent : Parser (tree.Constant × tree.Constant)
-extent = do
-  _ ← expect s.Dot
-  _ ← expect s.Open
-  a ← r.constant
-  _ ← expect s.Colon
-  b ← r.constant
-  _ ← expect s.Close
-  pure (a, b)
-
 -- "&" (ASL|ASR|LSL|LSR|CSL|CSR) "(" const ")", behind n operators
 unfoldable pub amount : Bool → ℕ → ℕ → ℕ → Parser (ℕ × tree.Constant)
 amount c room taken n = do
@@ -38,10 +27,6 @@ length room taken = do
   e ← r.within room taken
   _ ← expect s.Close
   pure e
-
--- a start and a length
-abbrev pub extents : Const × Const → tree.Constant × tree.Constant
-extents e = (view.constant e.0, view.constant e.1)
 
 -- the number of a shift, and how far it goes
 abbrev pub shift : ℕ × Const → ℕ × tree.Constant

@@ -9,18 +9,17 @@ ghost use Rattle.spl_tree.specs.Views as view;
 ghost use Rattle.spl_reading.specs.Readers as readers;
 ghost use Rattle.spl_reading.specs.ReadExpressions as spec;
 ghost use Rattle.spl_tokens.specs.Reads.{Reads, lexeme, shown, paired, peeked, same_as};
-ghost use Rattle.spl_levels.specs.Parts.{form, tree_of, operand, found};
+ghost use Rattle.spl_parts.specs.Parts.{form, tree_of, operand, found};
 ghost use Rattle.spl_levels.specs.Pieces as pieces;
 ghost use Rattle.spl_levels.specs.Nests.{Nests, counted_bytes, level, turn, first, term, join, bytes, whole};
 
-use crate::comparison::Comparison;
-use crate::operands::opening;
-use crate::parts::{Found, Part};
+use spl_parts::{Comparison, Found, Part, combined, measured, shifted_by, signed};
 use spl_tokens::{
-    Fault, Tokens, binds, constant, is_number, is_sign, operator_of, same, shift_of, token_symbol,
+    Fault, Tokens, binds, constant, is_number, is_sign, opening, operator_of, same, shift_of,
+    token_symbol,
 };
-use spl_tree::{At, Const, Expr, Symbol, Token, binary, unary};
-use std::alloc::{AllocError, Global};
+use spl_tree::{At, Const, Expr, Symbol, Token, binary};
+use std::alloc::Global;
 
 /// The rules of the levels, where so many constructs may be opened, less those that `taken` counts.
 #[derive(Clone, Copy)]
@@ -48,52 +47,6 @@ fn shift_kind(tokens: &mut Tokens<'_>) -> Result<u8, Fault>
     }
 }
 
-/// A sign before a term.
-fn signed(alloc: Global, op: u8, of: Part, at: At) -> Result<Part, AllocError>
-    requires { IsTrue (operators.is_sign op) }
-    ensures shape { IfOk result (λ p. form p ≡ operators.other) }
-    ensures tree { IfOk result (λ p. tree_of p ≡ tree.Tree.unary (operators.sign_number op) (tree_of of) at) }
-{
-    let of = of.into_box(alloc)?;
-    Ok(Part::Other(Expr::Unary {
-        op: op - binary::PLUS,
-        of,
-        at,
-    }))
-}
-
-/// An operator between two operands.
-fn joined(alloc: Global, op: u8, left: Part, right: Part, at: At) -> Result<Part, AllocError>
-    ensures shape { IfOk result (λ p. form p ≡ operators.other) }
-    ensures tree { IfOk result (λ p. tree_of p ≡ tree.Tree.binary op (tree_of left) (tree_of right) at) }
-{
-    match left.into_box(alloc) {
-        Ok(left) => {
-            let right = right.into_box(alloc)?;
-            Ok(Part::Other(Expr::Binary {
-                op,
-                left,
-                right,
-                at,
-            }))
-        }
-        Err(error) => {
-            drop(right);
-            Err(error)
-        }
-    }
-}
-
-/// A shift, by its number and how far it goes.
-fn shifted_by(alloc: Global, of: Part, amount: (u8, Const), at: At) -> Result<Part, AllocError>
-    ensures shape { IfOk result (λ p. form p ≡ operators.other) }
-    ensures tree { IfOk result (λ p. tree_of p ≡ tree.Tree.shift amount.0 (tree_of of) (view.constant amount.1) at) }
-{
-    let of = of.into_box(alloc)?;
-    let (kind, by) = amount;
-    Ok(Part::Other(Expr::Shift { kind, of, by, at }))
-}
-
 /// The place of a part: that of the minus that belongs to its number, or else of its first token.
 fn begins(minus: Option<At>, at: At) -> At
     ensures { result ≡ spec.begins minus at }
@@ -104,67 +57,8 @@ fn begins(minus: Option<At>, at: At) -> At
     }
 }
 
-/// A comparison of so many bytes.
-fn measured(alloc: Global, of: Comparison, bytes: Expr) -> Result<Part, AllocError>
-    ensures shape { IfOk result (λ p. form p ≡ operators.other) }
-    ensures tree { IfOk result (λ p. tree_of p ≡ operators.bytes_of (tree_of (Part.Comparison of)) (view.expression bytes)) }
-{
-    let count = Box::new(alloc, bytes)?;
-    let Comparison {
-        op,
-        left,
-        right,
-        at,
-    } = of;
-    Ok(Part::Other(Expr::Bytes {
-        op,
-        left,
-        right,
-        count,
-        at,
-    }))
-}
-
-#[tactic(auto, unfolding(spl_tree::specs::Operators::binds))]
-/// A relation between two operands.
-fn related(alloc: Global, op: u8, left: Part, right: Part, at: At) -> Result<Part, AllocError>
-    requires { operators.binds op ≡ 4 }
-    ensures shape { IfOk result (λ p. form p ≡ operators.compared (form left) (form right)) }
-    ensures tree { IfOk result (λ p. tree_of p ≡ tree.Tree.binary op (tree_of left) (tree_of right) at) }
-{
-    match (left, right) {
-        (Part::Reference(left), Part::Reference(right)) => Ok(Part::Comparison(Comparison {
-            op: op - binary::EQUAL,
-            left,
-            right,
-            at,
-        })),
-        (left, right) => joined(alloc, op, left, right, at),
-    }
-}
-
-/// An operator between two operands; a relation, at its height.
-fn combined(
-    alloc: Global,
-    height: u8,
-    op: u8,
-    left: Part,
-    right: Part,
-    at: At,
-) -> Result<Part, AllocError>
-    requires { operators.binds op ≡ suc height }
-    ensures shape { IfOk result (λ p. form p ≡ (if suc height == 4 then operators.compared (form left) (form right) else operators.other)) }
-    ensures tree { IfOk result (λ p. tree_of p ≡ tree.Tree.binary op (tree_of left) (tree_of right) at) }
-{
-    if height == 3 {
-        related(alloc, op, left, right, at)
-    } else {
-        joined(alloc, op, left, right, at)
-    }
-}
-
 impl<F: Fn(Global, &mut Tokens<'_>, u8, u8, Option<At>) -> Result<Part, Fault> + Copy> Levels<F> {
-    #[tactic(auto, using(spl_tokens::proofs::Steps::steps), unfolding(spl_reading::specs::Readers::pure, spl_reading::specs::Readers::refuse, spl_reading::specs::Readers::followed, spl_reading::specs::Readers::and_then, crate::specs::Parts::operand, crate::specs::Parts::found, spl_reading::specs::ReadExpressions::counted))]
+    #[tactic(auto, using(spl_tokens::proofs::Steps::steps), unfolding(spl_reading::specs::Readers::pure, spl_reading::specs::Readers::refuse, spl_reading::specs::Readers::followed, spl_reading::specs::Readers::and_then, spl_parts::specs::Parts::operand, spl_parts::specs::Parts::found, spl_reading::specs::ReadExpressions::counted))]
     /// An operator or a mark `&` behind so many others of its expression.
     fn counted<'a>(&self, tokens: &mut Tokens<'a>, count: u16) -> Result<&'a Token, Fault>
         requires { self.now.taken + count / 8 ≤ self.now.room }
@@ -177,7 +71,7 @@ impl<F: Fn(Global, &mut Tokens<'_>, u8, u8, Option<At>) -> Result<Part, Fault> +
         tokens.allowed(open <= room)
     }
 
-    #[tactic(auto, using(spl_tokens::proofs::Steps::steps), unfolding(spl_reading::specs::Readers::pure, spl_reading::specs::Readers::refuse, spl_reading::specs::Readers::followed, spl_reading::specs::Readers::and_then, crate::specs::Parts::operand, crate::specs::Parts::found, spl_reading::specs::ReadExpressions::level))]
+    #[tactic(auto, using(spl_tokens::proofs::Steps::steps), unfolding(spl_reading::specs::Readers::pure, spl_reading::specs::Readers::refuse, spl_reading::specs::Readers::followed, spl_reading::specs::Readers::and_then, spl_parts::specs::Parts::operand, spl_parts::specs::Parts::found, spl_reading::specs::ReadExpressions::level))]
     /// An operand behind so many operators.
     fn operand(
         &self,
@@ -211,7 +105,7 @@ impl<F: Fn(Global, &mut Tokens<'_>, u8, u8, Option<At>) -> Result<Part, Fault> +
         Ok((kind, by))
     }
 
-    #[tactic(auto, using(spl_tokens::proofs::Steps::steps, crate::proofs::PieceLemmas::shifted_is), unfolding(spl_reading::specs::Readers::pure, spl_reading::specs::Readers::followed, spl_reading::specs::Readers::and_then, crate::specs::Parts::found))]
+    #[tactic(auto, using(spl_tokens::proofs::Steps::steps, crate::proofs::PieceLemmas::shifted_is), unfolding(spl_reading::specs::Readers::pure, spl_reading::specs::Readers::followed, spl_reading::specs::Readers::and_then, spl_parts::specs::Parts::found))]
     /// A shift of what was read, from its mark on.
     fn shifted(&self, tokens: &mut Tokens<'_>, of: Found, at: At) -> Result<(bool, Found), Fault>
         requires room { self.now.taken + of.count / 8 ≤ self.now.room }
@@ -232,7 +126,7 @@ impl<F: Fn(Global, &mut Tokens<'_>, u8, u8, Option<At>) -> Result<Part, Fault> +
         }
     }
 
-    #[tactic(auto, using(spl_tokens::proofs::Steps::steps), unfolding(spl_reading::specs::Readers::pure, spl_reading::specs::Readers::refuse, spl_reading::specs::Readers::followed, spl_reading::specs::Readers::and_then, crate::specs::Parts::operand, crate::specs::Parts::found, spl_reading::specs::ReadExpressions::level))]
+    #[tactic(auto, using(spl_tokens::proofs::Steps::steps), unfolding(spl_reading::specs::Readers::pure, spl_reading::specs::Readers::refuse, spl_reading::specs::Readers::followed, spl_reading::specs::Readers::and_then, spl_parts::specs::Parts::operand, spl_parts::specs::Parts::found, spl_reading::specs::ReadExpressions::level))]
     /// A part of a level behind so many operators.
     #[cycle(level)]
     fn level(
@@ -256,7 +150,7 @@ impl<F: Fn(Global, &mut Tokens<'_>, u8, u8, Option<At>) -> Result<Part, Fault> +
         self.rest(tokens, height - 1, of, at)
     }
 
-    #[tactic(auto, using(spl_tokens::proofs::Steps::steps), unfolding(spl_reading::specs::Readers::pure, spl_reading::specs::Readers::refuse, spl_reading::specs::Readers::followed, spl_reading::specs::Readers::and_then, crate::specs::Parts::operand, crate::specs::Parts::found, spl_reading::specs::ReadExpressions::first))]
+    #[tactic(auto, using(spl_tokens::proofs::Steps::steps), unfolding(spl_reading::specs::Readers::pure, spl_reading::specs::Readers::refuse, spl_reading::specs::Readers::followed, spl_reading::specs::Readers::and_then, spl_parts::specs::Parts::operand, spl_parts::specs::Parts::found, spl_reading::specs::ReadExpressions::first))]
     /// The first operand of the level above.
     #[cycle(level)]
     fn first(
@@ -283,7 +177,7 @@ impl<F: Fn(Global, &mut Tokens<'_>, u8, u8, Option<At>) -> Result<Part, Fault> +
         }
     }
 
-    #[tactic(auto, using(spl_tokens::proofs::Steps::steps), unfolding(spl_reading::specs::Readers::pure, spl_reading::specs::Readers::refuse, spl_reading::specs::Readers::followed, spl_reading::specs::Readers::and_then, crate::specs::Parts::operand, crate::specs::Parts::found, spl_reading::specs::ReadExpressions::signed_by_next))]
+    #[tactic(auto, using(spl_tokens::proofs::Steps::steps), unfolding(spl_reading::specs::Readers::pure, spl_reading::specs::Readers::refuse, spl_reading::specs::Readers::followed, spl_reading::specs::Readers::and_then, spl_parts::specs::Parts::operand, spl_parts::specs::Parts::found, spl_reading::specs::ReadExpressions::signed_by_next))]
     /// The term behind a sign.
     #[cycle(level)]
     fn term(
@@ -312,7 +206,7 @@ impl<F: Fn(Global, &mut Tokens<'_>, u8, u8, Option<At>) -> Result<Part, Fault> +
         }
     }
 
-    #[tactic(auto, using(spl_tokens::proofs::Steps::steps, spl_tokens::proofs::Turns::loops), unfolding(spl_reading::specs::Readers::pure, spl_reading::specs::Readers::refuse, spl_reading::specs::Readers::followed, spl_reading::specs::Readers::and_then, crate::specs::Parts::operand, crate::specs::Parts::found))]
+    #[tactic(auto, using(spl_tokens::proofs::Steps::steps, spl_tokens::proofs::Turns::loops), unfolding(spl_reading::specs::Readers::pure, spl_reading::specs::Readers::refuse, spl_reading::specs::Readers::followed, spl_reading::specs::Readers::and_then, spl_parts::specs::Parts::operand, spl_parts::specs::Parts::found))]
     /// What goes on with a part of the level above.
     #[cycle(level)]
     fn rest(&self, tokens: &mut Tokens<'_>, height: u8, of: Found, at: At) -> Result<Found, Fault>
@@ -334,7 +228,7 @@ impl<F: Fn(Global, &mut Tokens<'_>, u8, u8, Option<At>) -> Result<Part, Fault> +
         Err(Fault::Syntax)
     }
 
-    #[tactic(auto, using(spl_tokens::proofs::Steps::steps), unfolding(spl_reading::specs::Readers::pure, spl_reading::specs::Readers::refuse, spl_reading::specs::Readers::followed, spl_reading::specs::Readers::and_then, crate::specs::Parts::operand, crate::specs::Parts::found, spl_reading::specs::ReadExpressions::turn, spl_reading::specs::ReadExpressions::turn_by))]
+    #[tactic(auto, using(spl_tokens::proofs::Steps::steps), unfolding(spl_reading::specs::Readers::pure, spl_reading::specs::Readers::refuse, spl_reading::specs::Readers::followed, spl_reading::specs::Readers::and_then, spl_parts::specs::Parts::operand, spl_parts::specs::Parts::found, spl_reading::specs::ReadExpressions::turn, spl_reading::specs::ReadExpressions::turn_by))]
     /// One turn of it, and whether another may follow.
     #[cycle(level)]
     fn turn(
@@ -368,7 +262,7 @@ impl<F: Fn(Global, &mut Tokens<'_>, u8, u8, Option<At>) -> Result<Part, Fault> +
         }
     }
 
-    #[tactic(auto, using(spl_tokens::proofs::Steps::steps), unfolding(spl_reading::specs::Readers::pure, spl_reading::specs::Readers::refuse, spl_reading::specs::Readers::followed, spl_reading::specs::Readers::and_then, crate::specs::Parts::operand, crate::specs::Parts::found, spl_reading::specs::ReadExpressions::join))]
+    #[tactic(auto, using(spl_tokens::proofs::Steps::steps), unfolding(spl_reading::specs::Readers::pure, spl_reading::specs::Readers::refuse, spl_reading::specs::Readers::followed, spl_reading::specs::Readers::and_then, spl_parts::specs::Parts::operand, spl_parts::specs::Parts::found, spl_reading::specs::ReadExpressions::join))]
     /// An operator and its right operand.
     #[cycle(level)]
     fn join(
@@ -412,7 +306,7 @@ impl<F: Fn(Global, &mut Tokens<'_>, u8, u8, Option<At>) -> Result<Part, Fault> +
         ))
     }
 
-    #[tactic(auto, using(spl_tokens::proofs::Steps::steps), unfolding(spl_reading::specs::Readers::pure, spl_reading::specs::Readers::refuse, spl_reading::specs::Readers::followed, spl_reading::specs::Readers::and_then, crate::specs::Parts::operand, crate::specs::Parts::found))]
+    #[tactic(auto, using(spl_tokens::proofs::Steps::steps), unfolding(spl_reading::specs::Readers::pure, spl_reading::specs::Readers::refuse, spl_reading::specs::Readers::followed, spl_reading::specs::Readers::and_then, spl_parts::specs::Parts::operand, spl_parts::specs::Parts::found))]
     /// The number of bytes, where a comparison was read.
     #[cycle(level)]
     fn compared(&self, tokens: &mut Tokens<'_>, of: Found) -> Result<(bool, Found), Fault>
@@ -458,7 +352,7 @@ impl<F: Fn(Global, &mut Tokens<'_>, u8, u8, Option<At>) -> Result<Part, Fault> +
         }
     }
 
-    #[tactic(auto, using(spl_tokens::proofs::Steps::steps, crate::proofs::PieceLemmas::bytes_is), unfolding(spl_reading::specs::Readers::pure, spl_reading::specs::Readers::followed, spl_reading::specs::Readers::and_then, crate::specs::Parts::found))]
+    #[tactic(auto, using(spl_tokens::proofs::Steps::steps, crate::proofs::PieceLemmas::bytes_is), unfolding(spl_reading::specs::Readers::pure, spl_reading::specs::Readers::followed, spl_reading::specs::Readers::and_then, spl_parts::specs::Parts::found))]
     /// A comparison with its number of bytes, from its comma on.
     #[cycle(level)]
     fn bytes(
@@ -484,7 +378,7 @@ impl<F: Fn(Global, &mut Tokens<'_>, u8, u8, Option<At>) -> Result<Part, Fault> +
         }
     }
 
-    #[tactic(auto, using(spl_tokens::proofs::Steps::steps), unfolding(spl_reading::specs::Readers::pure, spl_reading::specs::Readers::refuse, spl_reading::specs::Readers::followed, spl_reading::specs::Readers::and_then, crate::specs::Parts::operand, crate::specs::Parts::found))]
+    #[tactic(auto, using(spl_tokens::proofs::Steps::steps), unfolding(spl_reading::specs::Readers::pure, spl_reading::specs::Readers::refuse, spl_reading::specs::Readers::followed, spl_reading::specs::Readers::and_then, spl_parts::specs::Parts::operand, spl_parts::specs::Parts::found))]
     /// A whole expression or condition.
     #[cycle(level)]
     pub fn whole(&self, tokens: &mut Tokens<'_>) -> Result<Expr, Fault>

@@ -1,11 +1,6 @@
-//! Expressions and conditions as parts of what stands around them: operands, and operators by their levels.
+//! Operators by their levels, from operands up to whole expressions and conditions, by what reads an operand.
 #![tactic(auto)]
 
-mod comparison;
-mod expressions;
 mod levels;
-mod operands;
-mod parts;
 
-pub use expressions::{arguments_within, condition_within, enclosed_within, expression_within};
-pub use operands::enter;
+pub use levels::Levels;

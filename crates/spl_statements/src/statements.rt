@@ -8,7 +8,7 @@ ghost use Rattle.spl_tree.specs.declared.symbols.Reserved.{Reserved};
 ghost use Rattle.spl_tree.specs.Views as view;
 ghost use Rattle.spl_reading.specs.Readers as readers;
 ghost use Rattle.spl_reading.specs.ReadStatements as spec;
-ghost use Rattle.spl_levels.specs.Parts.{expressions};
+ghost use Rattle.spl_within.specs.spl_parts.Parts.{expressions};
 ghost use Rattle.spl_tokens.specs.Reads.{Reads, lexeme, paired};
 ghost use Rattle.spl_effects.specs.References.{behind, statements};
 ghost use Rattle.spl_statements.specs.Nests.{Nests};
@@ -20,9 +20,9 @@ use crate::trees::{
     returned, single, until_true, while_true,
 };
 use spl_effects::{assigned, behind_reference, effect, element, test, variable};
-use spl_levels::{arguments_within, condition_within, enter, expression_within};
-use spl_tokens::{Fault, Tokens, name, same};
+use spl_tokens::{Fault, Tokens, enter, name, same};
 use spl_tree::{Expr, Reserved, Stmt, Symbol, Target, Test, Token};
+use spl_within::{arguments_within, condition_within, expression_within};
 use std::alloc::Global;
 
 /// The rules of statements, where so many constructs may be opened.

@@ -14,7 +14,7 @@ use Rattle.spl_reading.specs.ReadStatements as st
 use Rattle.spl_reading.specs.ReadDeclarations as r
 use Rattle.spl_reading.specs.ReadDeclarations.{bodies}
 use Rattle.spl_units.specs.declared.units.UnitParts.{UnitParts}
-use Rattle.spl_items.specs.Lists as lists
+use Rattle.spl_listed.specs.Lists as lists
 
 abbrev pub parts : UnitParts → decl.UnitTree
 parts u = record {

@@ -5,11 +5,11 @@ ghost use Rattle.spl_reading.specs.ReadStatements as stat;
 ghost use Rattle.spl_reading.specs.ReadDeclarations as spec;
 ghost use Rattle.spl_reading.specs.ReadDeclarations.{bodies};
 ghost use Rattle.spl_tokens.specs.Reads.{Reads, shown};
-ghost use Rattle.spl_items.specs.Lists as lists;
+ghost use Rattle.spl_listed.specs.Lists as lists;
 ghost use Rattle.spl_units.specs.UnitParts as parts;
 
 use spl_declarations::Declarations;
-use spl_items::{all_in_segment, can_be_body};
+use spl_listed::{all_in_segment, can_be_body};
 use spl_statements::{statement, statement_list};
 use spl_tokens::{Fault, Tokens, same};
 use spl_tree::{At, Decl, Reserved, Stmt, Symbol, Token};

@@ -1,8 +1,8 @@
 //! Expressions and conditions worked by hand: how many tokens one takes, and where its first fault is.
 
 use super::tokens::tokens;
-use spl_levels::{condition_within, expression_within};
 use spl_tokens::{Fault, Tokens};
+use spl_within::{condition_within, expression_within};
 use std::test::Fail;
 
 /// What a list of tokens begins with: a part of so many tokens, or a fault at a token, counted from 0.

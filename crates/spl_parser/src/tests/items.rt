@@ -1,7 +1,8 @@
 //! Lists of declarations worked by hand: how many parts they have and where they end, or where their first fault is.
 
 use super::tokens::tokens;
-use spl_items::{arrays, equals, items, names, parameters, pointers};
+use spl_headings::{names, parameters};
+use spl_items::{arrays, equals, items, pointers};
 use spl_tokens::{Fault, Tokens};
 use std::test::Fail;
 

@@ -1,6 +1,6 @@
 use Rattle.std.proofs.Common.{◌≡◌, ◌-◌}
 use Rattle.spl_reading.specs.Readers.{turns, repeat}
-use Rattle.spl_items.specs.Lists as lists
+use Rattle.spl_listed.specs.Lists as lists
 use Rattle.spl_reading.specs.ReadDeclarations as r
 use Rattle.spl_items.proofs.equates.more_terms.Given as goal
 

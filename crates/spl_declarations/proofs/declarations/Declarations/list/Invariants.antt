@@ -1,6 +1,6 @@
 use Rattle.std.proofs.Common.{◌≡◌, ◌-◌}
 use Rattle.spl_reading.specs.Readers.{turns, repeat}
-use Rattle.spl_items.specs.Lists as lists
+use Rattle.spl_listed.specs.Lists as lists
 use Rattle.spl_declarations.specs.Nests as nests
 use Rattle.spl_declarations.proofs.declarations.Declarations.list.Given as goal
 

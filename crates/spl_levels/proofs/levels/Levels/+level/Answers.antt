@@ -2,7 +2,7 @@ use Rattle.std.proofs.Common.{arith, ◌+◌, ◌/◌, ◌≡◌, false, ℕ, su
 use Rattle.spl_tree.specs.Operators.{is_sign}
 use Rattle.spl_reading.specs.Readers.{pure, refuse, followed, and_then}
 use Rattle.spl_reading.specs.ReadExpressions as r
-use Rattle.spl_levels.specs.Parts.{found}
+use Rattle.spl_parts.specs.Parts.{found}
 use Rattle.spl_levels.specs.Pieces.{length}
 use Rattle.spl_tokens.proofs.Steps.{steps, by_peek}
 use Rattle.spl_levels.proofs.LevelLemmas.{first_sum, level_up, within_is, turn_shifted, turn_compared}

@@ -1,6 +1,6 @@
 use Rattle.std.proofs.Common.{ℕ, ◌≡◌, ◌+◌, ◌-◌, ◌*◌, ◌/◌, ◌≤◌, Bool, if◌then◌else◌}
 use Rattle.spl_reading.specs.Readers.{turns, repeat}
-use Rattle.spl_levels.specs.Parts.{found}
+use Rattle.spl_parts.specs.Parts.{found}
 use Rattle.spl_levels.specs.Nests.{turn}
 use Rattle.spl_levels.proofs.levels.Levels.+level.Given as goal
 

@@ -1,0 +1,3 @@
+pub mod ViewLemmas
+pub mod NestLemmas
+pub mod PieceLemmas

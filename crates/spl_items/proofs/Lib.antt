@@ -1,4 +1,0 @@
-pub mod ItemLemmas
-pub mod SpecLemmas
-pub mod OptionLemmas
-pub mod TreeLemmas
