@@ -1,26 +1,17 @@
 //! MOVE and SCAN, and where their answers go.
 ghost use Rattle.std.specs.Prelude.{◌≡◌};
 ghost use Rattle.spl_tree.specs.Views as view;
-ghost use Rattle.spl_sorts.specs.spl_meaning.Kinds as kinds;
 ghost use Rattle.spl_sorts.specs.spl_meaning.ExpressionRules as expressions;
 ghost use Rattle.spl_sorts.specs.spl_meaning.StatementRules as rules;
 ghost use Rattle.spl_found.specs.FoundExpressions.{found_far};
 ghost use Rattle.spl_found.specs.FoundStatements as found;
-ghost use Rattle.spl_sorts.specs.Tables.{names_of};
 ghost use Rattle.spl_uses.specs.Scopes.{scope_of};
 
 use crate::targets::{index, pointer, reference_target, target_kind};
 use crate::values::single_value;
-use spl_sorts::{Names, Report, variable_kind};
+use spl_sorts::Report;
 use spl_tree::{At, Effect, Kind, Ref, Source, Target};
-use spl_uses::{Scope, far, field, has_elements, reference};
-
-/// The kind of what a reference names.
-fn kind_at(names: &Names<'_>, r: &Ref) -> Option<Kind>
-    ensures { result ≡ kinds.reference_kind (names_of names.now) (view.reference r.now) }
-{
-    variable_kind(names.find(&r.name))
-}
+use spl_uses::{Scope, far, field, has_elements, kind_at, reference};
 
 /// Whether it is BYTE, or no kind.
 fn may_be_byte(kind: Option<Kind>) -> bool

@@ -5,10 +5,10 @@ use Rattle.spl_meaning.specs.spl_tree.declared.names_and_places.At.{At}
 use Rattle.spl_meaning.specs.spl_tree.Trees as tree
 use Rattle.spl_meaning.specs.spl_tree.Trees.{Tree, Trees}
 use Rattle.spl_meaning.specs.Names.{Formal}
-use Rattle.spl_meaning.specs.Kinds.{compares_text, callable, complement, reference_kind}
+use Rattle.spl_meaning.specs.Kinds.{compares_text, callable, complement}
 use Rattle.spl_meaning.specs.Pending.{first_formal, other_formals, profile_formals}
 use Rattle.spl_meaning.specs.Faults.{Fault, unless, first_fault}
-use Rattle.spl_meaning.specs.ExpressionRules.{Scope, is_callable, is_reference_formal, is_label_name, argument_faults, bits_faults, single_faults, may_be_byte, far_faults, binary_faults, name_by, count, faults, located_faults, indices_faults, arguments_faults}
+use Rattle.spl_meaning.specs.ExpressionRules.{Scope, rule_reference, may_compare_text, is_callable, is_reference_formal, is_label_name, argument_faults, bits_faults, single_faults, may_be_byte, far_faults, binary_faults, name_by, count, faults, located_faults, indices_faults, arguments_faults}
 use Rattle.spl_found.specs.FoundExpressions.{found, found_located, found_far, found_indices, found_arguments}
 use Rattle.spl_found.proofs.Order.{first_then}
 
@@ -34,19 +34,22 @@ mutual
   found_is sc around (tree.Tree.unary op e at) f = chosen (op == complement) (found sc at e f) _ _ (bits_faults sc.names at e) [] refl refl
       ∙ ap (λ (g : Option Fault). first_fault g (if op == complement then bits_faults sc.names at e else [])) (found_is sc at e f) ∙ simp first_then refl
   found_is sc around (tree.Tree.binary op a b at) f = chosen (compares_text sc.names op a b) f _ _
-      (faults sc at a ++ far_faults sc a) (faults sc at a ++ faults sc at b ++ binary_faults sc.names op a b at)
+      (faults sc at a ++ far_faults sc a)
+      (if may_compare_text sc.names op a b then faults sc at a else faults sc at a ++ faults sc at b ++ binary_faults sc.names op a b at)
       (rw (found_is sc at a f) (simp first_then refl))
-      (rw (found_is sc at a f, found_is sc at b (first_fault f (faults sc at a))) (simp first_then refl))
+      (chosen (may_compare_text sc.names op a b) f _ _ (faults sc at a) (faults sc at a ++ faults sc at b ++ binary_faults sc.names op a b at)
+      (found_is sc at a f)
+      (rw (found_is sc at a f, found_is sc at b (first_fault f (faults sc at a))) (simp first_then refl)))
   found_is sc around (tree.Tree.shift op e by at) f = rw (found_is sc at e f) (simp first_then refl)
   found_is sc around (tree.Tree.field e start size at) f = rw (found_is sc at e f) (simp first_then refl)
   found_is sc around (tree.Tree.transfer k e at) f = found_is sc at e f
   found_is sc around (tree.Tree.bytes op a b size at) f =
       ap (λ (g : Option Fault). first_fault g (single_faults sc.names at size)) (found_is sc at size _)
       ∙ ap (λ (g : Option Fault). first_fault (first_fault (first_fault (first_fault g (far_faults sc b))
-      (unless (may_be_byte (reference_kind sc.names a) && may_be_byte (reference_kind sc.names b)) 24 at)) (faults sc at size)) (single_faults sc.names at size))
+      (unless (may_be_byte (rule_reference sc.names a) && may_be_byte (rule_reference sc.names b)) 24 at)) (faults sc at size)) (single_faults sc.names at size))
       (located_is sc b _)
       ∙ ap (λ (g : Option Fault). first_fault (first_fault (first_fault (first_fault (first_fault (first_fault g (far_faults sc a)) (located_faults sc b)) (far_faults sc b))
-      (unless (may_be_byte (reference_kind sc.names a) && may_be_byte (reference_kind sc.names b)) 24 at)) (faults sc at size)) (single_faults sc.names at size))
+      (unless (may_be_byte (rule_reference sc.names a) && may_be_byte (rule_reference sc.names b)) 24 at)) (faults sc at size)) (single_faults sc.names at size))
       (located_is sc a f)
       ∙ simp first_then refl
 

@@ -7,10 +7,10 @@ use Rattle.spl_meaning.specs.spl_tree.Trees.{Tree, Trees}
 use Rattle.spl_meaning.specs.spl_tree.StatementTrees as stat
 use Rattle.spl_meaning.specs.spl_tree.StatementTrees.{Statement, Statements, Target, Effect, Test}
 use Rattle.spl_meaning.specs.Names.{same_name}
-use Rattle.spl_meaning.specs.Kinds.{reference_kind, callable}
+use Rattle.spl_meaning.specs.Kinds.{callable}
 use Rattle.spl_meaning.specs.Pending.{profile_formals}
 use Rattle.spl_meaning.specs.Faults.{Fault, fault, unless, first_fault}
-use Rattle.spl_meaning.specs.ExpressionRules.{Scope, count, has_elements, field_faults, bits_faults, single_faults, may_be_byte, faults, indices_faults}
+use Rattle.spl_meaning.specs.ExpressionRules.{Scope, rule_reference, count, has_elements, field_faults, bits_faults, single_faults, may_be_byte, faults, indices_faults}
 use Rattle.spl_meaning.specs.StatementRules as sr
 use Rattle.spl_found.specs.FoundExpressions.{found, found_far}
 use Rattle.spl_found.specs.FoundStatements.{found_reference, found_single, found_condition, found_assign, found_effect, found_answer, found_assign_effect, found_call, found_step, found_test, with_list, found_statement, found_statements, found_arms, found_body}
@@ -65,14 +65,14 @@ effect_is sc (stat.Effect.move to (stat.Source.counted from size)) at f = rw (
   moved_is sc to f,
   moved_is sc from (first_fault f (sr.moved_faults sc to)),
   single_is sc at size (first_fault (first_fault (first_fault f (sr.moved_faults sc to)) (sr.moved_faults sc from))
-      (unless (sr.moves (reference_kind sc.names to) (reference_kind sc.names from)) 24 at)),
+      (unless (sr.moves (rule_reference sc.names to) (rule_reference sc.names from)) 24 at)),
 ) (simp first_then refl)
 effect_is sc (stat.Effect.move to (stat.Source.text bytes)) at f = rw (moved_is sc to f) (simp first_then refl)
 effect_is sc (stat.Effect.move to (stat.Source.class_of from c)) at f = rw (moved_is sc to f, moved_is sc from (first_fault f (sr.moved_faults sc to))) (simp first_then refl)
 effect_is sc (stat.Effect.scan from until test) at f = rw (
   moved_is sc from f,
   single_is sc at test
-      (first_fault (first_fault f (sr.moved_faults sc from)) (unless (may_be_byte (reference_kind sc.names from)) 24 at)),
+      (first_fault (first_fault f (sr.moved_faults sc from)) (unless (may_be_byte (rule_reference sc.names from)) 24 at)),
 ) (simp first_then refl)
 
 pub answer_is : (sc : Scope) (r : Tree) (at : At) (f : Option Fault) → found_answer sc r at f ≡ first_fault f (sr.answer_faults sc r at)

@@ -4,10 +4,10 @@ use Rattle.spl_meaning.specs.spl_tree.declared.names_and_places.At.{At}
 use Rattle.spl_meaning.specs.spl_tree.Trees as tree
 use Rattle.spl_meaning.specs.spl_tree.Trees.{Tree, Trees}
 use Rattle.spl_meaning.specs.Names.{Formal, text_value, constant_value}
-use Rattle.spl_meaning.specs.Kinds.{is_double, kind_of, reference_kind, compares_text, callable, complement}
+use Rattle.spl_meaning.specs.Kinds.{is_double, compares_text, callable, complement}
 use Rattle.spl_meaning.specs.Pending.{first_formal, other_formals, profile_formals}
 use Rattle.spl_meaning.specs.Faults.{Fault, unless, first_fault}
-use Rattle.spl_meaning.specs.ExpressionRules.{Scope, in_range, constant_place, constant_faults, field_faults, is_pointer, count, variable_faults, name_by, is_callable, single_faults, bits_faults, is_reference_formal, is_label_name, argument_faults, far_faults, may_be_byte, binary_faults}
+use Rattle.spl_meaning.specs.ExpressionRules.{Scope, rule_kind, rule_reference, may_compare_text, in_range, constant_place, constant_faults, field_faults, is_pointer, count, variable_faults, name_by, is_callable, single_faults, bits_faults, is_reference_formal, is_label_name, argument_faults, far_faults, may_be_byte, binary_faults}
 
 unfoldable mutual
   -- an expression, in a scope and in a part with this place
@@ -26,16 +26,17 @@ unfoldable mutual
       if op == complement then first_fault (found sc at e f) (bits_faults sc.names at e) else found sc at e f
   found sc around (tree.Tree.binary op a b at) f =
       if compares_text sc.names op a b then first_fault (found sc at a f) (far_faults sc a)
+      else if may_compare_text sc.names op a b then found sc at a f
       else first_fault (found sc at b (found sc at a f)) (binary_faults sc.names op a b at)
   found sc around (tree.Tree.shift op e by at) f =
-      first_fault (first_fault (first_fault (found sc at e f) (unless (not (is_double (kind_of sc.names e))) 5 at)) (constant_faults sc.names at by))
+      first_fault (first_fault (first_fault (found sc at e f) (unless (not (is_double (rule_kind sc.names e))) 5 at)) (constant_faults sc.names at by))
       (unless (in_range (pos 0) (pos 15) (constant_value sc.names by)) 13 (constant_place at by))
   found sc around (tree.Tree.field e start size at) f =
-      first_fault (first_fault (found sc at e f) (unless (not (is_double (kind_of sc.names e))) 5 at)) (field_faults sc.names start size at)
+      first_fault (first_fault (found sc at e f) (unless (not (is_double (rule_kind sc.names e))) 5 at)) (field_faults sc.names start size at)
   found sc around (tree.Tree.transfer k e at) f = found sc at e f
   found sc around (tree.Tree.bytes op a b size at) f =
       first_fault (found sc at size (first_fault (first_fault (found_located sc b (first_fault (found_located sc a f) (far_faults sc a))) (far_faults sc b))
-      (unless (may_be_byte (reference_kind sc.names a) && may_be_byte (reference_kind sc.names b)) 24 at))) (single_faults sc.names at size)
+      (unless (may_be_byte (rule_reference sc.names a) && may_be_byte (rule_reference sc.names b)) 24 at))) (single_faults sc.names at size)
 
   -- a reference
   pub found_located : Scope → Tree → Option Fault → Option Fault

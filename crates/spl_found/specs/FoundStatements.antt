@@ -6,10 +6,10 @@ use Rattle.spl_meaning.specs.spl_tree.Trees as tree
 use Rattle.spl_meaning.specs.spl_tree.Trees.{Tree, Trees}
 use Rattle.spl_meaning.specs.spl_tree.StatementTrees as stat
 use Rattle.spl_meaning.specs.spl_tree.StatementTrees.{Statement, Statements, Target, Effect, Test}
-use Rattle.spl_meaning.specs.Kinds.{kind_of, reference_kind, callable}
+use Rattle.spl_meaning.specs.Kinds.{callable}
 use Rattle.spl_meaning.specs.Pending.{profile_formals}
 use Rattle.spl_meaning.specs.Faults.{Fault, fault, unless, first_fault}
-use Rattle.spl_meaning.specs.ExpressionRules.{Scope, count, has_elements, field_faults, bits_faults, single_faults, may_be_byte}
+use Rattle.spl_meaning.specs.ExpressionRules.{Scope, rule_kind, rule_reference, count, has_elements, field_faults, bits_faults, single_faults, may_be_byte}
 use Rattle.spl_meaning.specs.StatementRules.{has_name, target_by, target_kind, target_kind_by, pointer_faults, fit_faults, is_single, field_kind, moves, may_be_moved_to, called_by, counter_by, sets_code, list_labels, label_faults}
 use Rattle.spl_found.specs.FoundExpressions.{found, found_far, found_indices, found_arguments}
 
@@ -29,23 +29,23 @@ found_condition sc at e f = first_fault (found sc at e f) (bits_faults sc.names 
 -- an assignment of a value
 abbrev pub found_assign : Scope → Target → Tree → At → Option Fault → Option Fault
 found_assign sc (stat.Target.plain r) e at f =
-    first_fault (found sc at e (found_reference sc r f)) (fit_faults (target_kind sc.names r) (kind_of sc.names e) at)
+    first_fault (found sc at e (found_reference sc r f)) (fit_faults (target_kind sc.names r) (rule_kind sc.names e) at)
 found_assign sc (stat.Target.field r start size) e at f =
     first_fault (found sc at e (first_fault (first_fault (found_reference sc r f) (unless (is_single (target_kind sc.names r)) 5 at))
-    (field_faults sc.names start size at))) (fit_faults (field_kind (target_kind sc.names r)) (kind_of sc.names e) at)
+    (field_faults sc.names start size at))) (fit_faults (field_kind (target_kind sc.names r)) (rule_kind sc.names e) at)
 found_assign sc (stat.Target.address x a) e at f =
-    first_fault (found sc at e (first_fault f (pointer_faults sc x (sc.names x) a))) (fit_faults (Some kind.Logical) (kind_of sc.names e) at)
+    first_fault (found sc at e (first_fault f (pointer_faults sc x (sc.names x) a))) (fit_faults (Some kind.Logical) (rule_kind sc.names e) at)
 
 -- a MOVE or a SCAN
 abbrev pub found_effect : Scope → Effect → At → Option Fault → Option Fault
 found_effect sc (stat.Effect.move to (stat.Source.counted from size)) at f =
-    found_single sc at size (first_fault (found_far sc from (found_far sc to f)) (unless (moves (reference_kind sc.names to) (reference_kind sc.names from)) 24 at))
+    found_single sc at size (first_fault (found_far sc from (found_far sc to f)) (unless (moves (rule_reference sc.names to) (rule_reference sc.names from)) 24 at))
 found_effect sc (stat.Effect.move to (stat.Source.text bytes)) at f =
-    first_fault (found_far sc to f) (unless (may_be_moved_to (reference_kind sc.names to)) 24 at)
+    first_fault (found_far sc to f) (unless (may_be_moved_to (rule_reference sc.names to)) 24 at)
 found_effect sc (stat.Effect.move to (stat.Source.class_of from c)) at f =
-    first_fault (found_far sc from (found_far sc to f)) (unless (may_be_byte (reference_kind sc.names to) && may_be_byte (reference_kind sc.names from)) 24 at)
+    first_fault (found_far sc from (found_far sc to f)) (unless (may_be_byte (rule_reference sc.names to) && may_be_byte (rule_reference sc.names from)) 24 at)
 found_effect sc (stat.Effect.scan from until test) at f =
-    found_single sc at test (first_fault (found_far sc from f) (unless (may_be_byte (reference_kind sc.names from)) 24 at))
+    found_single sc at test (first_fault (found_far sc from f) (unless (may_be_byte (rule_reference sc.names from)) 24 at))
 
 -- the target of the answer of a MOVE or a SCAN
 abbrev pub found_answer : Scope → Tree → At → Option Fault → Option Fault

@@ -7,7 +7,7 @@ use Rattle.spl_tree.specs.Trees as tree
 use Rattle.spl_tree.specs.Trees.{Tree, Trees, Constant}
 use Rattle.spl_meaning.specs.Names as n
 use Rattle.spl_meaning.specs.Names.{Names, Sort, Formal, Profile, text_value, constant_value}
-use Rattle.spl_meaning.specs.Kinds.{Operand, Class, mixed, class_of, is_double, is_logical, is_constant, is_unknown, is_byte, kind_of, reference_kind, variable_kind, compares_text, callable, works_on_bits, multiplies, complement}
+use Rattle.spl_meaning.specs.Kinds.{Operand, Class, mixed, class_of, unknown, is_double, is_logical, is_constant, is_unknown, is_byte, is_relation, is_long_text, unary_operand, binary_operand, named_operand, kind_of, reference_kind, variable_kind, compares_text, callable, works_on_bits, multiplies, complement}
 use Rattle.spl_meaning.specs.Pending.{by_value, first_formal, other_formals, profile_formals}
 use Rattle.spl_meaning.specs.Faults.{Fault, fault, unless}
 
@@ -102,10 +102,12 @@ abbrev pub in_range : ℤ → ℤ → Option ℤ → Bool
 in_range low high None = true
 in_range low high (Some v) = int_le low v && int_le v high
 
--- a bit field: its first bit, and a length of at least 1, within the word
-abbrev pub is_field : Option ℤ → Option ℤ → Bool
+-- a bit field: its first bit, and a length of at least 1, within the word; where one of them has no value, the other by itself
+unfoldable pub is_field : Option ℤ → Option ℤ → Bool
 is_field (Some start) (Some size) = int_le (pos 0) start && int_le (pos 1) size && int_le (start +ℤ size) (pos 16)
-is_field _ _ = true
+is_field (Some start) None = int_le (pos 0) start && int_le start (pos 15)
+is_field None (Some size) = int_le (pos 1) size && int_le size (pos 16)
+is_field None None = true
 
 -- 13: a bit field is out of range
 abbrev pub field_faults : Names → Constant → Constant → At → List Fault
@@ -152,6 +154,44 @@ count (tree.Trees.and e es) = 1 + count es
 abbrev pub index_fits : Option Sort → ℕ → Bool
 index_fits s n = if has_elements s then nat_le n 1 else n == 0
 
+-- ---- kinds as far as rules go
+
+-- a name that may not stand where a value has to be: it is not declared, it is a label, or its index has no sense. Of one that is wrongly
+-- declared nothing is said, and a call's arguments have rules of their own.
+unfoldable pub is_misused : Option Sort → ℕ → Bool
+is_misused None given = true
+is_misused (Some n.unknown) given = false
+is_misused (Some n.label) given = true
+is_misused (Some (n.intrinsic i)) given = false
+is_misused (Some (n.procedure p)) given = false
+is_misused (Some (n.subroutine p)) given = false
+is_misused s given = not (index_fits s given)
+
+-- what a name in an expression is: nothing is known of one that is misused
+abbrev pub rule_operand : Option Sort → ℕ → Operand
+rule_operand s given = if is_misused s given then unknown else named_operand s
+
+-- The kind of an expression that rules go by. A name that is misused breaks 1 or 3, so it has none, and no rule on kinds is broken besides.
+abbrev pub rule_kind : Names → Tree → Operand
+rule_kind names (tree.Tree.named x es at) = rule_operand (names x) (count es)
+rule_kind names (tree.Tree.unary op e at) = unary_operand op (rule_kind names e)
+rule_kind names (tree.Tree.binary op a b at) = binary_operand op (rule_kind names a) (rule_kind names b)
+rule_kind names e = kind_of names e
+
+-- the kind of what an expression names by itself, where it is not misused
+abbrev pub rule_reference : Names → Tree → Option Kind
+rule_reference names (tree.Tree.named x es at) = if is_misused (names x) (count es) then None else variable_kind (names x)
+rule_reference names _ = None
+
+-- whether an expression is a name that is misused
+abbrev pub is_misused_name : Names → Tree → Bool
+is_misused_name names (tree.Tree.named x es at) = is_misused (names x) (count es)
+is_misused_name names _ = false
+
+-- a relation of a name that is misused with a string, which may be meant to compare bytes
+abbrev pub may_compare_text : Names → ℕ → Tree → Tree → Bool
+may_compare_text names op a b = is_relation op && is_misused_name names a && is_long_text b
+
 -- 27: in a split procedure a global variable
 abbrev pub split_use : Scope → List ℕ → At → List Fault
 split_use sc x at = unless (not sc.split || sc.is_local x) 27 at
@@ -196,11 +236,11 @@ is_callable None = false
 -- a value of one word: 14: it is a wide constant. 23: it is a DOUBLE.
 abbrev pub single_faults : Names → At → Tree → List Fault
 single_faults names around (tree.Tree.wide v) = fault 14 around ∷ []
-single_faults names around e = unless (not (is_double (kind_of names e))) 23 (place_in around e)
+single_faults names around e = unless (not (is_double (rule_kind names e))) 23 (place_in around e)
 
 -- 7: a condition or an operand is INTEGER or DOUBLE
 abbrev pub bits_faults : Names → At → Tree → List Fault
-bits_faults names around e = unless (is_bits (kind_of names e)) 7 (place_in around e)
+bits_faults names around e = unless (is_bits (rule_kind names e)) 7 (place_in around e)
 
 -- a name that is not declared, or wrongly
 abbrev pub is_open_sort : Option Sort → Bool
@@ -232,7 +272,7 @@ is_label_name names _ = false
 abbrev pub argument_faults : Names → Option Formal → Tree → At → List Fault
 argument_faults names None e at = []
 argument_faults names (Some f) e at =
-    if by_value f then unless (value_fits f.kind (kind_of names e)) 9 (place_in at e)
+    if by_value f then unless (value_fits f.kind (rule_kind names e)) 9 (place_in at e)
     else unless (is_open names e || passes f.kind (reference_kind names e)) 10 (place_in at e)
 
 -- an argument's own faults: where a reference has to be, a label is only that
@@ -253,7 +293,7 @@ may_be_byte k = is_byte k
 abbrev pub binary_faults : Names → ℕ → Tree → Tree → At → List Fault
 binary_faults names op a b at =
     if works_on_bits op then bits_faults names at a ++ bits_faults names at b
-    else unless (mixes (kind_of names a) (kind_of names b)) 4 at ++ unless (is_operation op (kind_of names a) (kind_of names b)) 5 at
+    else unless (mixes (rule_kind names a) (rule_kind names b)) 4 at ++ unless (is_operation op (rule_kind names a) (rule_kind names b)) 5 at
 
 -- ---- expressions
 
@@ -275,18 +315,19 @@ abbrev mutual
   -- 4: kinds are mixed. 5: the operation is not one of this kind.
   faults sc around (tree.Tree.binary op a b at) =
       if compares_text sc.names op a b then faults sc at a ++ far_faults sc a
+      else if may_compare_text sc.names op a b then faults sc at a
       else faults sc at a ++ faults sc at b ++ binary_faults sc.names op a b at
   -- 5: a shift of a DOUBLE. 13: a count out of range.
   faults sc around (tree.Tree.shift op e by at) =
-      faults sc at e ++ unless (not (is_double (kind_of sc.names e))) 5 at ++ constant_faults sc.names at by
+      faults sc at e ++ unless (not (is_double (rule_kind sc.names e))) 5 at ++ constant_faults sc.names at by
       ++ unless (in_range (pos 0) (pos 15) (constant_value sc.names by)) 13 (constant_place at by)
   faults sc around (tree.Tree.field e start size at) =
-      faults sc at e ++ unless (not (is_double (kind_of sc.names e))) 5 at ++ field_faults sc.names start size at
+      faults sc at e ++ unless (not (is_double (rule_kind sc.names e))) 5 at ++ field_faults sc.names start size at
   faults sc around (tree.Tree.transfer k e at) = faults sc at e
   -- 24: a comparison of bytes of anything but BYTEs
   faults sc around (tree.Tree.bytes op a b size at) =
       located_faults sc a ++ far_faults sc a ++ located_faults sc b ++ far_faults sc b
-      ++ unless (may_be_byte (reference_kind sc.names a) && may_be_byte (reference_kind sc.names b)) 24 at
+      ++ unless (may_be_byte (rule_reference sc.names a) && may_be_byte (rule_reference sc.names b)) 24 at
       ++ faults sc at size ++ single_faults sc.names at size
 
   -- a reference

@@ -1,5 +1,5 @@
 -- The laws of runs, and of the first rule that is broken.
-use Rattle.std.specs.Prelude.{ℕ, suc, ◌≡◌, ◌≢◌, ◌≤◌, ◌<◌, ◌++◌, ◌↔◌, List, length, Option, Some, None, false}
+use Rattle.std.specs.Prelude.{ℕ, suc, ◌≡◌, ◌≢◌, ◌≤◌, ◌<◌, ◌++◌, ◌↔◌, List, [], length, Option, Some, None, false}
 use Rattle.hp_word.specs.declared.endings.Ending.TheVariants.{Running}
 use Rattle.spl_meaning.specs.Tables.{Source}
 use Rattle.spl_tree.specs.Trees.{Tree}
@@ -9,7 +9,9 @@ use Rattle.spl_meaning.specs.Values.{Who, value}
 use Rattle.spl_meaning.specs.Statements.{run_all, run_body}
 use Rattle.spl_meaning.specs.Bodies.{Body, Named, Program}
 use Rattle.spl_meaning.specs.Runs.{Seat, calls, run_program, run_of, alone, begins, stands}
+use Rattle.spl_meaning.specs.Kinds.{kind_of}
 use Rattle.spl_meaning.specs.Faults.{Fault, fault, is_before}
+use Rattle.spl_meaning.specs.ExpressionRules.{Scope, rule_kind, faults}
 use Rattle.spl_meaning.specs.Sound.{Breaks, IsSound, first_broken}
 use Rattle.spl_tree.specs.declared.names_and_places.At.{At}
 
@@ -39,6 +41,10 @@ FirstRulesAreBroken = (us : List Source) (f : Fault) → first_broken us ≡ Som
 -- units are sound exactly where there is no first rule that they break
 abbrev pub SoundUnitsBreakNone : Type 0
 SoundUnitsBreakNone = (us : List Source) → (first_broken us ≡ None) ↔ IsSound us
+
+-- where an expression breaks no rule, the kind that rules go by is its kind
+abbrev pub RuleKindsAreKinds : Type 0
+RuleKindsAreKinds = (sc : Scope) (around : At) (e : Tree) → faults sc around e ≡ [] → rule_kind sc.names e ≡ kind_of sc.names e
 
 -- ---- what one step more does
 

@@ -10,11 +10,11 @@ use Rattle.spl_tree.specs.StatementTrees.{Statement, Statements, Target, Source,
 use Rattle.spl_tree.specs.DeclarationTrees.{Placed}
 use Rattle.spl_meaning.specs.Names as n
 use Rattle.spl_meaning.specs.Names.{Names, Sort, Profile, same_name}
-use Rattle.spl_meaning.specs.Kinds.{Operand, kind_of, reference_kind, variable_kind, callable}
+use Rattle.spl_meaning.specs.Kinds.{Operand, variable_kind, callable}
 use Rattle.spl_meaning.specs.Statements.{is_intrinsic_alone, is_intrinsic, target_keeps_code}
 use Rattle.spl_meaning.specs.Faults.{Fault, fault, unless}
 use Rattle.spl_meaning.specs.Pending.{profile_formals}
-use Rattle.spl_meaning.specs.ExpressionRules.{Scope, fits, count, has_elements, field_faults, variable_faults, split_use, call_faults, bits_faults, single_faults, may_be_byte, far_faults, faults, located_faults, indices_faults, arguments_faults}
+use Rattle.spl_meaning.specs.ExpressionRules.{Scope, fits, count, has_elements, rule_kind, rule_reference, field_faults, variable_faults, split_use, call_faults, bits_faults, single_faults, may_be_byte, far_faults, faults, located_faults, indices_faults, arguments_faults}
 
 -- ---- targets
 
@@ -75,13 +75,13 @@ field_kind (Some k) = Some kind.Logical
 
 -- an assignment of a value
 abbrev pub assign_faults : Scope → Target → Tree → At → List Fault
-assign_faults sc (stat.Target.plain r) e at = reference_faults sc r ++ faults sc at e ++ fit_faults (target_kind sc.names r) (kind_of sc.names e) at
+assign_faults sc (stat.Target.plain r) e at = reference_faults sc r ++ faults sc at e ++ fit_faults (target_kind sc.names r) (rule_kind sc.names e) at
 -- 5: a bit field of a BYTE or a DOUBLE
 assign_faults sc (stat.Target.field r start size) e at =
     reference_faults sc r ++ unless (is_single (target_kind sc.names r)) 5 at ++ field_faults sc.names start size at ++ faults sc at e
-    ++ fit_faults (field_kind (target_kind sc.names r)) (kind_of sc.names e) at
+    ++ fit_faults (field_kind (target_kind sc.names r)) (rule_kind sc.names e) at
 assign_faults sc (stat.Target.address x a) e at =
-    pointer_faults sc x (sc.names x) a ++ faults sc at e ++ fit_faults (Some kind.Logical) (kind_of sc.names e) at
+    pointer_faults sc x (sc.names x) a ++ faults sc at e ++ fit_faults (Some kind.Logical) (rule_kind sc.names e) at
 
 -- ---- MOVE and SCAN
 
@@ -108,14 +108,14 @@ moved_faults sc r = located_faults sc r ++ far_faults sc r
 -- 24: operands do not match. 23: a count or a test word is a DOUBLE.
 abbrev pub effect_faults : Scope → Effect → At → List Fault
 effect_faults sc (stat.Effect.move to (stat.Source.counted from size)) at =
-    moved_faults sc to ++ moved_faults sc from ++ unless (moves (reference_kind sc.names to) (reference_kind sc.names from)) 24 at
+    moved_faults sc to ++ moved_faults sc from ++ unless (moves (rule_reference sc.names to) (rule_reference sc.names from)) 24 at
     ++ faults sc at size ++ single_faults sc.names at size
-effect_faults sc (stat.Effect.move to (stat.Source.text bytes)) at = moved_faults sc to ++ unless (may_be_moved_to (reference_kind sc.names to)) 24 at
+effect_faults sc (stat.Effect.move to (stat.Source.text bytes)) at = moved_faults sc to ++ unless (may_be_moved_to (rule_reference sc.names to)) 24 at
 effect_faults sc (stat.Effect.move to (stat.Source.class_of from c)) at =
     moved_faults sc to ++ moved_faults sc from
-    ++ unless (may_be_byte (reference_kind sc.names to) && may_be_byte (reference_kind sc.names from)) 24 at
+    ++ unless (may_be_byte (rule_reference sc.names to) && may_be_byte (rule_reference sc.names from)) 24 at
 effect_faults sc (stat.Effect.scan from until test) at =
-    moved_faults sc from ++ unless (may_be_byte (reference_kind sc.names from)) 24 at ++ faults sc at test ++ single_faults sc.names at test
+    moved_faults sc from ++ unless (may_be_byte (rule_reference sc.names from)) 24 at ++ faults sc at test ++ single_faults sc.names at test
 
 -- the answer of a MOVE or a SCAN goes to a simple variable of one word
 -- 3: to an array, a pointer or an element. 6: to a DOUBLE.

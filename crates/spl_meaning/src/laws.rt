@@ -1,5 +1,5 @@
 //! Laws of runs and rules, each as the contract of a function that does nothing.
-ghost use Rattle.spl_meaning.specs.Laws.{EndedRunsStay, PrintsOnlyGrow, LogsOnlyGrow, StepsGoOn, BoundsDoNotMatter, FirstRulesAreBroken, SoundUnitsBreakNone};
+ghost use Rattle.spl_meaning.specs.Laws.{EndedRunsStay, PrintsOnlyGrow, LogsOnlyGrow, StepsGoOn, BoundsDoNotMatter, FirstRulesAreBroken, SoundUnitsBreakNone, RuleKindsAreKinds};
 
 /// A run that has ended, or strayed, stays as it is.
 pub fn ended_runs_stay()
@@ -35,4 +35,9 @@ pub fn first_rules_are_broken()
 /// Units are sound exactly where there is no first rule that they break.
 pub fn sound_units_break_none()
     ensures { SoundUnitsBreakNone }
+{}
+
+/// Where an expression breaks no rule, the kind that rules go by is its kind.
+pub fn rule_kinds_are_kinds()
+    ensures { RuleKindsAreKinds }
 {}

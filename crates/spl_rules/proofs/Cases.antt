@@ -9,10 +9,10 @@ use Rattle.spl_meaning.specs.spl_tree.Trees.{Tree, Constant}
 use Rattle.spl_meaning.specs.spl_tree.StatementTrees as stat
 use Rattle.spl_meaning.specs.Names as n
 use Rattle.spl_meaning.specs.Names.{Names, Sort, Formal}
-use Rattle.spl_meaning.specs.Kinds.{kind_of, is_double, reference_kind}
+use Rattle.spl_meaning.specs.Kinds.{is_double, reference_kind}
 use Rattle.spl_meaning.specs.Pending.{by_value}
 use Rattle.spl_meaning.specs.Faults.{Fault, fault, unless, IsAmong}
-use Rattle.spl_meaning.specs.ExpressionRules.{place_in, constant_place, is_equate, is_open_sort, is_open, value_fits, passes, constant_name}
+use Rattle.spl_meaning.specs.ExpressionRules.{place_in, constant_place, rule_kind, is_equate, is_open_sort, is_open, value_fits, passes, constant_name}
 use Rattle.spl_meaning.specs.DeclarationRules.{is_wide, fits_double, is_double_kind, statement_place}
 use Rattle.spl_rules.specs.Parts as part
 use Rattle.spl_rules.specs.Parts.{Part}
@@ -99,7 +99,7 @@ here_broken (part.argument names None e at) f m = absurd m
 here_broken (part.argument names (Some g) e at) f m = by (by_value g) refl m
   where
     by : (t : Bool) → by_value g ≡ t
-        → IsAmong f (if t then unless (value_fits g.kind (kind_of names e)) 9 (place_in at e)
+        → IsAmong f (if t then unless (value_fits g.kind (rule_kind names e)) 9 (place_in at e)
         else unless (is_open names e || passes g.kind (reference_kind names e)) 10 (place_in at e))
         → Broken (part.argument names (Some g) e at) f
     by true t m = failed (part.argument names (Some g) e at) f _ 9 (place_in at e) (λ h. b.wrong_value t h) m
@@ -203,20 +203,20 @@ constant_wrong names around at x s d e = by s (ap (λ (t : Option Sort). is_equa
     by (Some n.unknown) e = cc
     by (Some s) e = inl refl
 
-argument_value : (names : Names) (g : Formal) (x : Tree) (at : At) → by_value g ≡ true → value_fits g.kind (kind_of names x) ≡ false
+argument_value : (names : Names) (g : Formal) (x : Tree) (at : At) → by_value g ≡ true → value_fits g.kind (rule_kind names x) ≡ false
     → IsAmong (fault 9 (place_in at x)) (here (part.argument names (Some g) x at))
 argument_value names g x at t e =
-    subst (λ u. IsAmong (fault 9 (place_in at x)) (if u then unless (value_fits g.kind (kind_of names x)) 9 (place_in at x)
+    subst (λ u. IsAmong (fault 9 (place_in at x)) (if u then unless (value_fits g.kind (rule_kind names x)) 9 (place_in at x)
     else unless (is_open names x || passes g.kind (reference_kind names x)) 10 (place_in at x))) (sym t) (fails _ 9 (place_in at x) e)
 
 argument_reference : (names : Names) (g : Formal) (x : Tree) (at : At) → by_value g ≡ false
     → (is_open names x || passes g.kind (reference_kind names x)) ≡ false
     → IsAmong (fault 10 (place_in at x)) (here (part.argument names (Some g) x at))
 argument_reference names g x at t e =
-    subst (λ u. IsAmong (fault 10 (place_in at x)) (if u then unless (value_fits g.kind (kind_of names x)) 9 (place_in at x)
+    subst (λ u. IsAmong (fault 10 (place_in at x)) (if u then unless (value_fits g.kind (rule_kind names x)) 9 (place_in at x)
     else unless (is_open names x || passes g.kind (reference_kind names x)) 10 (place_in at x))) (sym t) (fails _ 10 (place_in at x) e)
 
-word_double : (names : Names) (at : At) (x : Tree) → allowed.is_wide_number x ≡ false → is_double (kind_of names x) ≡ true
+word_double : (names : Names) (at : At) (x : Tree) → allowed.is_wide_number x ≡ false → is_double (rule_kind names x) ≡ true
     → IsAmong (fault 23 (place_in at x)) (here (part.word names at x))
 word_double names at (tree.Tree.wide v) d e = cc
 word_double names at x d e = fails _ 23 (place_in at x) (false_not _ e)

@@ -12,14 +12,14 @@ use Rattle.spl_meaning.specs.spl_tree.StatementTrees.{Statement, Statements, Tar
 use Rattle.spl_meaning.specs.spl_tree.DeclarationTrees as decl
 use Rattle.spl_meaning.specs.spl_tree.DeclarationTrees.{Placed, Spec, Heading, Item, Equal, Term, Declaration, Declarations, declarations}
 use Rattle.spl_meaning.specs.Names.{Names, Sort, Formal, Table, find, within, nothing_declared, parameters, formals_of}
-use Rattle.spl_meaning.specs.Kinds.{kind_of, callable}
+use Rattle.spl_meaning.specs.Kinds.{callable}
 use Rattle.spl_meaning.specs.Pending.{profile_formals, first_formal, other_formals}
 use Rattle.spl_meaning.specs.Tables as unit
 use Rattle.spl_meaning.specs.Tables.{Routine, declared, shaped, with_equates, with_intrinsics, with_labels, with_declaration}
 use Rattle.spl_meaning.specs.Bodies.{all_routines}
 use Rattle.spl_meaning.specs.Faults.{Fault, fault, unless}
 use Rattle.spl_meaning.specs.Sound.{all_faults, faults_behind}
-use Rattle.spl_meaning.specs.ExpressionRules.{Scope, count, is_callable, is_reference_formal, is_label_name, has_elements, name_by, own_faults, field_faults, faults, located_faults, indices_faults, arguments_faults}
+use Rattle.spl_meaning.specs.ExpressionRules.{Scope, count, rule_kind, is_callable, is_reference_formal, is_label_name, has_elements, name_by, own_faults, field_faults, faults, located_faults, indices_faults, arguments_faults}
 use Rattle.spl_meaning.specs.StatementRules.{may_be_moved_to, target_kind_by, reference_faults, assign_faults, effect_faults, target_by, answer_by, answer_faults, assign_effect_faults, call_statement_faults, step_faults, test_faults, repeated, statement_faults, statements_faults, arms_faults, body_faults, list_labels, sets_code, all_labels, all_labels_of}
 use Rattle.spl_meaning.specs.DeclarationRules.{Around, shape_faults, initials_faults, items_faults, terms_faults, equates_faults, intrinsics_faults, labels_faults, not_parameters, array_values, without_kind, split_parameters, all_listed, heading_faults, external_faults, Waiting, waiting_behind, subroutine_scope, declared_subroutine, local_faults_of, local_faults, procedure_scope, procedure_faults, global_faults, globals_faults, silent_faults, main_scope, unit_faults}
 use Rattle.spl_rules.specs.Parts as part
@@ -127,9 +127,9 @@ assign_gathered : (sc : Scope) (to : Target) (e : Tree) (at : At) → assign_fau
 assign_gathered sc (stat.Target.plain r) e at = simp (shapes, target_gathered sc r, faults_gathered sc at e) refl
 assign_gathered sc (stat.Target.field r start size) e at = simp (shapes, target_gathered sc r, faults_gathered sc at e) refl
 assign_gathered sc (stat.Target.address x a) e at =
-    two (part.name part.pointer sc x 0 a ∷ expression_parts sc at e) (part.assigned (Some kind.Logical) (kind_of sc.names e) at ∷ [])
+    two (part.name part.pointer sc x 0 a ∷ expression_parts sc at e) (part.assigned (Some kind.Logical) (rule_kind sc.names e) at ∷ [])
     (next (part.name part.pointer sc x 0 a) (expression_parts sc at e) (pointer_is sc x (sc.names x) a) (faults_gathered sc at e))
-    (one (part.assigned (Some kind.Logical) (kind_of sc.names e) at))
+    (one (part.assigned (Some kind.Logical) (rule_kind sc.names e) at))
 
 effect_gathered : (sc : Scope) (e : Effect) (at : At) → effect_faults sc e at ≡ gather (effect_parts sc e at)
 effect_gathered sc (stat.Effect.move to (stat.Source.counted from size)) at =

@@ -9,10 +9,10 @@ use Rattle.spl_meaning.specs.spl_tree.Trees.{Constant}
 use Rattle.spl_meaning.specs.spl_tree.StatementTrees as stat
 use Rattle.spl_meaning.specs.spl_tree.StatementTrees.{Target, Effect, Source}
 use Rattle.spl_meaning.specs.Names.{Names, Sort, within, same_name, profile_of, lists, spec_of, is_array_in, intrinsic_named, text_value, constant_value, sum_value}
-use Rattle.spl_meaning.specs.Kinds.{kind_of, is_double, reference_kind}
+use Rattle.spl_meaning.specs.Kinds.{is_double}
 use Rattle.spl_meaning.specs.Pending.{by_value}
 use Rattle.spl_meaning.specs.Faults.{Fault, fault, unless, IsAmong}
-use Rattle.spl_meaning.specs.ExpressionRules.{Scope, constant_place, mixes, is_operation, in_range, is_field, is_pointer, may_be_byte, has_elements, constant_faults, call_faults, argument_faults, bits_faults, single_faults, far_faults}
+use Rattle.spl_meaning.specs.ExpressionRules.{Scope, constant_place, mixes, is_operation, in_range, is_field, is_pointer, rule_kind, rule_reference, may_be_byte, has_elements, constant_faults, call_faults, argument_faults, bits_faults, single_faults, far_faults}
 use Rattle.spl_meaning.specs.StatementRules.{target_kind, target_kind_by, is_single, moves, may_be_moved_to, has_name, is_listed, fit_faults}
 use Rattle.spl_meaning.specs.DeclarationRules.{bounds_fit, is_wide, fits_double, values_fit, may_begin, gets_body, same_profile, statement_place, is_empty_statement, twice, base_faults, procedure_by}
 use Rattle.spl_rules.specs.Parts as part
@@ -27,11 +27,11 @@ name_tests role sc x s given at =
 
 -- the test of a MOVE or a SCAN
 abbrev pub effect_test : Names → Effect → At → List Fault
-effect_test names (stat.Effect.move to (stat.Source.counted from size)) at = unless (moves (reference_kind names to) (reference_kind names from)) 24 at
-effect_test names (stat.Effect.move to (stat.Source.text bytes)) at = unless (may_be_moved_to (reference_kind names to)) 24 at
+effect_test names (stat.Effect.move to (stat.Source.counted from size)) at = unless (moves (rule_reference names to) (rule_reference names from)) 24 at
+effect_test names (stat.Effect.move to (stat.Source.text bytes)) at = unless (may_be_moved_to (rule_reference names to)) 24 at
 effect_test names (stat.Effect.move to (stat.Source.class_of from c)) at =
-    unless (may_be_byte (reference_kind names to) && may_be_byte (reference_kind names from)) 24 at
-effect_test names (stat.Effect.scan from until word) at = unless (may_be_byte (reference_kind names from)) 24 at
+    unless (may_be_byte (rule_reference names to) && may_be_byte (rule_reference names from)) 24 at
+effect_test names (stat.Effect.scan from until word) at = unless (may_be_byte (rule_reference names from)) 24 at
 
 abbrev pub answered_test : Target → At → List Fault
 answered_test (stat.Target.plain r) at = []
@@ -52,13 +52,13 @@ here (part.text bytes at) = unless (is_some (text_value bytes)) 14 at
 here (part.bits names at e) = bits_faults names at e
 here (part.word names at e) = single_faults names at e
 here (part.operation names op a b at) =
-    unless (mixes (kind_of names a) (kind_of names b)) 4 at ++ unless (is_operation op (kind_of names a) (kind_of names b)) 5 at
-here (part.shifted names e at) = unless (not (is_double (kind_of names e))) 5 at
+    unless (mixes (rule_kind names a) (rule_kind names b)) 4 at ++ unless (is_operation op (rule_kind names a) (rule_kind names b)) 5 at
+here (part.shifted names e at) = unless (not (is_double (rule_kind names e))) 5 at
 here (part.shift_count names c at) = unless (in_range (pos 0) (pos 15) (constant_value names c)) 13 (constant_place at c)
 here (part.field names start size at) = unless (is_field (constant_value names start) (constant_value names size)) 13 at
 here (part.address sc x at) = unless (not sc.split || is_pointer (sc.names x)) 27 at
 here (part.far sc r) = far_faults sc r
-here (part.compared names a b at) = unless (may_be_byte (reference_kind names a) && may_be_byte (reference_kind names b)) 24 at
+here (part.compared names a b at) = unless (may_be_byte (rule_reference names a) && may_be_byte (rule_reference names b)) 24 at
 here (part.assigned k e at) = fit_faults k e at
 here (part.replaced names r at) = unless (is_single (target_kind names r)) 5 at
 here (part.effect names e at) = effect_test names e at

@@ -1,5 +1,6 @@
 mod Here
 mod Cases
 mod NameTests
+mod Misused
 mod Gathered
 mod Listed

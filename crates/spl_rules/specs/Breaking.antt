@@ -1,4 +1,4 @@
--- The 28 rules: which part breaks which rule, and at which place.
+-- The 28 rules: which part breaks which rule, and at which place. Kinds are those that rules go by: a name that is misused has none.
 use Rattle.std.specs.Prelude.{ℕ, ◌≡◌, ◌==◌, ◌&&◌, ◌||◌, Bool, true, false, pos, neg_ℤ, List, Option, Some, None, is_some, length}
 use Rattle.spl_meaning.specs.spl_tree.declared.names_and_places.At.{At}
 use Rattle.spl_meaning.specs.spl_tree.declared.expressions.Kind.{Kind}
@@ -8,10 +8,10 @@ use Rattle.spl_meaning.specs.spl_tree.StatementTrees as stat
 use Rattle.spl_meaning.specs.spl_tree.StatementTrees.{Statement, Target, Source, Effect}
 use Rattle.spl_meaning.specs.spl_tree.DeclarationTrees.{Placed, Spec, Heading, Item, Term, Declarations}
 use Rattle.spl_meaning.specs.Names.{Names, Sort, Formal, Profile, Table, find, within, same_name, profile_of, lists, spec_of, is_array_in, intrinsic_named, text_value, constant_value, sum_value}
-use Rattle.spl_meaning.specs.Kinds.{Operand, kind_of, is_double, reference_kind}
+use Rattle.spl_meaning.specs.Kinds.{Operand, is_double, reference_kind}
 use Rattle.spl_meaning.specs.Pending.{by_value}
 use Rattle.spl_meaning.specs.Tables.{Routine}
-use Rattle.spl_meaning.specs.ExpressionRules.{Scope, place_in, constant_place, mixes, is_operation, is_bits, in_range, is_field, is_subroutine, is_pointer, is_equate, is_open_sort, is_open, value_fits, passes, may_be_byte, fits, has_elements}
+use Rattle.spl_meaning.specs.ExpressionRules.{Scope, place_in, constant_place, mixes, is_operation, is_bits, rule_kind, rule_reference, in_range, is_field, is_subroutine, is_pointer, is_equate, is_open_sort, is_open, value_fits, passes, may_be_byte, fits, has_elements}
 use Rattle.spl_meaning.specs.StatementRules.{target_kind, target_kind_by, is_single, moves, may_be_moved_to, has_name, is_listed}
 use Rattle.spl_meaning.specs.DeclarationRules.{Around, bounds_fit, is_base, is_double_kind, is_wide, values_fit, may_begin, gets_body, same_profile, statement_place, is_empty_statement}
 use Rattle.spl_rules.specs.Parts as part
@@ -42,24 +42,24 @@ pub data BreaksHere : ℕ → Part → At → Type 0 where
   answer_to_a_field : {r : Tree} {start size : Constant} {at : At} → BreaksHere 3 (part.answered (stat.Target.field r start size) at) at
   answer_to_an_address : {x : List ℕ} {a at : At} → BreaksHere 3 (part.answered (stat.Target.address x a) at) at
   -- 4: kinds of operands are mixed
-  mixed : {names : Names} {op : ℕ} {a b : Tree} {at : At} → mixes (kind_of names a) (kind_of names b) ≡ false
+  mixed : {names : Names} {op : ℕ} {a b : Tree} {at : At} → mixes (rule_kind names a) (rule_kind names b) ≡ false
       → BreaksHere 4 (part.operation names op a b at) at
   -- 5: the operation is not one of this kind
-  no_operation : {names : Names} {op : ℕ} {a b : Tree} {at : At} → is_operation op (kind_of names a) (kind_of names b) ≡ false
+  no_operation : {names : Names} {op : ℕ} {a b : Tree} {at : At} → is_operation op (rule_kind names a) (rule_kind names b) ≡ false
       → BreaksHere 5 (part.operation names op a b at) at
-  double_shifted : {names : Names} {e : Tree} {at : At} → is_double (kind_of names e) ≡ true → BreaksHere 5 (part.shifted names e at) at
+  double_shifted : {names : Names} {e : Tree} {at : At} → is_double (rule_kind names e) ≡ true → BreaksHere 5 (part.shifted names e at) at
   bits_of_no_word : {names : Names} {r : Tree} {at : At} → is_single (target_kind names r) ≡ false → BreaksHere 5 (part.replaced names r at) at
   -- 6: a value that is assigned does not fit
   no_fit : {k : Kind} {e : Operand} {at : At} → fits k e ≡ false → BreaksHere 6 (part.assigned (Some k) e at) at
   double_answer : {s : Option Sort} {at : At} → has_elements s ≡ false → may_be_moved_to (target_kind_by s) ≡ false
       → BreaksHere 6 (part.answer_kind s at) at
   -- 7: a condition, or an operand of NOT, AND, OR, LAND, LOR or XOR, is INTEGER or DOUBLE
-  no_bits : {names : Names} {at : At} {e : Tree} → is_bits (kind_of names e) ≡ false → BreaksHere 7 (part.bits names at e) (place_in at e)
+  no_bits : {names : Names} {at : At} {e : Tree} → is_bits (rule_kind names e) ≡ false → BreaksHere 7 (part.bits names at e) (place_in at e)
   -- 8: the number of arguments is wrong
   wrong_number : {sc : Scope} {x : List ℕ} {p : Profile} {given : ℕ} {used : Bool} {at : At} → (given == length p.formals) ≡ false
       → BreaksHere 8 (part.call sc x p given used at) at
   -- 9: a value argument does not fit
-  wrong_value : {names : Names} {f : Formal} {e : Tree} {at : At} → by_value f ≡ true → value_fits f.kind (kind_of names e) ≡ false
+  wrong_value : {names : Names} {f : Formal} {e : Tree} {at : At} → by_value f ≡ true → value_fits f.kind (rule_kind names e) ≡ false
       → BreaksHere 9 (part.argument names (Some f) e at) (place_in at e)
   -- 10: a reference argument is no variable, element, array or pointer, or its kind does not match
   wrong_reference : {names : Names} {f : Formal} {e : Tree} {at : At} → by_value f ≡ false
@@ -128,19 +128,19 @@ pub data BreaksHere : ℕ → Part → At → Type 0 where
   no_counter : {role : Role} {sc : Scope} {x : List ℕ} {given : ℕ} {at : At} → allowed.counts role (sc.names x) ≡ false
       → BreaksHere 23 (part.name role sc x given at) at
   -- or a part of a FOR or a CASE, an index, a count or a test word is DOUBLE
-  double_word : {names : Names} {at : At} {e : Tree} → allowed.is_wide_number e ≡ false → is_double (kind_of names e) ≡ true
+  double_word : {names : Names} {at : At} {e : Tree} → allowed.is_wide_number e ≡ false → is_double (rule_kind names e) ≡ true
       → BreaksHere 23 (part.word names at e) (place_in at e)
   -- 24: the operands of a MOVE, a SCAN or a comparison of bytes do not match
-  unlike_moved : {names : Names} {to from size : Tree} {at : At} → moves (reference_kind names to) (reference_kind names from) ≡ false
+  unlike_moved : {names : Names} {to from size : Tree} {at : At} → moves (rule_reference names to) (rule_reference names from) ≡ false
       → BreaksHere 24 (part.effect names (stat.Effect.move to (stat.Source.counted from size)) at) at
-  text_to_doubles : {names : Names} {to : Tree} {bytes : List ℕ} {at : At} → may_be_moved_to (reference_kind names to) ≡ false
+  text_to_doubles : {names : Names} {to : Tree} {bytes : List ℕ} {at : At} → may_be_moved_to (rule_reference names to) ≡ false
       → BreaksHere 24 (part.effect names (stat.Effect.move to (stat.Source.text bytes)) at) at
   letters_of_no_bytes : {names : Names} {to from : Tree} {c : ℕ} {at : At}
-      → (may_be_byte (reference_kind names to) && may_be_byte (reference_kind names from)) ≡ false
+      → (may_be_byte (rule_reference names to) && may_be_byte (rule_reference names from)) ≡ false
       → BreaksHere 24 (part.effect names (stat.Effect.move to (stat.Source.class_of from c)) at) at
-  no_bytes_scanned : {names : Names} {from word : Tree} {until : Bool} {at : At} → may_be_byte (reference_kind names from) ≡ false
+  no_bytes_scanned : {names : Names} {from word : Tree} {until : Bool} {at : At} → may_be_byte (rule_reference names from) ≡ false
       → BreaksHere 24 (part.effect names (stat.Effect.scan from until word) at) at
-  no_bytes_compared : {names : Names} {a b : Tree} {at : At} → (may_be_byte (reference_kind names a) && may_be_byte (reference_kind names b)) ≡ false
+  no_bytes_compared : {names : Names} {a b : Tree} {at : At} → (may_be_byte (rule_reference names a) && may_be_byte (rule_reference names b)) ≡ false
       → BreaksHere 24 (part.compared names a b at) at
   -- 25: RETURN in the main body
   main_return : {sc : Scope} {at : At} → sc.is_main ≡ true → BreaksHere 25 (part.leave sc at) at

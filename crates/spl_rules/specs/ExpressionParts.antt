@@ -6,7 +6,7 @@ use Rattle.spl_meaning.specs.spl_tree.Trees.{Tree, Trees, Constant}
 use Rattle.spl_meaning.specs.Names.{Names, Formal, Profile}
 use Rattle.spl_meaning.specs.Kinds.{compares_text, callable, works_on_bits, complement}
 use Rattle.spl_meaning.specs.Pending.{profile_formals, first_formal, other_formals}
-use Rattle.spl_meaning.specs.ExpressionRules.{Scope, count, is_callable, is_reference_formal, is_label_name}
+use Rattle.spl_meaning.specs.ExpressionRules.{Scope, count, is_callable, is_reference_formal, is_label_name, may_compare_text}
 use Rattle.spl_rules.specs.Parts as part
 use Rattle.spl_rules.specs.Parts.{Part}
 
@@ -41,9 +41,10 @@ abbrev mutual
   expression_parts sc around (tree.Tree.address x es at) =
       part.name part.variable sc x (count es) at ∷ part.address sc x at ∷ indices_parts sc es at
   expression_parts sc around (tree.Tree.unary op e at) = expression_parts sc at e ++ (if op == complement then part.bits sc.names at e ∷ [] else [])
-  -- a string behind a relation with BYTEs is no word
+  -- a string behind a relation with BYTEs is no word, nor is one behind a relation with a name that is misused
   expression_parts sc around (tree.Tree.binary op a b at) =
       if compares_text sc.names op a b then expression_parts sc at a ++ part.far sc a ∷ []
+      else if may_compare_text sc.names op a b then expression_parts sc at a
       else expression_parts sc at a ++ expression_parts sc at b ++ operation_parts sc.names op a b at
   expression_parts sc around (tree.Tree.shift op e by at) =
       expression_parts sc at e ++ part.shifted sc.names e at ∷ part.constant sc.names at by ∷ part.shift_count sc.names by at ∷ []

@@ -7,9 +7,9 @@ use Rattle.spl_meaning.specs.spl_tree.Trees.{Tree, Trees}
 use Rattle.spl_meaning.specs.spl_tree.StatementTrees as stat
 use Rattle.spl_meaning.specs.spl_tree.StatementTrees.{Statement, Statements, Target, Source, Effect, Test}
 use Rattle.spl_meaning.specs.spl_tree.DeclarationTrees.{Placed}
-use Rattle.spl_meaning.specs.Kinds.{kind_of, callable}
+use Rattle.spl_meaning.specs.Kinds.{callable}
 use Rattle.spl_meaning.specs.Pending.{profile_formals}
-use Rattle.spl_meaning.specs.ExpressionRules.{Scope, count}
+use Rattle.spl_meaning.specs.ExpressionRules.{Scope, count, rule_kind}
 use Rattle.spl_meaning.specs.StatementRules.{target_kind, field_kind, sets_code, list_labels, all_labels_of}
 use Rattle.spl_rules.specs.Parts as part
 use Rattle.spl_rules.specs.Parts.{Part, Role}
@@ -23,12 +23,12 @@ target_parts role sc _ = []
 -- an assignment of a value
 abbrev pub assign_parts : Scope → Target → Tree → At → List Part
 assign_parts sc (stat.Target.plain r) e at =
-    target_parts part.target sc r ++ expression_parts sc at e ++ part.assigned (target_kind sc.names r) (kind_of sc.names e) at ∷ []
+    target_parts part.target sc r ++ expression_parts sc at e ++ part.assigned (target_kind sc.names r) (rule_kind sc.names e) at ∷ []
 assign_parts sc (stat.Target.field r start size) e at =
     target_parts part.target sc r ++ part.replaced sc.names r at ∷ field_parts sc.names start size at ++ expression_parts sc at e
-    ++ part.assigned (field_kind (target_kind sc.names r)) (kind_of sc.names e) at ∷ []
+    ++ part.assigned (field_kind (target_kind sc.names r)) (rule_kind sc.names e) at ∷ []
 assign_parts sc (stat.Target.address x a) e at =
-    part.name part.pointer sc x 0 a ∷ expression_parts sc at e ++ part.assigned (Some kind.Logical) (kind_of sc.names e) at ∷ []
+    part.name part.pointer sc x 0 a ∷ expression_parts sc at e ++ part.assigned (Some kind.Logical) (rule_kind sc.names e) at ∷ []
 
 -- a reference of a MOVE or a SCAN
 abbrev pub moved_parts : Scope → Tree → List Part

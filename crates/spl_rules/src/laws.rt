@@ -1,5 +1,5 @@
 //! Laws of rules, each as the contract of a function that does nothing.
-ghost use Rattle.spl_rules.specs.Laws.{RulesAreListed, FirstRulesAreFirst, SoundUnitsKeepAll};
+ghost use Rattle.spl_rules.specs.Laws.{RulesAreListed, FirstRulesAreFirst, SoundUnitsKeepAll, MisusedNamesBreak};
 
 use spl_meaning::first_rules_are_broken;
 
@@ -18,4 +18,9 @@ pub fn first_rules_are_first()
 /// Units are sound exactly where no part breaks a rule.
 pub fn sound_units_keep_all()
     ensures { SoundUnitsKeepAll }
+{}
+
+/// A name is misused exactly where it breaks 1 or 3 in an expression.
+pub fn misused_names_break()
+    ensures { MisusedNamesBreak }
 {}

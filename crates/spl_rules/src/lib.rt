@@ -3,4 +3,6 @@
 
 mod laws;
 
-pub use laws::{first_rules_are_first, rules_are_listed, sound_units_keep_all};
+pub use laws::{
+    first_rules_are_first, misused_names_break, rules_are_listed, sound_units_keep_all,
+};

@@ -58,12 +58,16 @@ pub fn in_range(low: i64, high: i64, value: Option<i64>) -> bool
     }
 }
 
-/// Whether these are the first bit and the length of a bit field, where they have values: at least one bit, within the word.
+/// Whether these are the first bit and the length of a bit field: at least one bit, within the word. Where one of them has no value, the
+/// other is looked at by itself.
+#[tactic(auto, unfolding(spl_meaning::specs::ExpressionRules::is_field))]
 pub fn is_field(start: Option<i64>, length: Option<i64>) -> bool
     ensures { result ≡ rules.is_field start length }
 {
     match (start, length) {
         (Some(start), Some(length)) => 0 <= start && 1 <= length && length <= 16 - start,
-        _ => true,
+        (Some(start), None) => 0 <= start && start <= 15,
+        (None, Some(length)) => 1 <= length && length <= 16,
+        (None, None) => true,
     }
 }

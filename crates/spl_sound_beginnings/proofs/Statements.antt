@@ -12,14 +12,14 @@ use Rattle.spl_sound_names.specs.spl_tree.StatementTrees as stat
 use Rattle.spl_sound_names.specs.spl_tree.StatementTrees.{Statement, Statements, Target}
 use Rattle.spl_sound_names.specs.spl_meaning.Names as n
 use Rattle.spl_sound_names.specs.spl_meaning.Names.{Sort, same_name, text_value}
-use Rattle.spl_sound_names.specs.spl_meaning.Kinds.{kind_of, is_double, callable, variable_kind, compares_text, complement}
+use Rattle.spl_sound_names.specs.spl_meaning.Kinds.{is_double, callable, variable_kind, compares_text, complement}
 use Rattle.spl_sound_names.specs.spl_meaning.Pending.{profile_formals}
 use Rattle.spl_sound_names.specs.spl_meaning.Places.{Place}
 use Rattle.spl_sound_names.specs.spl_meaning.References.{access_of}
 use Rattle.spl_sound_names.specs.spl_meaning.Values.{sense_of}
 use Rattle.spl_sound_names.specs.spl_meaning.Faults.{Fault, fault, unless}
 use Rattle.spl_sound_names.specs.spl_meaning.ExpressionRules as rule
-use Rattle.spl_sound_names.specs.spl_meaning.ExpressionRules.{count, variable_by, variable_faults, uncalled_by, name_by, is_callable, faults, far_faults, indices_faults, arguments_faults, binary_faults, bits_faults, field_faults, is_pointer}
+use Rattle.spl_sound_names.specs.spl_meaning.ExpressionRules.{count, rule_kind, may_compare_text, variable_by, variable_faults, uncalled_by, name_by, is_callable, faults, far_faults, indices_faults, arguments_faults, binary_faults, bits_faults, field_faults, is_pointer}
 use Rattle.spl_sound_names.specs.spl_meaning.StatementRules.{has_name, called_by, reference_faults, pointer_faults, fit_faults, field_kind, target_kind, is_single, assign_faults, condition_faults, single_value_faults, step_faults, counter_by, test_faults, own_labels, list_labels, statement_faults, statements_faults, arms_faults, sets_code}
 use Rattle.spl_beginnings.specs.spl_code.Calls.{Scope}
 use Rattle.spl_piece_kinds.specs.spl_module_code.LabelsOfBodies.{Label, labels_in, labels_among}
@@ -86,10 +86,11 @@ named_found sc p f e found x given at none = by (sc.names x) refl none
     by (Some (n.procedure q)) is none = refl
     by (Some (n.subroutine q)) is none = or_left (is_some (e x)) (is_some q.result) (found.inner x (n.subroutine q) is refl)
 
--- what stands first in both cases
-first_of : (b : Bool) (xs ys zs ws : List Fault) → (if b then xs ++ ys else xs ++ zs ++ ws) ≡ [] → xs ≡ []
-first_of true xs ys zs ws none = left_none xs ys none
-first_of false xs ys zs ws none = left_none xs zs (left_none (xs ++ zs) ws none)
+-- what stands first in each case
+first_of : (b d : Bool) (xs ys zs ws : List Fault) → (if b then xs ++ ys else if d then xs else xs ++ zs ++ ws) ≡ [] → xs ≡ []
+first_of true d xs ys zs ws none = left_none xs ys none
+first_of false true xs ys zs ws none = none
+first_of false false xs ys zs ws none = left_none xs zs (left_none (xs ++ zs) ws none)
 
 -- a value
 value_found : (sc : rule.Scope) (p : List ℕ → Option Place) (f e : List ℕ → Option ℕ) → NamesAreFound sc.names p e → (v : Tree) (at : At)
@@ -108,10 +109,12 @@ value_found sc p f e found (tree.Tree.address x es a) at none =
 value_found sc p f e found (tree.Tree.unary op v a) at none =
     value_found sc p f e found v a (left_none (faults sc a v) (if op == complement then bits_faults sc.names a v else []) none)
 value_found sc p f e found (tree.Tree.binary op v w a) at none =
-    value_found sc p f e found v a (first_of (compares_text sc.names op v w) (faults sc a v) (far_faults sc v) (faults sc a w) (binary_faults sc.names op v w a) none)
+    value_found sc p f e found v a
+    (first_of (compares_text sc.names op v w) (may_compare_text sc.names op v w) (faults sc a v) (far_faults sc v) (faults sc a w)
+    (binary_faults sc.names op v w a) none)
 value_found sc p f e found (tree.Tree.shift op v by a) at none = refl
 value_found sc p f e found (tree.Tree.field v start size a) at none =
-    let narrow = unless (not (is_double (kind_of sc.names v))) 5 a in
+    let narrow = unless (not (is_double (rule_kind sc.names v))) 5 a in
     value_found sc p f e found v a
     (left_none (faults sc a v) narrow (left_none (faults sc a v ++ narrow) (field_faults sc.names start size a) none))
 value_found sc p f e found (tree.Tree.transfer to v a) at none = value_found sc p f e found v a none
@@ -122,15 +125,15 @@ assigned_found : (sc : rule.Scope) (p : List ℕ → Option Place) (f e : List �
     → assign_faults sc to v at ≡ [] → has_value (seen sc p f e) v ≡ true
 assigned_found sc p f e found (stat.Target.plain r) v at none =
     let reference = reference_faults sc r in
-    let fit = fit_faults (target_kind sc.names r) (kind_of sc.names v) at in
+    let fit = fit_faults (target_kind sc.names r) (rule_kind sc.names v) at in
     value_found sc p f e found v at (right_none reference (faults sc at v) (left_none (reference ++ faults sc at v) fit none))
 assigned_found sc p f e found (stat.Target.field r start size) v at none =
     let front = reference_faults sc r ++ unless (is_single (target_kind sc.names r)) 5 at ++ field_faults sc.names start size at in
-    let fit = fit_faults (field_kind (target_kind sc.names r)) (kind_of sc.names v) at in
+    let fit = fit_faults (field_kind (target_kind sc.names r)) (rule_kind sc.names v) at in
     value_found sc p f e found v at (right_none front (faults sc at v) (left_none (front ++ faults sc at v) fit none))
 assigned_found sc p f e found (stat.Target.address x a) v at none =
     let pointer = pointer_faults sc x (sc.names x) a in
-    let fit = fit_faults (Some kind.Logical) (kind_of sc.names v) at in
+    let fit = fit_faults (Some kind.Logical) (rule_kind sc.names v) at in
     value_found sc p f e found v at (right_none pointer (faults sc at v) (left_none (pointer ++ faults sc at v) fit none))
 
 -- what is called by itself

@@ -9,8 +9,7 @@ use Rattle.spl_readings.specs.spl_tree.StatementTrees.{Statement, Statements, Ta
 use Rattle.spl_ruled_bodies.specs.spl_meaning.Names as n
 use Rattle.spl_ruled_bodies.specs.spl_meaning.Names.{Sort}
 use Rattle.spl_ruled_bodies.specs.spl_meaning.Faults.{fault}
-use Rattle.spl_ruled_bodies.specs.spl_meaning.ExpressionRules.{Scope, faults}
-use Rattle.spl_ruled_bodies.specs.spl_meaning.Kinds.{kind_of}
+use Rattle.spl_ruled_bodies.specs.spl_meaning.ExpressionRules.{Scope, rule_kind, faults}
 use Rattle.spl_ruled_bodies.specs.spl_meaning.StatementRules.{list_labels, sets_code, test_faults, condition_faults, counter_by, single_value_faults, step_faults, pointer_faults, fit_faults, assign_faults, assign_effect_faults, effect_faults, statement_faults, statements_faults, arms_faults}
 use Rattle.spl_readings.specs.spl_module_code.Bodies.{is_called}
 use Rattle.spl_readings.specs.Readings.{is_plain_target, is_plain_statement, are_plain}
@@ -41,7 +40,7 @@ target_plain sc (stat.Target.field r start size) e at none = refl
 target_plain sc (stat.Target.address x a) e at none =
     let own = pointer_faults sc x (sc.names x) a in
     let value = faults sc at e in
-    let fit = fit_faults (Some kind.Logical) (kind_of sc.names e) at in
+    let fit = fit_faults (Some kind.Logical) (rule_kind sc.names e) at in
     pointer_plain sc x (sc.names x) a (left_none own value (left_none (own ++ value) fit none))
 
 -- no effect is assigned to a cell

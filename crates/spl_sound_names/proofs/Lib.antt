@@ -6,3 +6,4 @@ pub mod Units
 pub mod Order
 -- Passed on from the crates below.
 pub use Rattle.spl_found.proofs as spl_found_proofs
+pub use Rattle.spl_sound.proofs.spl_meaning_proofs

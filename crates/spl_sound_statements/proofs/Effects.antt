@@ -1,5 +1,5 @@
 -- MOVE and SCAN that break no rule are covered: their references, and what they move.
-use Rattle.std.proofs.Common.{◌≡◌, ℕ, ◌&&◌, ◌||◌, not, nat_lt, Bool, true, false, [], ◌++◌, Option, Some, None, is_some, refl, ap}
+use Rattle.std.proofs.Common.{◌≡◌, ℕ, ◌&&◌, ◌||◌, not, nat_lt, Bool, true, false, [], ◌++◌, Option, Some, None, is_some, refl, subst, ap}
 use Rattle.std.proofs.lemmas.Bool.{and_from, and_parts}
 use Rattle.std.specs.List.{list_all}
 use Rattle.spl_sound_values.specs.spl_tree.declared.names_and_places.At.{At}
@@ -16,7 +16,7 @@ use Rattle.spl_sound_values.specs.spl_meaning.References.{Setting, access_of}
 use Rattle.spl_sound_values.specs.spl_meaning.Values.{Who}
 use Rattle.spl_sound_values.specs.spl_meaning.Faults.{unless}
 use Rattle.spl_sound_values.specs.spl_meaning.ExpressionRules as rule
-use Rattle.spl_sound_values.specs.spl_meaning.ExpressionRules.{may_be_byte, far_faults, faults, located_faults, single_faults}
+use Rattle.spl_sound_values.specs.spl_meaning.ExpressionRules.{rule_reference, may_be_byte, far_faults, faults, located_faults, single_faults}
 use Rattle.spl_sound_values.specs.spl_meaning.StatementRules.{is_word_kind, moves, may_be_moved_to, moved_faults, effect_faults}
 use Rattle.spl_sound_values.specs.spl_code.Calls.{Scope}
 use Rattle.spl_stores.specs.spl_statement_code.Effects.{leads_to_bytes}
@@ -25,6 +25,7 @@ use Rattle.spl_sound_values.specs.spl_covered.Covered.{is_covered, is_covered_ad
 use Rattle.spl_stores.specs.spl_moved.Moved.{is_moved_kind, is_moved, is_moved_source, is_covered_effect}
 use Rattle.spl_sound_values.specs.spl_places.Programs.{Each}
 use Rattle.spl_sound_values.specs.spl_shapes.Shapes.{is_shaped, is_reference, are_bytes, is_shaped_reference, is_shaped_effect}
+use Rattle.spl_sound_values.proofs.spl_meaning_proofs.RuleKinds.{same_located}
 use Rattle.spl_sound_values.proofs.spl_sound_names_proofs.Tables.{left_none, right_none, unless_none, never}
 use Rattle.spl_sound_values.specs.Seen.{Seen, UseAllowed}
 use Rattle.spl_sound_values.proofs.Parts.{each_left, each_right, ruled}
@@ -78,6 +79,13 @@ moved_to (Some kind.Byte) some is = refl
 moved_to (Some kind.Double) some is = never is
 moved_to None some is = never some
 
+-- what is so of the kinds that rules go by is so of the same kinds
+one_same : (f : Option Kind → Bool) {o p : Option Kind} → o ≡ p → f o ≡ true → f p ≡ true
+one_same f same is = subst (λ q. f q ≡ true) same is
+
+two_same : (f : Option Kind → Option Kind → Bool) {o p q r : Option Kind} → o ≡ p → q ≡ r → f o q ≡ true → f p r ≡ true
+two_same f {o = o} {r = r} first second is = subst (λ s. f s r ≡ true) first (subst (λ s. f o s ≡ true) second is)
+
 -- ---- references
 
 module _ (may : Who → Bool) (c : Scope) (st : Setting) (rules : rule.Scope) (seen : Seen may c st (ruled c st rules)) where
@@ -86,29 +94,33 @@ module _ (may : Who → Bool) (c : Scope) (st : Setting) (rules : rule.Scope) (s
 
   -- a reference of a MOVE or a SCAN: it leads to a kind, and is moved where that is
   record Moved (r : Tree) (k : ℕ) : Type 0 where
+    same : rule_reference c.names r ≡ reference_kind c.names r
     leads : is_some (reference_kind c.names r) ≡ true
     moved : (bytes : Bool) → is_moved_kind bytes (reference_kind c.names r) ≡ true → is_moved may c st bytes r k ≡ true
 
-  reference_moved : (r : Tree) (k : ℕ) → is_reference r ≡ true → far_faults sc r ≡ [] → ReferenceCovered may c st r k → Moved r k
-  reference_moved (tree.Tree.named x es at) k is none covered = record {
+  reference_moved : (r : Tree) (k : ℕ) → is_reference r ≡ true → far_faults sc r ≡ [] → rule_reference c.names r ≡ reference_kind c.names r
+      → ReferenceCovered may c st r k → Moved r k
+  reference_moved (tree.Tree.named x es at) k is none same covered = record {
+    same = same;
     leads = covered.leads;
     moved = λ bytes kind.
         and_from (is_moved_kind bytes (variable_kind (c.names x)) && is_moved_place st (access_of (c.names x))) (is_covered_address may c st x es k)
         (and_from (is_moved_kind bytes (variable_kind (c.names x))) (is_moved_place st (access_of (c.names x))) kind
         (place_moved c st rules x es at covered.leads none)) covered.addressed;
   }
-  reference_moved e k is none covered = never is
+  reference_moved e k is none same covered = never is
 
   moved_sound : (r : Tree) (k : ℕ) → moved_faults sc r ≡ [] → is_shaped_reference r ≡ true → Each (UseAllowed may c) (uses c.names r k) → Moved r k
   moved_sound r k none shaped us =
       let shape = and_parts (is_reference r) (is_shaped r) shaped in
-      reference_moved r k shape.0 (right_none (located_faults sc r) (far_faults sc r) none)
-      (located_covered may c st rules seen r k (left_none (located_faults sc r) (far_faults sc r) none) shape.0 shape.1 us)
+      let located = left_none (located_faults sc r) (far_faults sc r) none in
+      reference_moved r k shape.0 (right_none (located_faults sc r) (far_faults sc r) none) (same_located sc r located)
+      (located_covered may c st rules seen r k located shape.0 shape.1 us)
 
   -- a value of one word
   pub single_covered : (e : Tree) (at : At) (k : ℕ) → faults sc at e ≡ [] → single_faults c.names at e ≡ [] → is_shaped e ≡ true
       → Each (UseAllowed may c) (uses c.names e k) → is_covered may c st e k ≡ true
-  single_covered e at k none single shaped us = (value_covered may c st rules seen e at k none shaped us).word (single_sound c at e single)
+  single_covered e at k none single shaped us = (value_covered may c st rules seen e at k none shaped us).word (single_sound sc at e none single)
 
   -- ---- effects
 
@@ -121,7 +133,7 @@ module _ (may : Who → Bool) (c : Scope) (st : Setting) (rules : rule.Scope) (s
       let second = uses c.names from (behind_first used k) in
       let third = uses c.names size (behind_second used k) in
       let front = each_left (UseAllowed may c) (first ++ second) third us in
-      let match = unless (moves (reference_kind c.names to) (reference_kind c.names from)) 24 at in
+      let match = unless (moves (rule_reference c.names to) (rule_reference c.names from)) 24 at in
       let one = moved_faults sc to in
       let two = moved_faults sc from in
       let own = faults sc at size in
@@ -133,7 +145,7 @@ module _ (may : Who → Bool) (c : Scope) (st : Setting) (rules : rule.Scope) (s
       let b = moved_sound from (behind_first used k) (right_none one two to_two) others.0 (each_right (UseAllowed may c) first second front) in
       let kinds =
       both_moved (reference_kind c.names to) (reference_kind c.names from) a.leads b.leads
-      (unless_none (moves (reference_kind c.names to) (reference_kind c.names from)) 24 at (right_none (one ++ two) match to_match)) in
+      (two_same moves a.same b.same (unless_none (moves (rule_reference c.names to) (rule_reference c.names from)) 24 at (right_none (one ++ two) match to_match))) in
       and_from (is_moved may c st (leads_to_bytes c to) to k) (is_moved_source may c st used (leads_to_bytes c to) (stat.Source.counted from size) k)
       (a.moved (leads_to_bytes c to) kinds.0)
       (and_from (is_moved may c st (leads_to_bytes c to) from (behind_first used k)) (is_covered may c st size (behind_second used k))
@@ -142,18 +154,19 @@ module _ (may : Who → Bool) (c : Scope) (st : Setting) (rules : rule.Scope) (s
       (each_right (UseAllowed may c) (first ++ second) third us)))
   effect_covered used (stat.Effect.move to (stat.Source.text bytes)) at k none shaped us =
       let shape = and_parts (is_shaped_reference to) (are_bytes bytes) shaped in
-      let match = unless (may_be_moved_to (reference_kind c.names to)) 24 at in
+      let match = unless (may_be_moved_to (rule_reference c.names to)) 24 at in
       let a = moved_sound to k (left_none (moved_faults sc to) match none) shape.0 us in
       and_from (is_moved may c st (leads_to_bytes c to) to k) (list_all (λ b. nat_lt b 256) bytes)
       (a.moved (leads_to_bytes c to)
-      (moved_to (reference_kind c.names to) a.leads (unless_none (may_be_moved_to (reference_kind c.names to)) 24 at (right_none (moved_faults sc to) match none))))
+      (moved_to (reference_kind c.names to) a.leads (one_same may_be_moved_to a.same
+      (unless_none (may_be_moved_to (rule_reference c.names to)) 24 at (right_none (moved_faults sc to) match none)))))
       shape.1
   effect_covered used (stat.Effect.move to (stat.Source.class_of from class)) at k none shaped us =
       let shape = and_parts (is_shaped_reference to) (is_shaped_reference from && nat_lt class 5) shaped in
       let others = and_parts (is_shaped_reference from) (nat_lt class 5) shape.1 in
       let first = uses c.names to k in
       let second = uses c.names from (behind_first used k) in
-      let match = unless (may_be_byte (reference_kind c.names to) && may_be_byte (reference_kind c.names from)) 24 at in
+      let match = unless (may_be_byte (rule_reference c.names to) && may_be_byte (rule_reference c.names from)) 24 at in
       let one = moved_faults sc to in
       let two = moved_faults sc from in
       let to_two = left_none (one ++ two) match none in
@@ -161,7 +174,8 @@ module _ (may : Who → Bool) (c : Scope) (st : Setting) (rules : rule.Scope) (s
       let b = moved_sound from (behind_first used k) (right_none one two to_two) others.0 (each_right (UseAllowed may c) first second us) in
       let bytes =
       and_parts (may_be_byte (reference_kind c.names to)) (may_be_byte (reference_kind c.names from))
-      (unless_none (may_be_byte (reference_kind c.names to) && may_be_byte (reference_kind c.names from)) 24 at (right_none (one ++ two) match none)) in
+      (two_same (λ o p. may_be_byte o && may_be_byte p) a.same b.same
+      (unless_none (may_be_byte (rule_reference c.names to) && may_be_byte (rule_reference c.names from)) 24 at (right_none (one ++ two) match none))) in
       let is = byte_kind (reference_kind c.names to) a.leads bytes.0 in
       and_from (is_moved may c st (leads_to_bytes c to) to k) (leads_to_bytes c to && is_moved may c st true from (behind_first used k))
       (a.moved (leads_to_bytes c to) (byte_moved (is_byte (reference_kind c.names to)) (reference_kind c.names to) is is))
@@ -171,7 +185,7 @@ module _ (may : Who → Bool) (c : Scope) (st : Setting) (rules : rule.Scope) (s
       let shape = and_parts (is_shaped_reference from) (is_shaped e) shaped in
       let first = uses c.names from k in
       let second = uses c.names e (behind_first used k) in
-      let match = unless (may_be_byte (reference_kind c.names from)) 24 at in
+      let match = unless (may_be_byte (rule_reference c.names from)) 24 at in
       let one = moved_faults sc from in
       let own = faults sc at e in
       let single = single_faults c.names at e in
@@ -181,6 +195,7 @@ module _ (may : Who → Bool) (c : Scope) (st : Setting) (rules : rule.Scope) (s
       and_from (is_moved may c st true from k) (is_covered may c st e (behind_first used k))
       (a.moved true
       (byte_moved true (reference_kind c.names from)
-      (byte_kind (reference_kind c.names from) a.leads (unless_none (may_be_byte (reference_kind c.names from)) 24 at (right_none one match to_match))) refl))
+      (byte_kind (reference_kind c.names from) a.leads
+      (one_same may_be_byte a.same (unless_none (may_be_byte (rule_reference c.names from)) 24 at (right_none one match to_match)))) refl))
       (single_covered e at (behind_first used k) (right_none (one ++ match) own to_own) (right_none (one ++ match ++ own) single none) shape.1
       (each_right (UseAllowed may c) first second us))

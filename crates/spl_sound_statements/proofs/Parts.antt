@@ -1,5 +1,5 @@
 -- Parts of statements that break no rule: conditions, assignments, calls, and what a FOR counts in.
-use Rattle.std.proofs.Common.{◌≡◌, ℕ, ◌+◌, ◌&&◌, ◌||◌, not, Bool, true, false, List, [], ◌∷◌, ◌++◌, Option, Some, None, is_some, refl, sym, ap, ◌∙◌}
+use Rattle.std.proofs.Common.{◌≡◌, ℕ, ◌+◌, ◌&&◌, ◌||◌, not, Bool, true, false, List, [], ◌∷◌, ◌++◌, Option, Some, None, is_some, refl, sym, subst, ap, ◌∙◌}
 use Rattle.std.proofs.lemmas.Bool.{and_from, or_left, or_right, and_parts, not_from_false}
 use Rattle.spl_sound_values.specs.spl_tree.declared.names_and_places.At.{At}
 use Rattle.spl_sound_values.specs.spl_tree.declared.expressions.Kind.{Kind}
@@ -18,7 +18,7 @@ use Rattle.spl_sound_values.specs.spl_meaning.References.{Setting}
 use Rattle.spl_sound_values.specs.spl_meaning.Values.{Who, procedure, subroutine}
 use Rattle.spl_sound_values.specs.spl_meaning.Faults.{fault, unless}
 use Rattle.spl_sound_values.specs.spl_meaning.ExpressionRules as rule
-use Rattle.spl_sound_values.specs.spl_meaning.ExpressionRules.{fits, count, has_elements, field_faults, is_bits, bits_faults, single_faults, place_in, faults, indices_faults, arguments_faults}
+use Rattle.spl_sound_values.specs.spl_meaning.ExpressionRules.{rule_kind, fits, count, has_elements, field_faults, is_bits, bits_faults, single_faults, place_in, faults, indices_faults, arguments_faults}
 use Rattle.spl_sound_values.specs.spl_meaning.StatementRules as statement
 use Rattle.spl_sound_values.specs.spl_meaning.StatementRules.{target_by, target_kind_by, target_kind, reference_faults, pointer_faults, fit_faults, field_kind, assign_faults, may_be_moved_to, effect_faults, answer_faults, assign_effect_faults, called_by, call_statement_faults, counter_by, single_value_faults, step_faults, condition_faults}
 use Rattle.spl_sound_values.specs.spl_code.Calls.{Scope}
@@ -33,6 +33,7 @@ use Rattle.spl_stores.specs.spl_moved.Moved.{is_covered_effect}
 use Rattle.spl_stores.specs.Covered.{is_stored_effect, is_counted_name, is_covered_step}
 use Rattle.spl_sound_values.specs.spl_places.Programs.{Each}
 use Rattle.spl_sound_values.specs.spl_shapes.Shapes.{is_shaped, are_shaped, is_reference, is_shaped_target, is_shaped_effect}
+use Rattle.spl_sound_values.proofs.spl_meaning_proofs.RuleKinds.{same_kind}
 use Rattle.spl_sound_values.proofs.spl_sound_names_proofs.Tables.{left_none, right_none, clash, unless_none, never}
 use Rattle.spl_sound_values.specs.Seen.{Seen, UseAllowed}
 use Rattle.spl_sound_values.proofs.Parts.{each_left, each_right, implies, not_so, ruled}
@@ -85,8 +86,11 @@ module _ (may : Who → Bool) (c : Scope) (results : List ℕ → Option (Kind �
   pub condition_covered : (e : Tree) (at : At) (k : ℕ) → condition_faults sc at e ≡ [] → is_shaped e ≡ true → Each (UseAllowed may c) (uses c.names e k)
       → is_covered may c st e k ≡ true
   condition_covered e at k none shaped us =
-      (value_covered may c st rules seen e at k (left_none (faults sc at e) (bits_faults c.names at e) none) shaped us).word
-      (bits_single (kind_of c.names e) (unless_none (is_bits (kind_of c.names e)) 7 (place_in at e) (right_none (faults sc at e) (bits_faults c.names at e) none)))
+      let own = left_none (faults sc at e) (bits_faults c.names at e) none in
+      (value_covered may c st rules seen e at k own shaped us).word
+      (bits_single (kind_of c.names e)
+      (sym (ap is_bits (same_kind sc at e own))
+      ∙ unless_none (is_bits (rule_kind c.names e)) 7 (place_in at e) (right_none (faults sc at e) (bits_faults c.names at e) none)))
 
   -- a value of one word
   pub one_covered : (e : Tree) (at : At) (k : ℕ) → single_value_faults sc at e ≡ [] → is_shaped e ≡ true → Each (UseAllowed may c) (uses c.names e k)
@@ -122,6 +126,10 @@ module _ (may : Who → Bool) (c : Scope) (results : List ℕ → Option (Kind �
       by o is none = clash (fault 23 at) [] none
 
   -- ---- assignments
+
+  -- a value that breaks no rule fits by its kind
+  fit_sound : (e : Tree) (at : At) (o : Option Kind) → faults sc at e ≡ [] → fit_faults o (rule_kind c.names e) at ≡ [] → fit_faults o (kind_of c.names e) at ≡ []
+  fit_sound e at o own = subst (λ p. fit_faults o p at ≡ []) (same_kind sc at e own)
 
   -- a value in a target that it fits
   fitted : (to : Target) (e : Tree) (at : At) (k : ℕ) (o : Option Kind) → is_unknown (result_of o) ≡ false → fit_faults o (kind_of c.names e) at ≡ []
@@ -170,14 +178,15 @@ module _ (may : Who → Bool) (c : Scope) (results : List ℕ → Option (Kind �
       let to = stat.Target.plain (tree.Tree.named x es a) in
       let reference = reference_faults sc (tree.Tree.named x es a) in
       let own = faults sc at e in
-      let fit = fit_faults (target_kind c.names (tree.Tree.named x es a)) (kind_of c.names e) at in
+      let fit = fit_faults (target_kind c.names (tree.Tree.named x es a)) (rule_kind c.names e) at in
       let front = left_none (reference ++ own) fit none in
       let first = target_uses c.names to k in
       let second = uses c.names e (waiting to k) in
       let t =
       named_target x es a k (left_none reference own front) (and_parts (is_reference (tree.Tree.named x es a)) (are_shaped es) to_shape).1
       (each_left (UseAllowed may c) first second us) in
-      fitted to e at k (target_kind_by (c.names x)) t.known (right_none (reference ++ own) fit none) t.word t.wide
+      fitted to e at k (target_kind_by (c.names x)) t.known
+      (fit_sound e at (target_kind_by (c.names x)) (right_none reference own front) (right_none (reference ++ own) fit none)) t.word t.wide
       (value_covered may c st rules seen e at (waiting to k) (right_none reference own front) shaped (each_right (UseAllowed may c) first second us))
   assign_covered (stat.Target.field (tree.Tree.named x es a) start size) e at k none to_shape shaped us =
       let to = stat.Target.field (tree.Tree.named x es a) start size in
@@ -186,7 +195,7 @@ module _ (may : Who → Bool) (c : Scope) (results : List ℕ → Option (Kind �
       let single = unless (statement.is_single (target_kind_by (c.names x))) 5 at in
       let within = field_faults c.names start size at in
       let own = faults sc at e in
-      let fit = fit_faults (field_kind (target_kind_by (c.names x))) (kind_of c.names e) at in
+      let fit = fit_faults (field_kind (target_kind_by (c.names x))) (rule_kind c.names e) at in
       let to_own = left_none (reference ++ single ++ within ++ own) fit none in
       let to_within = left_none (reference ++ single ++ within) own to_own in
       let to_single = left_none (reference ++ single) within to_within in
@@ -202,15 +211,17 @@ module _ (may : Who → Bool) (c : Scope) (results : List ℕ → Option (Kind �
       (right_none reference single to_single) (right_none (reference ++ single) within to_within) us_first.0 index in
       let t = plain_covered may c results st rules seen given x es a k (left_none name (indices_faults sc es a) to_reference) us_first.0 index in
       word_fitted to e at k (field_kind (target_kind_by (c.names x))) (field_kind_known (target_kind_by (c.names x)) t.known)
-      (right_none (reference ++ single ++ within ++ own) fit none) word
+      (fit_sound e at (field_kind (target_kind_by (c.names x))) (right_none (reference ++ single ++ within) own to_own)
+      (right_none (reference ++ single ++ within ++ own) fit none)) word
       (value_covered may c st rules seen e at (waiting to k) (right_none (reference ++ single ++ within) own to_own) shaped
       (each_right (UseAllowed may c) first second us))
   assign_covered (stat.Target.address x a) e at k none to_shape shaped us =
       let pointer = pointer_faults sc x (c.names x) a in
       let own = faults sc at e in
-      let fit = fit_faults (Some kind.Logical) (kind_of c.names e) at in
+      let fit = fit_faults (Some kind.Logical) (rule_kind c.names e) at in
       let front = left_none (pointer ++ own) fit none in
-      word_fitted (stat.Target.address x a) e at k (Some kind.Logical) refl (right_none (pointer ++ own) fit none)
+      word_fitted (stat.Target.address x a) e at k (Some kind.Logical) refl
+      (fit_sound e at (Some kind.Logical) (right_none pointer own front) (right_none (pointer ++ own) fit none))
       (or_left (has_reached st k (c.places x)) false (pointer_covered may c results st rules seen given x a k (left_none pointer own front) us.0))
       (value_covered may c st rules seen e at k (right_none pointer own front) shaped us.1)
   assign_covered (stat.Target.plain r) e at k none to_shape shaped us = never to_shape

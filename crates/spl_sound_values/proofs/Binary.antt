@@ -7,18 +7,20 @@ use Rattle.spl_shapes.specs.spl_tree.declared.names_and_places.At.{At}
 use Rattle.spl_shapes.specs.spl_tree.declared.expressions.Kind.TheVariants as kind
 use Rattle.spl_shapes.specs.spl_tree.Trees as tree
 use Rattle.spl_shapes.specs.spl_tree.Trees.{Tree}
-use Rattle.spl_near_places.specs.spl_meaning.Kinds.{of, Class, integers, logicals, doubles, mixed, class_of, class_operand, is_double, is_unknown, is_connective, is_relation, works_on_bits, gives_logical, multiplies, operand_width, kind_of, compares_text}
+use Rattle.spl_near_places.specs.spl_meaning.Kinds.{Operand, of, Class, integers, logicals, doubles, mixed, class_of, class_operand, is_double, is_unknown, is_connective, is_relation, works_on_bits, gives_logical, multiplies, operand_width, kind_of, compares_text}
 use Rattle.spl_near_places.specs.spl_meaning.Pending.{left_words}
 use Rattle.spl_near_places.specs.spl_meaning.References.{Setting}
 use Rattle.spl_near_places.specs.spl_meaning.Values.{Who}
 use Rattle.spl_near_places.specs.spl_meaning.Faults.{Fault, unless}
-use Rattle.spl_near_places.specs.spl_meaning.ExpressionRules.{is_bits, is_mixed, mixes, is_operation, bits_faults, binary_faults, place_in}
+use Rattle.spl_near_places.specs.spl_meaning.ExpressionRules as rule
+use Rattle.spl_near_places.specs.spl_meaning.ExpressionRules.{rule_kind, is_bits, is_mixed, mixes, is_operation, binary_faults, faults, place_in}
 use Rattle.spl_near_places.specs.spl_code.Calls.{Scope}
 use Rattle.spl_covered.specs.spl_values.Reached.{is_sum, is_word_class}
 use Rattle.spl_covered.specs.spl_word_operators.Operators.{is_covered_operator}
 use Rattle.spl_covered.proofs.spl_word_operators_proofs.OperatorLemmas.{where_true, where_false}
 use Rattle.spl_covered.specs.spl_byte_tests.Elements.{is_byte_element}
 use Rattle.spl_covered.specs.Covered.{is_covered, is_wide, is_covered_reference, is_spelled}
+use Rattle.spl_near_places.proofs.spl_meaning_proofs.RuleKinds.{same_kind}
 use Rattle.spl_near_places.proofs.spl_sound_names_proofs.Tables.{left_none, right_none, unless_none, never}
 use Rattle.spl_sound_values.proofs.Parts.{implies, other, not_so}
 use Rattle.spl_sound_values.proofs.Calls.{ValueCovered}
@@ -60,6 +62,20 @@ wide_operator op few bits products =
 sum_wide : (op : ℕ) → nat_lt op 16 ≡ true → is_sum op ≡ true → gives_logical op ≡ false
 sum_wide op few is =
     not_so (gives_logical op) (implies (is_sum op) (not (gives_logical op)) (always (λ o. not (is_sum o) || not (gives_logical o)) refl op few) is)
+
+-- ---- the rules of operators by the kinds of their operands
+
+abbrev kinds_faults : ℕ → Operand → Operand → Tree → Tree → At → List Fault
+kinds_faults op o p a b at =
+    if works_on_bits op then unless (is_bits o) 7 (place_in at a) ++ unless (is_bits p) 7 (place_in at b)
+    else unless (mixes o p) 4 at ++ unless (is_operation op o p) 5 at
+
+-- operands that break no rule have their own kinds there
+pub plain_sound : (sc : rule.Scope) (op : ℕ) (a b : Tree) (at : At) → faults sc at a ≡ [] → faults sc at b ≡ [] → binary_faults sc.names op a b at ≡ []
+    → kinds_faults op (kind_of sc.names a) (kind_of sc.names b) a b at ≡ []
+plain_sound sc op a b at first second none =
+    subst (λ o. kinds_faults op o (kind_of sc.names b) a b at ≡ []) (same_kind sc at a first)
+    (subst (λ p. kinds_faults op (rule_kind sc.names a) p a b at ≡ []) (same_kind sc at b second) none)
 
 -- ---- values of operators
 
@@ -164,15 +180,15 @@ module _ (may : Who → Bool) (c : Scope) (st : Setting) where
 
   -- those that work on bits
   bits_covered : (op : ℕ) (a b : Tree) (at : At) (k : ℕ) → nat_lt op 16 ≡ true → compares_text c.names op a b ≡ false → works_on_bits op ≡ true
-      → bits_faults c.names at a ++ bits_faults c.names at b ≡ [] → ValueCovered may c st a k → ValueCovered may c st b (k + left_words c.names op a b)
+      → unless (is_bits (kind_of c.names a)) 7 (place_in at a) ++ unless (is_bits (kind_of c.names b)) 7 (place_in at b) ≡ [] → ValueCovered may c st a k → ValueCovered may c st b (k + left_words c.names op a b)
       → ValueCovered may c st (tree.Tree.binary op a b at) k
   bits_covered op a b at k few apart works none first second = logical_value op a b at k (bits_logical op few works) (by (is_connective op) refl)
     where
       left : is_bits (kind_of c.names a) ≡ true
-      left = unless_none (is_bits (kind_of c.names a)) 7 (place_in at a) (left_none (bits_faults c.names at a) (bits_faults c.names at b) none)
+      left = unless_none (is_bits (kind_of c.names a)) 7 (place_in at a) (left_none (unless (is_bits (kind_of c.names a)) 7 (place_in at a)) (unless (is_bits (kind_of c.names b)) 7 (place_in at b)) none)
 
       right : is_bits (kind_of c.names b) ≡ true
-      right = unless_none (is_bits (kind_of c.names b)) 7 (place_in at b) (right_none (bits_faults c.names at a) (bits_faults c.names at b) none)
+      right = unless_none (is_bits (kind_of c.names b)) 7 (place_in at b) (right_none (unless (is_bits (kind_of c.names a)) 7 (place_in at a)) (unless (is_bits (kind_of c.names b)) 7 (place_in at b)) none)
 
       one : is_covered may c st a k ≡ true
       one = first.word (bits_single (kind_of c.names a) left)
@@ -242,12 +258,12 @@ module _ (may : Who → Bool) (c : Scope) (st : Setting) where
 
   -- an operator that compares no bytes
   pub binary_covered : (op : ℕ) (a b : Tree) (at : At) (k : ℕ) → nat_lt op 16 ≡ true → compares_text c.names op a b ≡ false
-      → binary_faults c.names op a b at ≡ [] → ValueCovered may c st a k → ValueCovered may c st b (k + left_words c.names op a b)
+      → kinds_faults op (kind_of c.names a) (kind_of c.names b) a b at ≡ [] → ValueCovered may c st a k → ValueCovered may c st b (k + left_words c.names op a b)
       → ValueCovered may c st (tree.Tree.binary op a b at) k
   binary_covered op a b at k few apart none first second = by (works_on_bits op) refl none
     where
       by : (t : Bool) → works_on_bits op ≡ t
-          → (if t then bits_faults c.names at a ++ bits_faults c.names at b
+          → (if t then unless (is_bits (kind_of c.names a)) 7 (place_in at a) ++ unless (is_bits (kind_of c.names b)) 7 (place_in at b)
           else unless (mixes (kind_of c.names a) (kind_of c.names b)) 4 at ++ unless (is_operation op (kind_of c.names a) (kind_of c.names b)) 5 at) ≡ []
           → ValueCovered may c st (tree.Tree.binary op a b at) k
       by true is none = bits_covered op a b at k few apart is none first second

@@ -19,7 +19,7 @@ use Rattle.spl_near_places.specs.spl_meaning.References.{Setting}
 use Rattle.spl_near_places.specs.spl_meaning.Values.{Who}
 use Rattle.spl_near_places.specs.spl_meaning.Faults.{Fault, unless}
 use Rattle.spl_near_places.specs.spl_meaning.ExpressionRules as rule
-use Rattle.spl_near_places.specs.spl_meaning.ExpressionRules.{fits, passes, value_fits, is_open_sort, is_open, is_label, is_label_name, is_subroutine, own_faults, argument_faults, place_in, call_faults}
+use Rattle.spl_near_places.specs.spl_meaning.ExpressionRules.{rule_kind, fits, passes, value_fits, is_open_sort, is_open, is_label, is_label_name, is_subroutine, own_faults, argument_faults, place_in, call_faults}
 use Rattle.spl_near_places.specs.spl_code.Calls.{Scope}
 use Rattle.spl_covered.specs.spl_whom.Whom.{is_word_result, is_double_result, entry_of, is_that, is_gate}
 use Rattle.spl_covered.specs.Covered.{is_passed, is_covered, is_wide, is_covered_reference}
@@ -168,20 +168,26 @@ passes_some t None is = never is
 
 -- an argument of a parameter that has a kind
 pub argument_covered : (may : Who → Bool) (c : Scope) (st : Setting) (f : Formal) (e : Tree) (at : At) (k : ℕ) (fs : List Fault) → is_some f.kind ≡ true
-    → own_faults c.names (Some f) e fs ≡ [] → argument_faults c.names (Some f) e at ≡ [] → (fs ≡ [] → ValueCovered may c st e k)
+    → own_faults c.names (Some f) e fs ≡ [] → argument_faults c.names (Some f) e at ≡ [] → (fs ≡ [] → rule_kind c.names e ≡ kind_of c.names e)
+    → (fs ≡ [] → ValueCovered may c st e k)
     → is_passed (by_value f) f.kind (is_covered may c st e k) (is_wide may c st e k) (is_covered_reference may c st e k) ≡ true
-argument_covered may c st f e at k fs some own fit covered = by (by_value f) f.kind some own fit
+argument_covered may c st f e at k fs some own fit same covered = by (by_value f) f.kind some own fit
   where
+    single : fs ≡ [] → unless (not (is_double (rule_kind c.names e))) 9 (place_in at e) ≡ [] → is_double (kind_of c.names e) ≡ false
+    single own fit =
+        sym (ap is_double (same own))
+        ∙ not_so (is_double (rule_kind c.names e)) (unless_none (not (is_double (rule_kind c.names e))) 9 (place_in at e) fit)
+
     by : (b : Bool) (o : Option Kind) → is_some o ≡ true → (if not b && is_label_name c.names e then [] else fs) ≡ []
-        → (if b then unless (value_fits o (kind_of c.names e)) 9 (place_in at e)
+        → (if b then unless (value_fits o (rule_kind c.names e)) 9 (place_in at e)
         else unless (is_open c.names e || passes o (reference_kind c.names e)) 10 (place_in at e)) ≡ []
         → is_passed b o (is_covered may c st e k) (is_wide may c st e k) (is_covered_reference may c st e k) ≡ true
     by b None some own fit = never some
     by true (Some kind.Double) some own fit =
-        let v = covered own in v.wide (fits_wide (kind_of c.names e) v.known (unless_none (fits kind.Double (kind_of c.names e)) 9 (place_in at e) fit))
-    by true (Some kind.Integer) some own fit = (covered own).word (not_so (is_double (kind_of c.names e)) (unless_none _ 9 (place_in at e) fit))
-    by true (Some kind.Logical) some own fit = (covered own).word (not_so (is_double (kind_of c.names e)) (unless_none _ 9 (place_in at e) fit))
-    by true (Some kind.Byte) some own fit = (covered own).word (not_so (is_double (kind_of c.names e)) (unless_none _ 9 (place_in at e) fit))
+        let v = covered own in v.wide (fits_wide (kind_of c.names e) v.known (sym (ap (λ o. fits kind.Double o) (same own)) ∙ unless_none (fits kind.Double (rule_kind c.names e)) 9 (place_in at e) fit))
+    by true (Some kind.Integer) some own fit = (covered own).word (single own fit)
+    by true (Some kind.Logical) some own fit = (covered own).word (single own fit)
+    by true (Some kind.Byte) some own fit = (covered own).word (single own fit)
     by false (Some t) some own fit =
         let matches = unless_none (is_open c.names e || passes (Some t) (reference_kind c.names e)) 10 (place_in at e) fit in
         let v = covered (sym (ap (λ (b : Bool). if b then [] else fs) (no_label c.names t e matches)) ∙ own) in

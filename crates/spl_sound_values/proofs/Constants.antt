@@ -24,6 +24,7 @@ shift_small names known at there by none range =
 -- a field is within its word
 field_within : (o p : Option ℤ) → is_some o ≡ true → is_some p ≡ true → is_field o p ≡ true
     → (nat_le 1 (unsigned_abs (or_zero p)) && nat_le (unsigned_abs (or_zero o) + unsigned_abs (or_zero p)) 16) ≡ true
+unfolding is_field
 field_within None p first second is = never first
 field_within (Some start) None first second is = never second
 field_within (Some (pos a)) (Some (pos b)) first second is =

@@ -15,7 +15,7 @@ use Rattle.spl_near_places.specs.spl_meaning.References.{Setting}
 use Rattle.spl_near_places.specs.spl_meaning.Values.{Who, small_constant}
 use Rattle.spl_near_places.specs.spl_meaning.Faults.{Fault, fault, unless}
 use Rattle.spl_near_places.specs.spl_meaning.ExpressionRules as rule
-use Rattle.spl_near_places.specs.spl_meaning.ExpressionRules.{count, place_in, constant_place, constant_faults, in_range, field_faults, is_pointer, is_callable, may_be_byte, name_by, variable_faults, single_faults, bits_faults, is_bits, binary_faults, own_faults, argument_faults, far_faults, faults, located_faults, indices_faults, arguments_faults}
+use Rattle.spl_near_places.specs.spl_meaning.ExpressionRules.{rule_kind, rule_reference, may_compare_text, count, place_in, constant_place, constant_faults, in_range, field_faults, is_pointer, is_callable, may_be_byte, name_by, variable_faults, single_faults, bits_faults, is_bits, binary_faults, own_faults, argument_faults, far_faults, faults, located_faults, indices_faults, arguments_faults}
 use Rattle.spl_near_places.specs.spl_meaning.Names.{constant_value}
 use Rattle.std.specs.Prelude.{pos}
 use Rattle.spl_near_places.specs.spl_code.Calls.{Scope}
@@ -24,6 +24,7 @@ use Rattle.spl_covered.specs.spl_word_operators.Operators.{is_covered_sign}
 use Rattle.spl_covered.specs.Covered.{is_passed, is_covered, is_wide, is_covered_reference, are_covered_arguments}
 use Rattle.spl_near_places.specs.spl_places.Programs.{Each}
 use Rattle.spl_shapes.specs.Shapes.{is_shaped, are_shaped, is_reference, is_one_at_most}
+use Rattle.spl_near_places.proofs.spl_meaning_proofs.RuleKinds.{same_kind, same_located, others_none}
 use Rattle.spl_near_places.proofs.spl_sound_names_proofs.Tables.{left_none, right_none, clash, unless_none, never}
 use Rattle.spl_sound_values.specs.Seen.{Seen, UseAllowed}
 use Rattle.spl_sound_values.specs.Laws.{SoundValuesAreCovered}
@@ -34,15 +35,21 @@ use Rattle.spl_sound_values.proofs.Constants.{shift_small, field_small}
 use Rattle.spl_sound_values.proofs.Operands.{bits_single, word_operand, sign_covered, sign_known, sign_word, sign_wide}
 use Rattle.spl_sound_values.proofs.Calls.{argument_covered, ValueCovered}
 use Rattle.spl_sound_values.proofs.NamedValues.{named_covered}
-use Rattle.spl_sound_values.proofs.Binary.{binary_covered}
+use Rattle.spl_sound_values.proofs.Binary.{plain_sound, binary_covered}
 use Rattle.spl_sound_values.proofs.Bytes.{text_covered, ReferenceCovered, bytes_covered}
 
 -- ---- what has one word
 
 -- a value for one word is no DOUBLE
-pub single_sound : (c : Scope) (at : At) (e : Tree) → single_faults c.names at e ≡ [] → is_double (kind_of c.names e) ≡ false
-single_sound c at (tree.Tree.wide v) none = clash (fault 14 at) [] none
-single_sound c at e none = not_so (is_double (kind_of c.names e)) (unless_none (not (is_double (kind_of c.names e))) 23 (place_in at e) none)
+pub single_sound : (sc : rule.Scope) (at : At) (e : Tree) → faults sc at e ≡ [] → single_faults sc.names at e ≡ [] → is_double (kind_of sc.names e) ≡ false
+single_sound sc at (tree.Tree.wide v) own none = clash (fault 14 at) [] none
+single_sound sc at e own none =
+    sym (ap is_double (same_kind sc at e own)) ∙ not_so (is_double (rule_kind sc.names e)) (unless_none (not (is_double (rule_kind sc.names e))) 23 (place_in at e) none)
+
+-- what is no DOUBLE by the rules is none
+narrow_sound : (sc : rule.Scope) (at : At) (e : Tree) → faults sc at e ≡ [] → unless (not (is_double (rule_kind sc.names e))) 5 at ≡ []
+    → unless (not (is_double (kind_of sc.names e))) 5 at ≡ []
+narrow_sound sc at e own = subst (λ o. unless (not (is_double o)) 5 at ≡ []) (same_kind sc at e own)
 
 -- where a test decides what faults there are
 pub by_test : {A : Type 0} (b : Bool) (xs ys : List Fault) → (b ≡ true → xs ≡ [] → A) → (b ≡ false → ys ≡ [] → A) → (if b then xs else ys) ≡ [] → A
@@ -66,7 +73,7 @@ module _ (may : Who → Bool) (c : Scope) (st : Setting) (rules : rule.Scope) (s
   sc = ruled c st rules
 
   -- a sign, or NOT
-  sign_value : (op : ℕ) (e : Tree) (at : At) (k : ℕ) → nat_lt op 3 ≡ true → (if op == complement then bits_faults c.names at e else []) ≡ []
+  sign_value : (op : ℕ) (e : Tree) (at : At) (k : ℕ) → nat_lt op 3 ≡ true → (if op == complement then unless (is_bits (kind_of c.names e)) 7 (place_in at e) else []) ≡ []
       → ValueCovered may c st e k → ValueCovered may c st (tree.Tree.unary op e at) k
   sign_value op e at k few none v = record {
     known = sign_known op (kind_of c.names e) few v.known;
@@ -74,7 +81,7 @@ module _ (may : Who → Bool) (c : Scope) (st : Setting) (rules : rule.Scope) (s
         and_from (is_covered_sign op) (is_covered may c st e k) (sign_covered op few)
         (v.word (sign_word op (kind_of c.names e) few
         (λ is. bits_single (kind_of c.names e)
-        (unless_none (is_bits (kind_of c.names e)) 7 (place_in at e) (sym (ap (λ (b : Bool). if b then bits_faults c.names at e else []) is) ∙ none))) single));
+        (unless_none (is_bits (kind_of c.names e)) 7 (place_in at e) (sym (ap (λ (b : Bool). if b then unless (is_bits (kind_of c.names e)) 7 (place_in at e) else []) is) ∙ none))) single));
     wide = λ double.
         let parts = sign_wide op (kind_of c.names e) few double in
         and_from ((op == positive) || (op == negative)) (is_wide may c st e k) parts.0 (v.wide parts.1);
@@ -177,33 +184,42 @@ module _ (may : Who → Bool) (c : Scope) (st : Setting) (rules : rule.Scope) (s
     value_covered (tree.Tree.unary op e a) at k none shaped us =
         let bits = if op == complement then bits_faults c.names a e else [] in
         let shape = and_parts (nat_lt op 3) (is_shaped e) shaped in
-        sign_value op e a k shape.0 (right_none (faults sc a e) bits none) (value_covered e a k (left_none (faults sc a e) bits none) shape.1 us)
+        let own = left_none (faults sc a e) bits none in
+        sign_value op e a k shape.0
+        (subst (λ o. (if op == complement then unless (is_bits o) 7 (place_in a e) else []) ≡ []) (same_kind sc a e own) (right_none (faults sc a e) bits none))
+        (value_covered e a k own shape.1 us)
     value_covered (tree.Tree.binary op e f a) at k none shaped us =
         let parts = and_parts (nat_lt op 16 && is_shaped e) (is_shaped f) shaped in
         let front = and_parts (nat_lt op 16) (is_shaped e) parts.0 in
         let first = each_left (UseAllowed may c) (uses c.names e k) (uses c.names f (k + left_words c.names op e f)) us in
         let second = each_right (UseAllowed may c) (uses c.names e k) (uses c.names f (k + left_words c.names op e f)) us in
-        by_test (compares_text c.names op e f) (faults sc a e ++ far_faults sc e) (faults sc a e ++ faults sc a f ++ binary_faults c.names op e f a)
-        (λ text sound. text_covered may c st rules op e f a k front.0 text (right_none (faults sc a e) (far_faults sc e) sound) parts.1
-        (value_covered e a k (left_none (faults sc a e) (far_faults sc e) sound) front.1 first))
-        (λ apart sound. binary_covered may c st op e f a k front.0 apart (right_none (faults sc a e ++ faults sc a f) (binary_faults c.names op e f a) sound)
-        (value_covered e a k (left_none (faults sc a e) (faults sc a f) (left_none (faults sc a e ++ faults sc a f) (binary_faults c.names op e f a) sound)) front.1 first)
-        (value_covered f a (k + left_words c.names op e f)
-        (right_none (faults sc a e) (faults sc a f) (left_none (faults sc a e ++ faults sc a f) (binary_faults c.names op e f a) sound)) parts.1 second))
+        let one = faults sc a e in
+        let two = faults sc a f in
+        let both = binary_faults c.names op e f a in
+        by_test (compares_text c.names op e f) (one ++ far_faults sc e) (if may_compare_text c.names op e f then one else one ++ two ++ both)
+        (λ text sound. text_covered may c st rules op e f a k front.0 text (right_none one (far_faults sc e) sound) parts.1
+        (value_covered e a k (left_none one (far_faults sc e) sound) front.1 first))
+        (λ apart sound.
+        let all = others_none sc a op e f (one ++ two ++ both) sound in
+        let operands = left_none (one ++ two) both all in
+        binary_covered may c st op e f a k front.0 apart
+        (plain_sound sc op e f a (left_none one two operands) (right_none one two operands) (right_none (one ++ two) both all))
+        (value_covered e a k (left_none one two operands) front.1 first)
+        (value_covered f a (k + left_words c.names op e f) (right_none one two operands) parts.1 second))
         none
     value_covered (tree.Tree.shift op e by a) at k none shaped us =
         let shape = and_parts (nat_lt op 6) (is_shaped e) shaped in
-        let narrow = unless (not (is_double (kind_of c.names e))) 5 a in
+        let narrow = unless (not (is_double (rule_kind c.names e))) 5 a in
         let constant = constant_faults c.names a by in
         let range = unless (in_range (pos 0) (pos 15) (constant_value c.names by)) 13 (constant_place a by) in
         let front = left_none (faults sc a e ++ narrow ++ constant) range none in
         let more = left_none (faults sc a e ++ narrow) constant front in
-        shift_value op e by a k shape.0 (right_none (faults sc a e) narrow more) (right_none (faults sc a e ++ narrow) constant front)
+        shift_value op e by a k shape.0 (narrow_sound sc a e (left_none (faults sc a e) narrow more) (right_none (faults sc a e) narrow more)) (right_none (faults sc a e ++ narrow) constant front)
         (right_none (faults sc a e ++ narrow ++ constant) range none) (value_covered e a k (left_none (faults sc a e) narrow more) shape.1 us)
     value_covered (tree.Tree.field e start size a) at k none shaped us =
-        let narrow = unless (not (is_double (kind_of c.names e))) 5 a in
+        let narrow = unless (not (is_double (rule_kind c.names e))) 5 a in
         let front = left_none (faults sc a e ++ narrow) (field_faults c.names start size a) none in
-        field_value e start size a k (right_none (faults sc a e) narrow front) (right_none (faults sc a e ++ narrow) (field_faults c.names start size a) none)
+        field_value e start size a k (narrow_sound sc a e (left_none (faults sc a e) narrow front) (right_none (faults sc a e) narrow front)) (right_none (faults sc a e ++ narrow) (field_faults c.names start size a) none)
         (value_covered e a k (left_none (faults sc a e) narrow front) shaped us)
     value_covered (tree.Tree.transfer to e a) at k none shaped us = transfer_value to e a k (value_covered e a k none shaped us)
     value_covered (tree.Tree.bytes op e f size a) at k none shaped us =
@@ -213,7 +229,7 @@ module _ (may : Who → Bool) (c : Scope) (st : Setting) (rules : rule.Scope) (s
         let ends = and_parts (is_shaped e) (is_shaped f) parts.0 in
         let near = uses c.names e k in
         let far = uses c.names f (k + 1) in
-        let match = unless (may_be_byte (reference_kind c.names e) && may_be_byte (reference_kind c.names f)) 24 a in
+        let match = unless (may_be_byte (rule_reference c.names e) && may_be_byte (rule_reference c.names f)) 24 a in
         let one = located_faults sc e in
         let two = far_faults sc e in
         let three = located_faults sc f in
@@ -227,12 +243,14 @@ module _ (may : Who → Bool) (c : Scope) (st : Setting) (rules : rule.Scope) (s
         let to_two = left_none (one ++ two) three to_three in
         let front = each_left (UseAllowed may c) (near ++ far) (uses c.names size (k + 2)) us in
         bytes_covered may c st rules op e f size a k
-        (unless_none (may_be_byte (reference_kind c.names e) && may_be_byte (reference_kind c.names f)) 24 a (right_none (one ++ two ++ three ++ four) match to_match))
+        (sym (ap (λ (o : Option Kind). may_be_byte o && may_be_byte (reference_kind c.names f)) (same_located sc e (left_none one two to_two)))
+        ∙ (sym (ap (λ (o : Option Kind). may_be_byte (rule_reference c.names e) && may_be_byte o) (same_located sc f (right_none (one ++ two) three to_three)))
+        ∙ unless_none (may_be_byte (rule_reference c.names e) && may_be_byte (rule_reference c.names f)) 24 a (right_none (one ++ two ++ three ++ four) match to_match)))
         (right_none one two to_two) (right_none (one ++ two ++ three) four to_four)
         (located_covered e k (left_none one two to_two) (and_parts (nat_lt op 6) (is_reference e) leads.0).1 ends.0 (each_left (UseAllowed may c) near far front))
         (located_covered f (k + 1) (right_none (one ++ two) three to_three) leads.1 ends.1 (each_right (UseAllowed may c) near far front))
         ((value_covered size a (k + 2) (right_none (one ++ two ++ three ++ four ++ match) five to_five) parts.1
-        (each_right (UseAllowed may c) (near ++ far) (uses c.names size (k + 2)) us)).word (single_sound c a size (right_none (one ++ two ++ three ++ four ++ match ++ five) six none)))
+        (each_right (UseAllowed may c) (near ++ far) (uses c.names size (k + 2)) us)).word (single_sound sc a size (right_none (one ++ two ++ three ++ four ++ match) five to_five) (right_none (one ++ two ++ three ++ four ++ match ++ five) six none)))
 
     -- an index, where there is one
     pub index_covered : (es : Trees) (at : At) (k : ℕ) → indices_faults sc es at ≡ [] → are_shaped es ≡ true
@@ -243,7 +261,7 @@ module _ (may : Who → Bool) (c : Scope) (st : Setting) (rules : rule.Scope) (s
         let single = single_faults c.names at e in
         let front = left_none (own ++ single) (indices_faults sc es at) none in
         (value_covered e at k (left_none own single front) (and_parts (is_shaped e) (are_shaped es) shaped).0
-        (each_left (UseAllowed may c) (uses c.names e k) (uses_among c.names [] es (k + 0)) us)).word (single_sound c at e (right_none own single front))
+        (each_left (UseAllowed may c) (uses c.names e k) (uses_among c.names [] es (k + 0)) us)).word (single_sound sc at e (left_none own single front) (right_none own single front))
 
     -- arguments, one for each parameter
     pub arguments_covered : (es : Trees) (fs : List Formal) (at : At) (k : ℕ) → (count es == length fs) ≡ true → list_all (λ f. is_some f.kind) fs ≡ true
@@ -262,7 +280,7 @@ module _ (may : Who → Bool) (c : Scope) (st : Setting) (rules : rule.Scope) (s
         let behind = uses_among c.names fs es (k + formal_words f) in
         and_from (is_passed (by_value f) f.kind (is_covered may c st e k) (is_wide may c st e k) (is_covered_reference may c st e k))
         (are_covered_arguments may c st fs es (k + formal_words f))
-        (argument_covered may c st f e at k (faults sc at e) kind.0 (left_none own fit front) (right_none own fit front)
+        (argument_covered may c st f e at k (faults sc at e) kind.0 (left_none own fit front) (right_none own fit front) (λ sound. same_kind sc at e sound)
         (λ sound. value_covered e at k sound shape.0 (each_left (UseAllowed may c) (uses c.names e k) behind us)))
         (arguments_covered es fs at (k + formal_words f) (fewer (count es) (length fs) many) kind.1 (right_none (own ++ fit) others none) shape.1
         (each_right (UseAllowed may c) (uses c.names e k) behind us))

@@ -1,5 +1,5 @@
 -- The number of expressions in a list is its length.
-use Rattle.std.proofs.Common.{◌≡◌, ℕ, ◌+◌, List, [], ◌∷◌, map, length, refl, arith}
+use Rattle.std.proofs.Common.{◌≡◌, List, [], ◌∷◌, map, length, refl, arith}
 use Rattle.spl_tree.specs.Trees.{Tree, trees}
 use Rattle.spl_sorts.specs.spl_meaning.ExpressionRules.{count}
 

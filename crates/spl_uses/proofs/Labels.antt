@@ -1,30 +1,31 @@
 -- A label has no kind.
-use Rattle.std.proofs.Common.{◌≡◌, true, false, Option, Some, None, refl, sym}
+use Rattle.std.proofs.Common.{◌≡◌, ℕ, true, Option, Some, None, refl, sym}
 use Rattle.spl_tree.specs.Trees as tree
 use Rattle.spl_tree.specs.Trees.{Tree}
 use Rattle.spl_sorts.specs.spl_meaning.Names as n
 use Rattle.spl_sorts.specs.spl_meaning.Names.{Names, Sort}
-use Rattle.spl_sorts.specs.spl_meaning.Kinds.{Operand, unknown, kind_of, named_operand}
-use Rattle.spl_sorts.specs.spl_meaning.ExpressionRules.{is_label, is_label_name}
+use Rattle.spl_sorts.specs.spl_meaning.Kinds.{unknown}
+use Rattle.spl_sorts.specs.spl_meaning.ExpressionRules.{count, is_misused, rule_operand, rule_kind, is_label, is_label_name}
 
-unkinded : (s : Option Sort) → is_label s ≡ true → named_operand s ≡ unknown
-unkinded (Some n.label) h = refl
-unkinded None h = refl
-unkinded (Some (n.simple k own)) h = cc
-unkinded (Some (n.array k own low high)) h = cc
-unkinded (Some (n.view k own base)) h = cc
-unkinded (Some (n.pointer k own)) h = cc
-unkinded (Some (n.value k)) h = cc
-unkinded (Some (n.by_reference k)) h = cc
-unkinded (Some (n.array_parameter k)) h = cc
-unkinded (Some (n.equate v)) h = cc
-unkinded (Some (n.intrinsic i)) h = cc
-unkinded (Some (n.procedure p)) h = cc
-unkinded (Some (n.subroutine p)) h = cc
-unkinded (Some n.unknown) h = refl
+unkinded : (s : Option Sort) (given : ℕ) → is_label s ≡ true → rule_operand s given ≡ unknown
+unfolding is_misused
+unkinded (Some n.label) given h = refl
+unkinded None given h = refl
+unkinded (Some (n.simple k own)) given h = cc
+unkinded (Some (n.array k own low high)) given h = cc
+unkinded (Some (n.view k own base)) given h = cc
+unkinded (Some (n.pointer k own)) given h = cc
+unkinded (Some (n.value k)) given h = cc
+unkinded (Some (n.by_reference k)) given h = cc
+unkinded (Some (n.array_parameter k)) given h = cc
+unkinded (Some (n.equate v)) given h = cc
+unkinded (Some (n.intrinsic i)) given h = cc
+unkinded (Some (n.procedure p)) given h = cc
+unkinded (Some (n.subroutine p)) given h = cc
+unkinded (Some n.unknown) given h = refl
 
-pub label_unknown : (names : Names) (e : Tree) → is_label_name names e ≡ true → unknown ≡ kind_of names e
-label_unknown names (tree.Tree.named x es at) h = sym (unkinded (names x) h)
+pub label_unknown : (names : Names) (e : Tree) → is_label_name names e ≡ true → unknown ≡ rule_kind names e
+label_unknown names (tree.Tree.named x es at) h = sym (unkinded (names x) (count es) h)
 label_unknown names (tree.Tree.number v) h = cc
 label_unknown names (tree.Tree.wide v) h = cc
 label_unknown names (tree.Tree.text bytes) h = cc

@@ -1,6 +1,8 @@
 pub mod Counts
+pub mod Fields
 pub mod Labels
 pub mod Named
+pub mod Misused
 pub mod Texts
 pub mod Walks
 -- Passed on from the crates below.

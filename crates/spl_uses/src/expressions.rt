@@ -4,7 +4,6 @@ ghost use Rattle.spl_tree.specs.Views as view;
 ghost use Rattle.spl_tree.specs.Views.{letters};
 ghost use Rattle.spl_tree.specs.Trees.{trees};
 ghost use Rattle.spl_sorts.specs.spl_meaning.Faults.{first_fault, unless};
-ghost use Rattle.spl_sorts.specs.spl_meaning.Kinds.{kind_of, reference_kind};
 ghost use Rattle.spl_sorts.specs.spl_meaning.Pending as pending;
 ghost use Rattle.spl_sorts.specs.spl_meaning.ExpressionRules as rules;
 ghost use Rattle.spl_found.specs.FoundExpressions as found;
@@ -12,12 +11,12 @@ ghost use Rattle.spl_sorts.specs.Sorts.{operand_of};
 ghost use Rattle.spl_sorts.specs.Profiles.{formal_of};
 ghost use Rattle.spl_uses.specs.Scopes.{scope_of};
 
-use crate::names::{constant, constant_place, field, name, variable};
+use crate::names::{constant, constant_place, field, is_misused, name, variable};
 use crate::scopes::Scope;
-use crate::values::{argument, bits, compares_text, is_label_name, operation, single};
-use spl_sorts::{
-    Formal, Operand, Report, Sort, callable, constant_value, in_range, text_value, variable_kind,
+use crate::values::{
+    argument, bits, compares_text, is_label_name, kind_at, may_compare_text, operation, single,
 };
+use spl_sorts::{Formal, Operand, Report, Sort, callable, constant_value, in_range, text_value};
 use spl_tree::{At, Expr, Kind, Name, Ref, unary};
 
 /// 27: in a split procedure a MOVE, a SCAN or a comparison of bytes of anything but a pointer's elements.
@@ -46,19 +45,27 @@ fn far_expression(scope: &Scope<'_>, e: &Expr, report: &mut Report)
 
 /// Whether a reference may be one of bytes: its kind is BYTE, or it has none.
 fn may_be_byte(scope: &Scope<'_>, r: &Ref) -> bool
-    ensures { result ≡ rules.may_be_byte (reference_kind (scope_of scope.now).names (view.reference r.now)) }
+    ensures { result ≡ rules.may_be_byte (rules.rule_reference (scope_of scope.now).names (view.reference r.now)) }
 {
-    matches!(
-        variable_kind(scope.names.find(&r.name)),
-        None | Some(Kind::Byte)
-    )
+    matches!(kind_at(&scope.names, r), None | Some(Kind::Byte))
+}
+
+/// What a name with so many arguments or indices is: nothing is known of one that is misused.
+fn named(scope: &Scope<'_>, name: &Name, given: usize) -> Operand
+    ensures { operand_of result ≡ rules.rule_operand ((scope_of scope.now).names (letters name.now)) given }
+{
+    if is_misused(&scope.names, name, given) {
+        Operand::Unknown
+    } else {
+        Operand::named(scope.names.find(name))
+    }
 }
 
 /// An expression, in a part with this place, and what it is.
 #[cycle(expressions)]
 #[tactic(auto, using(crate::proofs::Counts::counts, crate::proofs::Texts::texts), unfolding(spl_found::specs::FoundExpressions::found))]
 pub fn expression(scope: &Scope<'_>, around: At, e: &Expr, report: &mut Report) -> Operand
-    ensures kind { operand_of result ≡ kind_of (scope_of scope.now).names (view.expression e.now) }
+    ensures kind { operand_of result ≡ rules.rule_kind (scope_of scope.now).names (view.expression e.now) }
     ensures first { report.new ≡ found.found (scope_of scope.now) around (view.expression e.now) report.old }
 {
     match e {
@@ -69,9 +76,10 @@ pub fn expression(scope: &Scope<'_>, around: At, e: &Expr, report: &mut Report) 
             Operand::Constant
         }
         Expr::Named { name: x, args, at } => {
-            name(scope, x, args.len(), *at, report);
+            let given = args.len();
+            name(scope, x, given, *at, report);
             behind(scope, x, args, *at, report);
-            Operand::named(scope.names.find(x))
+            named(scope, x, given)
         }
         Expr::Address {
             name: x,
@@ -109,6 +117,9 @@ pub fn expression(scope: &Scope<'_>, around: At, e: &Expr, report: &mut Report) 
             if compares_text(&scope.names, *op, left, right) {
                 far_expression(scope, left, report);
                 Operand::Of(Kind::Logical)
+            } else if may_compare_text(&scope.names, *op, left, right) {
+                // the string is looked at no further
+                a.binary(*op, Operand::Unknown)
             } else {
                 let b = expression(scope, *at, right, report);
                 operation(&scope.names, *op, left, right, (a, b), *at, report);
@@ -218,7 +229,7 @@ pub fn indices(scope: &Scope<'_>, args: &[Expr], at: At, report: &mut Report)
 #[cycle(expressions)]
 #[tactic(auto, using(crate::proofs::Labels::labels))]
 fn own(scope: &Scope<'_>, formal: Option<&Formal>, e: &Expr, at: At, report: &mut Report) -> Operand
-    ensures kind { operand_of result ≡ kind_of (scope_of scope.now).names (view.expression e.now) }
+    ensures kind { operand_of result ≡ rules.rule_kind (scope_of scope.now).names (view.expression e.now) }
     ensures first { report.new ≡ found.found_own (scope_of scope.now) (option_map (λ f. formal_of f.now) formal.entry) (view.expression e.now) at report.old }
 {
     let by_reference = match formal {

@@ -11,4 +11,6 @@ pub use names::{
     call, constant, constant_place, field, has_elements, name, place, split_use, variable,
 };
 pub use scopes::Scope;
-pub use values::{argument, bits, compares_text, is_label_name, operation, reference_kind, single};
+pub use values::{
+    argument, bits, compares_text, is_label_name, kind_at, operation, reference_kind, single,
+};

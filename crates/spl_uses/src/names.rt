@@ -44,6 +44,28 @@ fn index_fits(sort: Option<&Sort>, indices: usize) -> bool
     }
 }
 
+/// Whether what stands for something of this sort is misused, with so many arguments or indices.
+#[tactic(auto, using(crate::proofs::Misused::misused))]
+fn is_misused_as(sort: Option<&Sort>, given: usize) -> bool
+    ensures { result ≡ rules.is_misused (option_map (λ s. sort_of s.now) sort.entry) given }
+{
+    match sort {
+        None | Some(Sort::Label) => true,
+        Some(Sort::Unknown | Sort::Intrinsic(_) | Sort::Procedure(_) | Sort::Subroutine(_)) => {
+            false
+        }
+        Some(_) => !index_fits(sort, given),
+    }
+}
+
+/// Whether a name may not stand where a value has to be, with so many arguments or indices: it is not declared, it is a label, or its index
+/// has no sense.
+pub fn is_misused(names: &Names<'_>, name: &Name, given: usize) -> bool
+    ensures { result ≡ rules.is_misused ((names_of names.now) (letters name.now)) given }
+{
+    is_misused_as(names.find(name), given)
+}
+
 /// A name where a variable has to be.
 ///
 /// 1: it is not declared. 3: it is of the wrong sort, or its index has no sense. 27: it is global, in a split procedure.
@@ -118,6 +140,7 @@ pub fn constant(names: &Names<'_>, around: At, constant: &Const, report: &mut Re
 }
 
 /// The first bit and the length of a bit field. 13: it is out of range.
+#[tactic(auto, using(crate::proofs::Fields::fields))]
 pub fn field(names: &Names<'_>, start: &Const, length: &Const, at: At, report: &mut Report)
     ensures { report.new ≡ first_fault report.old (rules.field_faults (names_of names.now) (view.constant start.now) (view.constant length.now) at) }
 {

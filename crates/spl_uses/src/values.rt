@@ -3,19 +3,18 @@ ghost use Rattle.std.specs.Prelude.{◌≡◌, option_map};
 ghost use Rattle.spl_tree.specs.Views as view;
 ghost use Rattle.spl_sorts.specs.spl_meaning.Faults.{first_fault};
 ghost use Rattle.spl_sorts.specs.spl_meaning.Kinds as kinds;
-ghost use Rattle.spl_sorts.specs.spl_meaning.Kinds.{kind_of};
 ghost use Rattle.spl_sorts.specs.spl_meaning.ExpressionRules as rules;
 ghost use Rattle.spl_sorts.specs.Sorts.{operand_of};
 ghost use Rattle.spl_sorts.specs.Profiles.{formal_of};
 ghost use Rattle.spl_sorts.specs.Tables.{names_of};
 
-use crate::names::place;
+use crate::names::{is_misused, place};
 use spl_sorts::{Formal, Names, Operand, Report, Sort, fits, same_sort, variable_kind};
-use spl_tree::{At, Expr, Kind, binary};
+use spl_tree::{At, Expr, Kind, Ref, binary};
 
 /// A value of one word, in a part with this place. 14: it is a wide constant. 23: it is a DOUBLE.
 pub fn single(names: &Names<'_>, around: At, e: &Expr, value: Operand, report: &mut Report)
-    requires { operand_of value ≡ kind_of (names_of names.now) (view.expression e.now) }
+    requires { operand_of value ≡ rules.rule_kind (names_of names.now) (view.expression e.now) }
     ensures { report.new ≡ first_fault report.old (rules.single_faults (names_of names.now) around (view.expression e.now)) }
 {
     match e {
@@ -26,7 +25,7 @@ pub fn single(names: &Names<'_>, around: At, e: &Expr, value: Operand, report: &
 
 /// A condition or an operand whose bits are worked on, in a part with this place. 7: it is INTEGER or DOUBLE.
 pub fn bits(names: &Names<'_>, around: At, e: &Expr, value: Operand, report: &mut Report)
-    requires { operand_of value ≡ kind_of (names_of names.now) (view.expression e.now) }
+    requires { operand_of value ≡ rules.rule_kind (names_of names.now) (view.expression e.now) }
     ensures { report.new ≡ first_fault report.old (rules.bits_faults (names_of names.now) around (view.expression e.now)) }
 {
     report.unless(value.is_bits(), 7, place(around, e));
@@ -39,6 +38,18 @@ pub fn reference_kind(names: &Names<'_>, e: &Expr) -> Option<Kind>
     match e {
         Expr::Named { name, .. } => variable_kind(names.find(name)),
         _ => None,
+    }
+}
+
+/// The kind of what a reference names, where its name is not misused.
+pub fn kind_at(names: &Names<'_>, r: &Ref) -> Option<Kind>
+    ensures { result ≡ rules.rule_reference (names_of names.now) (view.reference r.now) }
+{
+    let given = if r.index.is_some() { 1 } else { 0 };
+    if is_misused(names, &r.name, given) {
+        None
+    } else {
+        variable_kind(names.find(&r.name))
     }
 }
 
@@ -94,7 +105,7 @@ pub fn argument(
     at: At,
     report: &mut Report,
 )
-    requires { operand_of value ≡ kind_of (names_of names.now) (view.expression e.now) }
+    requires { operand_of value ≡ rules.rule_kind (names_of names.now) (view.expression e.now) }
     ensures { report.new ≡ first_fault report.old (rules.argument_faults (names_of names.now) (option_map (λ f. formal_of f.now) formal.entry) (view.expression e.now) at) }
 {
     if let Some(formal) = formal {
@@ -113,6 +124,24 @@ pub fn compares_text(names: &Names<'_>, op: u8, left: &Expr, right: &Expr) -> bo
 {
     let relation = binary::EQUAL <= op && op < binary::PLUS;
     relation && matches!(reference_kind(names, left), Some(Kind::Byte)) && is_long_text(right)
+}
+
+/// Whether a relation of a misused name with a string may be meant to compare bytes.
+pub fn may_compare_text(names: &Names<'_>, op: u8, left: &Expr, right: &Expr) -> bool
+    ensures { result ≡ rules.may_compare_text (names_of names.now) op (view.expression left.now) (view.expression right.now) }
+{
+    let relation = binary::EQUAL <= op && op < binary::PLUS;
+    relation && is_misused_name(names, left) && is_long_text(right)
+}
+
+/// Whether an expression is a name that is misused.
+fn is_misused_name(names: &Names<'_>, e: &Expr) -> bool
+    ensures { result ≡ rules.is_misused_name (names_of names.now) (view.expression e.now) }
+{
+    match e {
+        Expr::Named { name, args, .. } => is_misused(names, name, args.len()),
+        _ => false,
+    }
 }
 
 /// Whether it is a string of two or more characters.
@@ -135,8 +164,8 @@ pub fn operation(
     at: At,
     report: &mut Report,
 )
-    requires left { operand_of values.0 ≡ kind_of (names_of names.now) (view.expression left.now) }
-    requires right { operand_of values.1 ≡ kind_of (names_of names.now) (view.expression right.now) }
+    requires left { operand_of values.0 ≡ rules.rule_kind (names_of names.now) (view.expression left.now) }
+    requires right { operand_of values.1 ≡ rules.rule_kind (names_of names.now) (view.expression right.now) }
     ensures { report.new ≡ first_fault report.old (rules.binary_faults (names_of names.now) op (view.expression left.now) (view.expression right.now) at) }
 {
     let (a, b) = values;
