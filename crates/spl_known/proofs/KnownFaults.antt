@@ -428,5 +428,77 @@ equate_without_value : FaultIsSo known.equate_without_value
 unfolding all
 equate_without_value = refl
 
+sum_with_an_indexed_variable : FaultIsSo known.sum_with_an_indexed_variable
+unfolding all
+sum_with_an_indexed_variable = refl
+
+sum_in_a_sum_with_an_indexed_variable : FaultIsSo known.sum_in_a_sum_with_an_indexed_variable
+unfolding all
+sum_in_a_sum_with_an_indexed_variable = refl
+
+sum_with_an_indexed_constant : FaultIsSo known.sum_with_an_indexed_constant
+unfolding all
+sum_with_an_indexed_constant = refl
+
+sum_of_what_is_not_misused : FaultIsSo known.sum_of_what_is_not_misused
+unfolding all
+sum_of_what_is_not_misused = refl
+
+indexed_variable_assigned_to_a_double : FaultIsSo known.indexed_variable_assigned_to_a_double
+unfolding all
+indexed_variable_assigned_to_a_double = refl
+
+indexed_double_shifted : FaultIsSo known.indexed_double_shifted
+unfolding all
+indexed_double_shifted = refl
+
+negated_indexed_variable_as_a_condition : FaultIsSo known.negated_indexed_variable_as_a_condition
+unfolding all
+negated_indexed_variable_as_a_condition = refl
+
+negated_indexed_double_as_an_argument : FaultIsSo known.negated_indexed_double_as_an_argument
+unfolding all
+negated_indexed_double_as_an_argument = refl
+
+negated_indexed_double_as_an_index : FaultIsSo known.negated_indexed_double_as_an_index
+unfolding all
+negated_indexed_double_as_an_index = refl
+
+bytes_moved_from_an_indexed_variable : FaultIsSo known.bytes_moved_from_an_indexed_variable
+unfolding all
+bytes_moved_from_an_indexed_variable = refl
+
+words_scanned_of_an_indexed_variable : FaultIsSo known.words_scanned_of_an_indexed_variable
+unfolding all
+words_scanned_of_an_indexed_variable = refl
+
+bytes_compared_with_an_indexed_variable : FaultIsSo known.bytes_compared_with_an_indexed_variable
+unfolding all
+bytes_compared_with_an_indexed_variable = refl
+
+label_compared_with_a_string : FaultIsSo known.label_compared_with_a_string
+unfolding all
+label_compared_with_a_string = refl
+
+variable_compared_with_a_string : FaultIsSo known.variable_compared_with_a_string
+unfolding all
+variable_compared_with_a_string = refl
+
+length_beyond_the_word_behind_a_string : FaultIsSo known.length_beyond_the_word_behind_a_string
+unfolding all
+length_beyond_the_word_behind_a_string = refl
+
+first_bit_beyond_the_word_before_a_string : FaultIsSo known.first_bit_beyond_the_word_before_a_string
+unfolding all
+first_bit_beyond_the_word_before_a_string = refl
+
+length_of_a_word_behind_a_string : FaultIsSo known.length_of_a_word_behind_a_string
+unfolding all
+length_of_a_word_behind_a_string = refl
+
+last_bit_before_a_string : FaultIsSo known.last_bit_before_a_string
+unfolding all
+last_bit_before_a_string = refl
+
 pub all_fault : AllFaultsSo known.fault_runs
-all_fault = (global_used_before_its_declaration, (second_unit_is_checked_too, (subroutine_of_the_unit_called_in_a_procedure, (the_first_of_two_broken_rules, (undeclared_name, (name_of_a_constant_undeclared, (base_of_a_view_undeclared, (equate_seen_behind_its_item, (name_declared_twice, (parameter_declared_again_in_the_body, (forward_twice, (parameter_twice, (body_twice, (assignment_to_an_intrinsic, (variable_as_a_statement, (index_on_a_variable, (label_as_a_variable, (move_assigned_to_an_element, (cell_of_an_array_assigned, (move_assigned_to_a_field, (integer_compared_with_double, (integer_plus_logical, (integer_with_byte, (product_of_doubles, (shift_of_a_double, (field_of_a_byte_assigned, (word_assigned_to_a_double, (move_assigned_to_a_double, (double_for_a_bit_field, (condition_of_integer_kind, (not_of_an_integer, (and_of_a_double_constant, (too_few_arguments_in_an_expression, (too_many_arguments, (word_as_a_double_argument, (double_constant_for_a_word_parameter, (number_as_a_reference_argument, (byte_for_a_word_by_reference, (call_as_a_reference, (untyped_procedure_in_an_expression, (result_assigned_outside_its_body, (untyped_name_assigned, (bit_field_of_no_bits, (bit_field_past_the_word, (shift_by_sixteen, (shift_count_by_a_name, (equate_above_a_word, (equate_below_a_word, (string_of_three_for_a_word, (wide_constant_as_an_index, (wide_initial_value_of_a_word, (array_bounds_reversed, (more_initial_values_than_elements, (word_as_an_initial_double, (too_many_elements, (view_of_a_byte_array, (view_of_double_kind, (own_view_of_what_is_not, (base_in_another_list, (initial_values_of_a_local_array, (own_outside_a_procedure, (initial_value_of_a_view, (parameter_in_two_lists, (value_of_no_parameter, (value_names_an_array, (parameter_in_no_list, (external_heading_that_differs, (forward_without_body, (heading_that_differs_from_its_forward, (label_twice_in_one_body, (label_in_a_procedure_and_its_subroutine, (jump_into_a_block, (jump_out_of_a_procedure, (label_of_a_branch, (condition_code_after_an_assignment, (condition_code_after_an_indexed_target, (condition_code_tested_twice, (labelled_test_of_the_code, (test_of_the_code_in_a_case, (loop_variable_of_logical_kind, (double_as_an_index, (double_limit_of_a_loop, (loop_over_an_element, (bytes_moved_from_words, (scan_of_words, (comparison_of_words, (return_in_the_main_body, (earlier_column_before_lower_rule, (unknown_intrinsic, (array_in_a_split_procedure, (global_in_a_split_procedure, (reference_parameter_of_a_split_procedure, (address_in_a_split_procedure, (move_in_a_split_procedure, (intrinsic_in_a_split_procedure, (data_in_a_subprogram, (statement_in_a_subprogram, (block_in_a_subprogram, (subroutine_in_a_subprogram, (data_of_more_than_all_words, (result_hidden_by_a_subroutine, (equate_as_an_initial_double, (undeclared_initial_double, (variable_as_an_initial_double, (values_of_an_array_of_no_known_length, (equate_without_value, tt))))))))))))))))))))))))))))))))))))))))))))))))))))))))))))))))))))))))))))))))))))))))))))))))))))))))))
+all_fault = (global_used_before_its_declaration, (second_unit_is_checked_too, (subroutine_of_the_unit_called_in_a_procedure, (the_first_of_two_broken_rules, (undeclared_name, (name_of_a_constant_undeclared, (base_of_a_view_undeclared, (equate_seen_behind_its_item, (name_declared_twice, (parameter_declared_again_in_the_body, (forward_twice, (parameter_twice, (body_twice, (assignment_to_an_intrinsic, (variable_as_a_statement, (index_on_a_variable, (label_as_a_variable, (move_assigned_to_an_element, (cell_of_an_array_assigned, (move_assigned_to_a_field, (integer_compared_with_double, (integer_plus_logical, (integer_with_byte, (product_of_doubles, (shift_of_a_double, (field_of_a_byte_assigned, (word_assigned_to_a_double, (move_assigned_to_a_double, (double_for_a_bit_field, (condition_of_integer_kind, (not_of_an_integer, (and_of_a_double_constant, (too_few_arguments_in_an_expression, (too_many_arguments, (word_as_a_double_argument, (double_constant_for_a_word_parameter, (number_as_a_reference_argument, (byte_for_a_word_by_reference, (call_as_a_reference, (untyped_procedure_in_an_expression, (result_assigned_outside_its_body, (untyped_name_assigned, (bit_field_of_no_bits, (bit_field_past_the_word, (shift_by_sixteen, (shift_count_by_a_name, (equate_above_a_word, (equate_below_a_word, (string_of_three_for_a_word, (wide_constant_as_an_index, (wide_initial_value_of_a_word, (array_bounds_reversed, (more_initial_values_than_elements, (word_as_an_initial_double, (too_many_elements, (view_of_a_byte_array, (view_of_double_kind, (own_view_of_what_is_not, (base_in_another_list, (initial_values_of_a_local_array, (own_outside_a_procedure, (initial_value_of_a_view, (parameter_in_two_lists, (value_of_no_parameter, (value_names_an_array, (parameter_in_no_list, (external_heading_that_differs, (forward_without_body, (heading_that_differs_from_its_forward, (label_twice_in_one_body, (label_in_a_procedure_and_its_subroutine, (jump_into_a_block, (jump_out_of_a_procedure, (label_of_a_branch, (condition_code_after_an_assignment, (condition_code_after_an_indexed_target, (condition_code_tested_twice, (labelled_test_of_the_code, (test_of_the_code_in_a_case, (loop_variable_of_logical_kind, (double_as_an_index, (double_limit_of_a_loop, (loop_over_an_element, (bytes_moved_from_words, (scan_of_words, (comparison_of_words, (return_in_the_main_body, (earlier_column_before_lower_rule, (unknown_intrinsic, (array_in_a_split_procedure, (global_in_a_split_procedure, (reference_parameter_of_a_split_procedure, (address_in_a_split_procedure, (move_in_a_split_procedure, (intrinsic_in_a_split_procedure, (data_in_a_subprogram, (statement_in_a_subprogram, (block_in_a_subprogram, (subroutine_in_a_subprogram, (data_of_more_than_all_words, (result_hidden_by_a_subroutine, (equate_as_an_initial_double, (undeclared_initial_double, (variable_as_an_initial_double, (values_of_an_array_of_no_known_length, (equate_without_value, (sum_with_an_indexed_variable, (sum_in_a_sum_with_an_indexed_variable, (sum_with_an_indexed_constant, (sum_of_what_is_not_misused, (indexed_variable_assigned_to_a_double, (indexed_double_shifted, (negated_indexed_variable_as_a_condition, (negated_indexed_double_as_an_argument, (negated_indexed_double_as_an_index, (bytes_moved_from_an_indexed_variable, (words_scanned_of_an_indexed_variable, (bytes_compared_with_an_indexed_variable, (label_compared_with_a_string, (variable_compared_with_a_string, (length_beyond_the_word_behind_a_string, (first_bit_beyond_the_word_before_a_string, (length_of_a_word_behind_a_string, (last_bit_before_a_string, tt))))))))))))))))))))))))))))))))))))))))))))))))))))))))))))))))))))))))))))))))))))))))))))))))))))))))))))))))))))))))))))

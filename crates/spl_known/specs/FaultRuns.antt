@@ -518,6 +518,96 @@ abbrev pub equate_without_value : KnownFault
 equate_without_value =
     breaking 14 1 1 56 "BEGIN DEFINE D=EQUATE A=\"ABC\"; LOGICAL L; L:=L.(0:A)#; D END."
 
+-- ---- names that are misused
+
+-- a name that is misused has no kind, so that 4 is not broken where the part around it begins
+abbrev pub sum_with_an_indexed_variable : KnownFault
+sum_with_an_indexed_variable =
+    breaking 3 1 1 34 "BEGIN INTEGER I; LOGICAL L; L:=L+I(1) END."
+
+-- nor has a sum of it
+abbrev pub sum_in_a_sum_with_an_indexed_variable : KnownFault
+sum_in_a_sum_with_an_indexed_variable =
+    breaking 3 1 1 35 "BEGIN INTEGER I; LOGICAL L; L:=L+(I(1)+I) END."
+
+-- an EQUATE name has no index
+abbrev pub sum_with_an_indexed_constant : KnownFault
+sum_with_an_indexed_constant =
+    breaking 3 1 1 34 "BEGIN EQUATE E=5; DOUBLE D; D:=D+E(1) END."
+
+-- what is not misused has its kind
+abbrev pub sum_of_what_is_not_misused : KnownFault
+sum_of_what_is_not_misused =
+    breaking 4 1 1 31 "BEGIN INTEGER I; DOUBLE D; D:=I+D END."
+
+-- nor is 6, where it is assigned
+abbrev pub indexed_variable_assigned_to_a_double : KnownFault
+indexed_variable_assigned_to_a_double =
+    breaking 3 1 1 31 "BEGIN INTEGER I; DOUBLE D; D:=I(1) END."
+
+-- nor 5, where it is shifted
+abbrev pub indexed_double_shifted : KnownFault
+indexed_double_shifted =
+    breaking 3 1 1 32 "BEGIN DOUBLE D; LOGICAL L; L:=(D(1))&LSL(1) END."
+
+-- nor 7, where it is a condition
+abbrev pub negated_indexed_variable_as_a_condition : KnownFault
+negated_indexed_variable_as_a_condition =
+    breaking 3 1 1 22 "BEGIN INTEGER I; IF -I(1) THEN I:=1 END."
+
+-- nor 9, where it is an argument
+abbrev pub negated_indexed_double_as_an_argument : KnownFault
+negated_indexed_double_as_an_argument =
+    breaking 3 1 1 39 "BEGIN DOUBLE D; INTRINSIC QUIT; QUIT(-D(1)) END."
+
+-- nor 23, where it is an index
+abbrev pub negated_indexed_double_as_an_index : KnownFault
+negated_indexed_double_as_an_index =
+    breaking 3 1 1 42 "BEGIN INTEGER ARRAY A(0:1); DOUBLE D; A(-D(1)):=2 END."
+
+-- nor 24
+abbrev pub bytes_moved_from_an_indexed_variable : KnownFault
+bytes_moved_from_an_indexed_variable =
+    record (breaking 3 1 1 150 "MOVE B:=I(1),(5) END.") { front = general_declarations }
+
+abbrev pub words_scanned_of_an_indexed_variable : KnownFault
+words_scanned_of_an_indexed_variable =
+    record (breaking 3 1 1 147 "SCAN I(1) WHILE 1 END.") { front = general_declarations }
+
+abbrev pub bytes_compared_with_an_indexed_variable : KnownFault
+bytes_compared_with_an_indexed_variable =
+    record (breaking 3 1 1 147 "IF B=I(1),(2) THEN I:=1 END.") { front = general_declarations }
+
+-- nor 14, where a string is compared with it
+abbrev pub label_compared_with_a_string : KnownFault
+label_compared_with_a_string =
+    breaking 3 1 1 31 "BEGIN LABEL A; INTEGER I; IF (A)=\"ABC\" THEN I:=1; A: END."
+
+-- which is broken behind what is not misused
+abbrev pub variable_compared_with_a_string : KnownFault
+variable_compared_with_a_string =
+    breaking 14 1 1 21 "BEGIN INTEGER I; IF (I)=\"ABC\" THEN I:=1 END."
+
+-- ---- bit fields with a constant that has no value
+
+-- where one of its constants has no value, the other is held to the word by itself
+abbrev pub length_beyond_the_word_behind_a_string : KnownFault
+length_beyond_the_word_behind_a_string =
+    breaking 13 1 1 21 "BEGIN LOGICAL L; L:=L.(\"ABC\":17) END."
+
+abbrev pub first_bit_beyond_the_word_before_a_string : KnownFault
+first_bit_beyond_the_word_before_a_string =
+    breaking 13 1 1 21 "BEGIN LOGICAL L; L:=L.(16:\"ABC\") END."
+
+-- 16 bits, or the bit 15, may be within it
+abbrev pub length_of_a_word_behind_a_string : KnownFault
+length_of_a_word_behind_a_string =
+    breaking 14 1 1 21 "BEGIN LOGICAL L; L:=L.(\"ABC\":16) END."
+
+abbrev pub last_bit_before_a_string : KnownFault
+last_bit_before_a_string =
+    breaking 14 1 1 21 "BEGIN LOGICAL L; L:=L.(15:\"ABC\") END."
+
 -- all of these
 abbrev pub fault_runs : List KnownFault
 fault_runs =
@@ -627,4 +717,22 @@ fault_runs =
     ∷ variable_as_an_initial_double
     ∷ values_of_an_array_of_no_known_length
     ∷ equate_without_value
+    ∷ sum_with_an_indexed_variable
+    ∷ sum_in_a_sum_with_an_indexed_variable
+    ∷ sum_with_an_indexed_constant
+    ∷ sum_of_what_is_not_misused
+    ∷ indexed_variable_assigned_to_a_double
+    ∷ indexed_double_shifted
+    ∷ negated_indexed_variable_as_a_condition
+    ∷ negated_indexed_double_as_an_argument
+    ∷ negated_indexed_double_as_an_index
+    ∷ bytes_moved_from_an_indexed_variable
+    ∷ words_scanned_of_an_indexed_variable
+    ∷ bytes_compared_with_an_indexed_variable
+    ∷ label_compared_with_a_string
+    ∷ variable_compared_with_a_string
+    ∷ length_beyond_the_word_behind_a_string
+    ∷ first_bit_beyond_the_word_before_a_string
+    ∷ length_of_a_word_behind_a_string
+    ∷ last_bit_before_a_string
     ∷ []
