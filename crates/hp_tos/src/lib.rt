@@ -10,6 +10,3 @@ mod stack;
 pub use data::Data;
 pub use refusals::{Overflow, Underflow};
 pub use stack::Stack;
-
-#[cfg(test)]
-mod tests;

@@ -7,6 +7,3 @@ mod gate;
 mod intrinsics;
 
 pub use gate::{Served, serve};
-
-#[cfg(test)]
-mod tests;

@@ -12,6 +12,3 @@ pub use laws::{
 };
 pub use region::Region;
 pub use regions::Regions;
-
-#[cfg(test)]
-mod tests;

@@ -2,8 +2,6 @@
 #![tactic(auto)]
 
 mod parser;
-#[cfg(test)]
-mod tests;
 
 pub use parser::parse;
 pub use spl_tokens::ParseFault;

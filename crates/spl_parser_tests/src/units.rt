@@ -1,54 +1,10 @@
 //! Units worked by hand: which tokens spell one, and where the first fault is.
 
-use super::tokens::tokens;
-use spl_tokens::{Fault, Tokens};
-use spl_units::unit;
-use std::alloc::Global;
+use crate::printed::{Tree, printed};
+use crate::verdicts::Verdict::{self, Syntax, TooDeep, Unit};
+use crate::verdicts::{Rule, compare, verdict_of};
+use std::alloc::{AllocError, Global};
 use std::test::Fail;
-
-/// What a list of tokens comes to; places count its tokens from 0.
-#[derive(Clone, Copy, Debug, PartialEq, Eq)]
-enum Verdict {
-    Unit,
-    Syntax(usize),
-    TooDeep(usize),
-    NoMemory,
-}
-
-use Verdict::{Syntax, TooDeep, Unit};
-
-fn outcome(alloc: Global, text: &str) -> Result<Verdict, Fail> {
-    let tokens = tokens(alloc, text)?;
-    let mut cursor = Tokens::new(&tokens);
-    let read = unit(alloc, &mut cursor, 64);
-    let at = tokens.len().saturating_sub(cursor.left());
-    Ok(match read {
-        Ok(_) => Unit,
-        Err(Fault::Syntax) => Syntax(at),
-        Err(Fault::TooDeep) => TooDeep(at),
-        Err(Fault::NoMemory) => Verdict::NoMemory,
-    })
-}
-
-/// A unit of `count` pieces with `open` before and `close` behind them.
-fn nested(
-    alloc: Global,
-    open: &str,
-    inside: &str,
-    close: &str,
-    count: usize,
-) -> Result<Verdict, Fail> {
-    let mut text = String::from_str(alloc, "BEGIN ")?;
-    for _turn in 0..count {
-        text.push_str(open)?;
-    }
-    text.push_str(inside)?;
-    for _turn in 0..count {
-        text.push_str(close)?;
-    }
-    text.push_str(" END .")?;
-    outcome(alloc, text.as_str())
-}
 
 static UNITS: [(&str, Verdict); 60] = [
     ("BEGIN END .", Unit),
@@ -136,25 +92,7 @@ static UNITS: [(&str, Verdict); 60] = [
 
 #[test]
 fn units_and_their_first_faults(rt: HostRuntime) -> Result<(), Fail> {
-    for (text, wanted) in &UNITS {
-        assert_eq!(rt; outcome(rt.alloc(), text)?, *wanted, "{text}");
-    }
-    Ok(())
-}
-
-#[test]
-fn at_most_64_constructs_are_open(rt: HostRuntime) -> Result<(), Fail> {
-    let alloc = rt.alloc();
-    assert_eq!(rt; nested(alloc, "BEGIN ", "A", " END", 64)?, Unit);
-    assert_eq!(rt; nested(alloc, "BEGIN ", "A", " END", 65)?, TooDeep(65));
-    assert_eq!(rt; nested(alloc, "L : ", "A", "", 64)?, Unit);
-    assert_eq!(rt; nested(alloc, "L : ", "A", "", 65)?, TooDeep(130));
-    assert_eq!(rt; nested(alloc, "IF A THEN ", "B", "", 64)?, Unit);
-    assert_eq!(rt; nested(alloc, "IF A THEN ", "B", "", 65)?, TooDeep(193));
-    assert_eq!(rt; nested(alloc, "", "A := 1", " + 1", 511)?, Unit);
-    assert_eq!(rt; nested(alloc, "", "A := 1", " + 1", 519)?, Unit);
-    assert_eq!(rt; nested(alloc, "", "A := 1", " + 1", 520)?, TooDeep(1042));
-    Ok(())
+    compare(&rt, rt.alloc(), &Rule::Unit, &UNITS)
 }
 
 /// Shapes that nest: what stands before them, their opening words, what is inside, their closing words, and what stands
@@ -169,7 +107,14 @@ type Nest = (
     usize,
 );
 
-static NESTS: [Nest; 13] = [
+/// Eight operators count as one construct.
+const SUM: Nest = ("BEGIN ", "", "A := 1", " + 1", " END .", 519, 1042);
+
+static NESTS: [Nest; 17] = [
+    ("BEGIN ", "BEGIN ", "A", " END", " END .", 64, 65),
+    ("BEGIN ", "L : ", "A", "", " END .", 64, 130),
+    ("BEGIN ", "IF A THEN ", "B", "", " END .", 64, 193),
+    SUM,
     ("BEGIN ", "WHILE A DO ", "B", "", " END .", 64, 193),
     ("BEGIN ", "DO ", "A", " UNTIL B", " END .", 64, 65),
     (
@@ -197,7 +142,7 @@ static NESTS: [Nest; 13] = [
     ),
     // the index of what is assigned
     ("BEGIN A ( ", "( ", "B", " )", " ) := C END .", 63, 66),
-    // eight operators count as one construct
+    // so they do here
     (
         "BEGIN A := 1 + 1 + 1 + 1 + 1 + 1 + 1 + 1 + ",
         "( ",
@@ -237,47 +182,45 @@ static NESTS: [Nest; 13] = [
     ),
 ];
 
+fn add_times(text: &mut String, piece: &str, count: usize) -> Result<(), AllocError> {
+    for _turn in 0..count {
+        text.push_str(piece)?;
+    }
+    Ok(())
+}
+
+fn add_nest(text: &mut String, nest: &Nest, count: usize) -> Result<(), AllocError> {
+    text.push_str(nest.0)?;
+    add_times(text, nest.1, count)?;
+    text.push_str(nest.2)?;
+    add_times(text, nest.3, count)?;
+    text.push_str(nest.4)
+}
+
 /// What a nest of so many comes to.
-fn nest_of(alloc: Global, nest: &Nest, count: usize) -> Result<Verdict, Fail> {
-    let (before, open, inside, close, behind, ..) = *nest;
-    let mut text = String::from_str(alloc, before)?;
-    for _turn in 0..count {
-        text.push_str(open)?;
+fn nest_of(alloc: Global, nest: &Nest, count: usize) -> Result<Verdict, AllocError> {
+    let mut text = String::new(alloc);
+    match add_nest(&mut text, nest, count) {
+        Ok(()) => verdict_of(alloc, &Rule::Unit, text.as_str(), 64),
+        Err(error) => Err(error),
     }
-    text.push_str(inside)?;
-    for _turn in 0..count {
-        text.push_str(close)?;
-    }
-    text.push_str(behind)?;
-    outcome(alloc, text.as_str())
+}
+
+/// Whether so many nest, and one more does not.
+fn nests(alloc: Global, nest: &Nest) -> Result<bool, AllocError> {
+    let (.., most, token) = *nest;
+    let deepest = nest_of(alloc, nest, most)?;
+    let deeper = nest_of(alloc, nest, most.wrapping_add(1))?;
+    Ok(deepest == Unit && deeper == TooDeep(token))
 }
 
 #[test]
 fn each_shape_nests_so_deep(rt: HostRuntime) -> Result<(), Fail> {
     for nest in &NESTS {
-        let (.., most, token) = *nest;
-        assert_eq!(rt; nest_of(rt.alloc(), nest, most)?, Unit, "{}", nest.1);
-        assert_eq!(rt;
-            nest_of(rt.alloc(), nest, most.wrapping_add(1))?,
-            TooDeep(token),
-            "{}",
-            nest.1
-        );
+        assert!(rt; nests(rt.alloc(), nest)?, "{} {}", nest.0, nest.1);
     }
+    assert!(rt; nest_of(rt.alloc(), &SUM, 511)? == Unit);
     Ok(())
-}
-
-/// The parts of a unit with this one statement, as they are printed. Each token has the same place.
-fn printed(alloc: Global, statement: &str) -> Result<String, Fail> {
-    let mut text = String::from_str(alloc, "BEGIN ")?;
-    text.push_str(statement)?;
-    text.push_str(" END .")?;
-    let tokens = tokens(alloc, text.as_str())?;
-    let mut cursor = Tokens::new(&tokens);
-    match unit(alloc, &mut cursor, 64) {
-        Ok(parts) => Ok(format!(in alloc; "{parts:?}")?),
-        Err(_) => Ok(String::new(alloc)),
-    }
 }
 
 /// Two statements, and whether they have one tree. Parentheses leave no trace in it.
@@ -304,17 +247,24 @@ static TREES: [(&str, &str, bool); 20] = [
     ("GO TO L", "GOTO L", true),
 ];
 
+/// The tree of a unit with this one statement. Each token has the same place.
+fn tree(alloc: Global, statement: &str) -> Result<String, AllocError> {
+    let text = format!(in alloc; "BEGIN {statement} END .")?;
+    printed(alloc, &Tree::Unit, text.as_str(), 0)
+}
+
+/// Whether both have trees, and these are the same or not, as is wanted.
+fn are_so(alloc: Global, left: &str, right: &str, same: bool) -> Result<bool, AllocError> {
+    let tree_of_left = tree(alloc, left)?;
+    let tree_of_right = tree(alloc, right)?;
+    let is_same = tree_of_left.as_str() == tree_of_right.as_str();
+    Ok(!tree_of_left.is_empty() && is_same == same)
+}
+
 #[test]
 fn statements_with_one_tree(rt: HostRuntime) -> Result<(), Fail> {
-    let alloc = rt.alloc();
     for (left, right, same) in &TREES {
-        let tree = printed(alloc, left)?;
-        assert!(rt; !tree.is_empty(), "{left}");
-        assert_eq!(rt;
-            tree.as_str() == printed(alloc, right)?.as_str(),
-            *same,
-            "{left}"
-        );
+        assert!(rt; are_so(rt.alloc(), left, right, *same)?, "{left}");
     }
     Ok(())
 }

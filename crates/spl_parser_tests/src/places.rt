@@ -1,40 +1,41 @@
 //! Places of the parts of statements and declarations, worked by hand.
 
-use super::tokens::numbered;
-use spl_tokens::Tokens;
-use spl_units::spl_statements::statement;
-use spl_units::unit;
-use std::alloc::Global;
+use crate::printed::{Tree, printed};
+use std::alloc::{AllocError, Global};
+use std::process::Abort;
 use std::test::Fail;
 
-/// The columns of the places in a printed tree, in the order in which it is printed, parted by blanks.
-fn columns(alloc: Global, printed: &str) -> Result<String, Fail> {
-    let mut columns = String::new(alloc);
+/// Adds the columns of the places in a printed tree, in the order in which it is printed, parted by blanks.
+fn add_columns(columns: &mut String, printed: &str) -> Result<(), AllocError> {
     for part in printed.split("column: ").skip(1) {
-        if !columns.is_empty() {
-            columns.push_str(" ")?;
-        }
-        for digit in part.chars().take_while(|c| c.is_ascii_digit()) {
-            columns.push(digit)?;
+        if let Some((column, _)) = part.split_once(' ') {
+            columns.push_str(if columns.is_empty() { "" } else { " " })?;
+            columns.push_str(column)?;
         }
     }
-    Ok(columns)
+    Ok(())
 }
 
-fn of_statement(alloc: Global, text: &str) -> Result<String, Fail> {
-    let tokens = numbered(alloc, text)?;
-    match statement(alloc, &mut Tokens::new(&tokens), 64) {
-        Ok(tree) => columns(alloc, format!(in alloc; "{tree:?}")?.as_str()),
-        Err(_) => Ok(String::new(alloc)),
+fn columns(alloc: Global, as_what: &Tree, text: &str) -> Result<String, AllocError> {
+    let printed = printed(alloc, as_what, text, 1)?;
+    let mut columns = String::new(alloc);
+    match add_columns(&mut columns, printed.as_str()) {
+        Ok(()) => Ok(columns),
+        Err(error) => Err(error),
     }
 }
 
-fn of_unit(alloc: Global, text: &str) -> Result<String, Fail> {
-    let tokens = numbered(alloc, text)?;
-    match unit(alloc, &mut Tokens::new(&tokens), 64) {
-        Ok(tree) => columns(alloc, format!(in alloc; "{tree:?}")?.as_str()),
-        Err(_) => Ok(String::new(alloc)),
+/// Each text's tree has these places.
+fn compare(
+    rt: &impl Abort,
+    alloc: Global,
+    as_what: &Tree,
+    rows: &[(&str, &str)],
+) -> Result<(), Fail> {
+    for (text, wanted) in rows {
+        assert_eq!(rt; columns(alloc, as_what, text)?.as_str(), *wanted, "{text}");
     }
+    Ok(())
 }
 
 /// Statements whose tokens count from 1, with the places of their parts: what a part has before its own place.
@@ -104,18 +105,10 @@ static UNITS: [(&str, &str); 13] = [
 
 #[test]
 fn places_of_statements(rt: HostRuntime) -> Result<(), Fail> {
-    let alloc = rt.alloc();
-    for (text, wanted) in &STATEMENTS {
-        assert_eq!(rt; of_statement(alloc, text)?.as_str(), *wanted, "{text}");
-    }
-    Ok(())
+    compare(&rt, rt.alloc(), &Tree::Statement, &STATEMENTS)
 }
 
 #[test]
 fn places_of_declarations(rt: HostRuntime) -> Result<(), Fail> {
-    let alloc = rt.alloc();
-    for (text, wanted) in &UNITS {
-        assert_eq!(rt; of_unit(alloc, text)?.as_str(), *wanted, "{text}");
-    }
-    Ok(())
+    compare(&rt, rt.alloc(), &Tree::Unit, &UNITS)
 }

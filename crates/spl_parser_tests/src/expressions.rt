@@ -1,29 +1,9 @@
 //! Expressions and conditions worked by hand: how many tokens one takes, and where its first fault is.
 
-use super::tokens::tokens;
-use spl_tokens::{Fault, Tokens};
-use spl_within::{condition_within, expression_within};
+use crate::verdicts::Rule::{Condition, Expression};
+use crate::verdicts::Verdict::{self, Syntax, Takes, TooDeep};
+use crate::verdicts::{compare, compare_in};
 use std::test::Fail;
-
-/// What a list of tokens begins with: a part of so many tokens, or a fault at a token, counted from 0.
-#[derive(Clone, Copy, Debug, PartialEq, Eq)]
-enum Verdict {
-    Takes(usize),
-    Syntax(usize),
-    TooDeep(usize),
-    NoMemory,
-}
-
-use Verdict::{Syntax, Takes, TooDeep};
-
-fn outcome(fault: Option<Fault>, at: usize) -> Verdict {
-    match fault {
-        None => Takes(at),
-        Some(Fault::Syntax) => Syntax(at),
-        Some(Fault::TooDeep) => TooDeep(at),
-        Some(Fault::NoMemory) => Verdict::NoMemory,
-    }
-}
 
 /// Each expression with the number of constructs that may be opened in it.
 static EXPRESSIONS: [(&str, u8, Verdict); 18] = [
@@ -49,15 +29,7 @@ static EXPRESSIONS: [(&str, u8, Verdict); 18] = [
 
 #[test]
 fn expressions_and_their_first_faults(rt: HostRuntime) -> Result<(), Fail> {
-    let alloc = rt.alloc();
-    for (text, room, wanted) in &EXPRESSIONS {
-        let tokens = tokens(alloc, text)?;
-        let mut cursor = Tokens::new(&tokens);
-        let fault = expression_within(alloc, &mut cursor, *room).err();
-        let at = tokens.len().saturating_sub(cursor.left());
-        assert_eq!(rt; outcome(fault, at), *wanted, "{text}");
-    }
-    Ok(())
+    compare_in(&rt, rt.alloc(), &Expression, &EXPRESSIONS)
 }
 
 static CONDITIONS: [(&str, Verdict); 8] = [
@@ -73,13 +45,5 @@ static CONDITIONS: [(&str, Verdict); 8] = [
 
 #[test]
 fn conditions_and_comparisons_of_bytes(rt: HostRuntime) -> Result<(), Fail> {
-    let alloc = rt.alloc();
-    for (text, wanted) in &CONDITIONS {
-        let tokens = tokens(alloc, text)?;
-        let mut cursor = Tokens::new(&tokens);
-        let fault = condition_within(alloc, &mut cursor, 64).err();
-        let at = tokens.len().saturating_sub(cursor.left());
-        assert_eq!(rt; outcome(fault, at), *wanted, "{text}");
-    }
-    Ok(())
+    compare(&rt, rt.alloc(), &Condition, &CONDITIONS)
 }
