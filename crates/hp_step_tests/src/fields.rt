@@ -48,7 +48,7 @@ type Done = (
     Code,
 );
 
-const CASES: [Done; 27] = [
+static CASES: [Done; 27] = [
     (0o010001, &[1], 0, &[2], 3, (1, 1, 0), Code::Greater),
     (0o010101, &[32768], 1, &[49152], 3, (1, 0, 0), Code::Less),
     (0o010204, &[4097], 0, &[16], 3, (1, 1, 0), Code::Greater),
@@ -102,67 +102,93 @@ const CASES: [Done; 27] = [
     (0o034003, &[1, 2, 3, 4], 2, &[1], 3, (0, 0, 0), Code::Equal),
 ];
 
+/// Whether an instruction passes P, and leaves what its line says.
+fn is_done(alloc: Global, case: &Done) -> Result<bool, AllocError> {
+    let &(word, before, in_registers, after, x, wanted, code) = case;
+    let mut stack = stack_with(alloc, before, in_registers)?;
+    let mut regs = REGS;
+    let (fills, spills) = (stack.fills, stack.spills);
+    let answer = done(word, &mut regs, &mut stack);
+    Ok(
+        answer == Some(Ok(()))
+            && (regs.x, regs.code, regs.p) == (x, code, 11)
+            && has_words(&stack, after)
+            && numbers(&stack, fills, spills) == wanted,
+    )
+}
+
 #[test]
 fn each_instruction_passes_p_and_moves_its_words(rt: HostRuntime) -> Result<(), Fail> {
-    for (word, before, in_registers, after, x, wanted, code) in CASES {
-        let mut stack = stack_with(rt.alloc(), before, in_registers)?;
-        let mut regs = REGS;
-        let (fills, spills) = (stack.fills, stack.spills);
-        let answer = done(word, &mut regs, &mut stack);
-        assert_eq!(rt; answer, Some(Ok(())), "{word:o}");
-        assert_eq!(rt; (regs.x, regs.code, regs.p), (x, code, 11), "{word:o}");
-        assert!(rt; has_words(&stack, after), "{word:o}");
-        assert_eq!(rt; numbers(&stack, fills, spills), wanted, "{word:o}");
+    for case in &CASES {
+        assert!(rt; is_done(rt.alloc(), case)?, "{:o}", case.0);
     }
     Ok(())
 }
 
+/// A word, the words of a stack and how many of them stand in registers, the trap, and the numbers.
+type Trapped = (u16, &'static [u16], u8, Trap, (u8, u64, u64));
+
+static TRAPS: [Trapped; 9] = [
+    (0o022001, &[32767], 0, Trap::IntegerOverflow, (1, 1, 0)),
+    (0o023400, &[1], 0, Trap::DivideByZero, (1, 1, 0)),
+    (0o033000, &[1, 8], 0, Trap::StackOverflow, (1, 1, 0)),
+    (0o033007, &[1, 2], 1, Trap::StackOverflow, (1, 0, 0)),
+    (0o033406, &[1, 2, 3], 1, Trap::StackOverflow, (1, 0, 0)),
+    (
+        0o020401,
+        &[1, 2, 3, 4, 5, 6, 7, 8],
+        3,
+        Trap::StackOverflow,
+        (3, 0, 0),
+    ),
+    (0o034002, &[1], 1, Trap::StackUnderflow, (1, 0, 0)),
+    (0o026104, &[1], 0, Trap::StackUnderflow, (0, 0, 0)),
+    (0o020002, &[1], 1, Trap::Mode, (1, 0, 0)),
+];
+
+/// Whether an instruction traps so, and leaves the words and all registers.
+fn is_trapped(alloc: Global, trapped: &Trapped) -> Result<bool, AllocError> {
+    let &(word, words, in_registers, trap, wanted) = trapped;
+    let mut stack = stack_with(alloc, words, in_registers)?;
+    let mut regs = REGS;
+    let (fills, spills) = (stack.fills, stack.spills);
+    let answer = done(word, &mut regs, &mut stack);
+    Ok(
+        answer == Some(Err(trap))
+            && regs == REGS
+            && has_words(&stack, words)
+            && numbers(&stack, fills, spills) == wanted,
+    )
+}
+
 #[test]
 fn each_trap_leaves_the_words(rt: HostRuntime) -> Result<(), Fail> {
-    let cases: [(u16, &[u16], u8, Trap, (u8, u64, u64)); 9] = [
-        (0o022001, &[32767], 0, Trap::IntegerOverflow, (1, 1, 0)),
-        (0o023400, &[1], 0, Trap::DivideByZero, (1, 1, 0)),
-        (0o033000, &[1, 8], 0, Trap::StackOverflow, (1, 1, 0)),
-        (0o033007, &[1, 2], 1, Trap::StackOverflow, (1, 0, 0)),
-        (0o033406, &[1, 2, 3], 1, Trap::StackOverflow, (1, 0, 0)),
-        (
-            0o020401,
-            &[1, 2, 3, 4, 5, 6, 7, 8],
-            3,
-            Trap::StackOverflow,
-            (3, 0, 0),
-        ),
-        (0o034002, &[1], 1, Trap::StackUnderflow, (1, 0, 0)),
-        (0o026104, &[1], 0, Trap::StackUnderflow, (0, 0, 0)),
-        (0o020002, &[1], 1, Trap::Mode, (1, 0, 0)),
-    ];
-    for (word, words, in_registers, trap, wanted) in cases {
-        let mut stack = stack_with(rt.alloc(), words, in_registers)?;
-        let mut regs = REGS;
-        let (fills, spills) = (stack.fills, stack.spills);
-        let answer = done(word, &mut regs, &mut stack);
-        assert_eq!(rt; answer, Some(Err(trap)), "{word:o}");
-        assert_eq!(rt; regs, REGS, "{word:o}");
-        assert!(rt; has_words(&stack, words), "{word:o}");
-        assert_eq!(rt; numbers(&stack, fills, spills), wanted, "{word:o}");
+    for trapped in &TRAPS {
+        assert!(rt; is_trapped(rt.alloc(), trapped)?, "{:o}", trapped.0);
     }
     Ok(())
 }
+
+/// A word, what is answered to it, and whether the mode is split afterwards.
+type Moded = (u16, Option<Result<(), Trap>>, bool);
+
+/// Instructions one after another: SPLT twice, JOIN, LDI 5, and a pair, which is none of the group.
+static MODES: [Moded; 5] = [
+    (0o020001, Some(Ok(())), true),
+    (0o020001, Some(Err(Trap::Mode)), true),
+    (0o020002, Some(Ok(())), false),
+    (0o020405, Some(Ok(())), false),
+    (0o000000, None, false),
+];
 
 #[test]
 fn the_mode_is_split_once_and_joined_once(rt: HostRuntime) -> Result<(), Fail> {
     let mut stack = stack_with(rt.alloc(), &[1, 2], 1)?;
     let mut regs = REGS;
-    assert_eq!(rt; done(0o020001, &mut regs, &mut stack), Some(Ok(())));
-    assert!(rt; stack.is_split());
-    assert_eq!(rt;
-        done(0o020001, &mut regs, &mut stack),
-        Some(Err(Trap::Mode))
-    );
-    assert_eq!(rt; done(0o020002, &mut regs, &mut stack), Some(Ok(())));
-    assert!(rt; !stack.is_split());
-    assert_eq!(rt; done(0o020405, &mut regs, &mut stack), Some(Ok(())));
-    assert_eq!(rt; (regs.p, stack.words(), stack.top.len()), (13, 3, 2));
-    assert_eq!(rt; done(0o000000, &mut regs, &mut stack), None);
+    for (word, answer, split) in &MODES {
+        let answered = done(*word, &mut regs, &mut stack) == *answer;
+        assert!(rt; answered && stack.is_split() == *split, "{word:o}");
+    }
+    assert!(rt; (regs.p, stack.words(), stack.top.len()) == (13, 3, 2));
     Ok(())
 }

@@ -8,6 +8,7 @@ use hp_session::Regs;
 use hp_tos::Stack;
 use hp_word::{Code, Trap};
 use std::alloc::{AllocError, Global};
+use std::process::Abort;
 use std::test::Fail;
 
 /// Registers with P 4, all flags off, and CCE.
@@ -63,8 +64,8 @@ type Done = (
 );
 
 /// Whether a step leaves what its line says.
-fn is_done(alloc: Global, program: &Program, case: Done) -> Result<bool, AllocError> {
-    let (word, before, in_registers, after, step, wanted, (carry, code)) = case;
+fn is_done(alloc: Global, program: &Program, case: &Done) -> Result<bool, AllocError> {
+    let &(word, before, in_registers, after, step, wanted, (carry, code)) = case;
     let mut stack = stack_with(alloc, before, in_registers)?;
     let mut regs = REGS;
     let (fills, spills) = (stack.fills, stack.spills);
@@ -322,22 +323,23 @@ static SCANS: [Done; 13] = [
     ),
 ];
 
-#[test]
-fn words_and_bytes_are_moved(rt: HostRuntime) -> Result<(), Fail> {
-    let program = program(rt.alloc())?.expect(&rt, "a valid program");
-    for case in MOVES {
-        assert!(rt; is_done(rt.alloc(), &program, case)?, "{:o}", case.0);
+/// Each step leaves what its line says.
+fn all_are_done(rt: &impl Abort, alloc: Global, cases: &[Done]) -> Result<(), Fail> {
+    let program = program(alloc)?.expect(rt, "a valid program");
+    for case in cases {
+        assert!(rt; is_done(alloc, &program, case)?, "{:o}", case.0);
     }
     Ok(())
 }
 
 #[test]
+fn words_and_bytes_are_moved(rt: HostRuntime) -> Result<(), Fail> {
+    all_are_done(&rt, rt.alloc(), &MOVES)
+}
+
+#[test]
 fn bytes_are_passed_and_compared(rt: HostRuntime) -> Result<(), Fail> {
-    let program = program(rt.alloc())?.expect(&rt, "a valid program");
-    for case in SCANS {
-        assert!(rt; is_done(rt.alloc(), &program, case)?, "{:o}", case.0);
-    }
-    Ok(())
+    all_are_done(&rt, rt.alloc(), &SCANS)
 }
 
 /// A word, the words of a stack, how many stand in registers, the trap, and the numbers.
@@ -357,18 +359,30 @@ static TRAPS: [Trapped; 10] = [
     (0o036400, &[10, 900, 10], 0, Trap::Bounds, (2, 2, 0)),
 ];
 
+/// Whether an instruction traps so, and leaves the words and all registers.
+fn is_trapped(alloc: Global, program: &Program, trapped: &Trapped) -> Result<bool, AllocError> {
+    let &(word, words, in_registers, trap, wanted) = trapped;
+    let mut stack = stack_with(alloc, words, in_registers)?;
+    let mut regs = REGS;
+    let (fills, spills) = (stack.fills, stack.spills);
+    let answer = done(word, &mut regs, &mut stack, program);
+    Ok(
+        answer == Some(Err(trap))
+            && regs == REGS
+            && has_words(&stack, words)
+            && numbers(&stack, fills, spills) == wanted,
+    )
+}
+
 #[test]
 fn traps_leave_the_words(rt: HostRuntime) -> Result<(), Fail> {
     let program = program(rt.alloc())?.expect(&rt, "a valid program");
-    for (word, words, in_registers, trap, wanted) in TRAPS {
-        let mut stack = stack_with(rt.alloc(), words, in_registers)?;
-        let mut regs = REGS;
-        let (fills, spills) = (stack.fills, stack.spills);
-        let answer = done(word, &mut regs, &mut stack, &program);
-        assert_eq!(rt; answer, Some(Err(trap)), "{word:o}");
-        assert_eq!(rt; regs, REGS, "{word:o}");
-        assert!(rt; has_words(&stack, words), "{word:o}");
-        assert_eq!(rt; numbers(&stack, fills, spills), wanted, "{word:o}");
+    for trapped in &TRAPS {
+        assert!(rt;
+            is_trapped(rt.alloc(), &program, trapped)?,
+            "{:o}",
+            trapped.0
+        );
     }
     Ok(())
 }
@@ -382,29 +396,34 @@ static CUTS: [&[u16]; 5] = [
     &[11, 12, 13, 11, 12, 13, 6],
 ];
 
+/// Whether a step of a move of three, of which so many elements were moved, comes from these words to those. As many words stand in
+/// registers as elements were moved.
+fn goes_on(
+    alloc: Global,
+    program: &Program,
+    before: &[u16],
+    moved: u8,
+    after: &[u16],
+) -> Result<bool, AllocError> {
+    let mut stack = stack_with(alloc, before, moved)?;
+    let mut regs = REGS;
+    let (step, p) = if moved < 3 {
+        (MoveStep::Moving, 4)
+    } else {
+        (MoveStep::Moved, 5)
+    };
+    let answer = done(0o034400, &mut regs, &mut stack, program);
+    Ok(answer == Some(Ok(step)) && has_words(&stack, after) && regs == (Regs { p, ..REGS }))
+}
+
 #[test]
 fn a_move_goes_on_after_each_element_from_its_stack_alone(rt: HostRuntime) -> Result<(), Fail> {
     let program = program(rt.alloc())?.expect(&rt, "a valid program");
     for k in 0..4usize {
-        // as many words in registers as elements were moved
-        let mut stack = stack_with(rt.alloc(), CUTS[k], k as u8)?;
-        let mut regs = REGS;
-        let step = if k < 3 {
-            MoveStep::Moving
-        } else {
-            MoveStep::Moved
-        };
-        assert_eq!(rt;
-            done(0o034400, &mut regs, &mut stack, &program),
-            Some(Ok(step))
-        );
-        assert!(rt; has_words(&stack, CUTS[k + 1]), "{k}");
-        assert_eq!(rt;
-            regs,
-            Regs {
-                p: if k < 3 { 4 } else { 5 },
-                ..REGS
-            }
+        let (before, after) = (CUTS[k], CUTS[k + 1]);
+        assert!(rt;
+            goes_on(rt.alloc(), &program, before, k as u8, after)?,
+            "{k}"
         );
     }
     Ok(())
@@ -417,12 +436,10 @@ fn data_are_the_extra_segment_in_split_mode(rt: HostRuntime) -> Result<(), Fail>
     stack.split();
     let mut regs = REGS;
     // MVB from byte 0 to byte 1
-    assert_eq!(rt;
-        done(0o035000, &mut regs, &mut stack, &program),
-        Some(Ok(MoveStep::Moving))
-    );
-    assert_eq!(rt; stack.read_db(0), Ok(0x5151));
+    let answer = done(0o035000, &mut regs, &mut stack, &program);
+    assert!(rt; answer == Some(Ok(MoveStep::Moving)));
+    assert!(rt; stack.read_db(0) == Ok(0x5151));
     assert!(rt; has_words(&stack, &[2, 1, 0]));
-    assert_eq!(rt; done(0o020401, &mut regs, &mut stack, &program), None);
+    assert!(rt; done(0o020401, &mut regs, &mut stack, &program).is_none());
     Ok(())
 }

@@ -37,7 +37,7 @@ type Done = (
     Code,
 );
 
-const PLACED: [Done; 26] = [
+static PLACED: [Done; 26] = [
     (Op::NOP, &[1, 2], 1, &[1, 2], 3, (1, 0, 0), Code::Equal),
     (Op::DELB, &[1, 2, 3], 0, &[1, 3], 3, (1, 2, 0), Code::Equal),
     (Op::DDEL, &[1, 2, 3], 1, &[1], 3, (0, 1, 0), Code::Equal),
@@ -138,7 +138,7 @@ const PLACED: [Done; 26] = [
     (Op::BTST, &[16693], 0, &[16693], 3, (1, 1, 0), Code::Greater),
 ];
 
-const RECKONED: [Done; 23] = [
+static RECKONED: [Done; 23] = [
     (
         Op::DCMP,
         &[0, 1, 65535, 65535],
@@ -213,8 +213,8 @@ const RECKONED: [Done; 23] = [
 ];
 
 /// Whether an operation leaves what its line says.
-fn is_done(alloc: Global, done: Done) -> Result<bool, AllocError> {
-    let (op, before, in_registers, after, x, wanted, code) = done;
+fn is_done(alloc: Global, done: &Done) -> Result<bool, AllocError> {
+    let &(op, before, in_registers, after, x, wanted, code) = done;
     let mut stack = stack_with(alloc, before, in_registers)?;
     let mut regs = REGS;
     let (fills, spills) = (stack.fills, stack.spills);
@@ -229,7 +229,7 @@ fn is_done(alloc: Global, done: Done) -> Result<bool, AllocError> {
 
 #[test]
 fn operations_that_place_words(rt: HostRuntime) -> Result<(), Fail> {
-    for done in PLACED {
+    for done in &PLACED {
         assert!(rt; is_done(rt.alloc(), done)?, "code {}", done.0.code);
     }
     Ok(())
@@ -237,45 +237,57 @@ fn operations_that_place_words(rt: HostRuntime) -> Result<(), Fail> {
 
 #[test]
 fn operations_that_reckon(rt: HostRuntime) -> Result<(), Fail> {
-    for done in RECKONED {
+    for done in &RECKONED {
         assert!(rt; is_done(rt.alloc(), done)?, "code {}", done.0.code);
     }
     Ok(())
 }
 
+/// The code of an operation, the words of a stack and how many of them stand in registers, the trap, and the numbers.
+type Trapped = (u8, &'static [u16], u8, Trap, (u8, u64, u64));
+
+static TRAPS: [Trapped; 8] = [
+    (0o20, &[32767, 1], 1, Trap::IntegerOverflow, (2, 1, 0)),
+    (0o15, &[32768, 0], 2, Trap::IntegerOverflow, (2, 0, 0)),
+    (0o23, &[1, 0], 0, Trap::DivideByZero, (2, 2, 0)),
+    (0o64, &[0, 1, 0], 0, Trap::DivideByZero, (3, 3, 0)),
+    (0o11, &[1, 2, 3], 1, Trap::StackUnderflow, (1, 0, 0)),
+    (
+        0o06,
+        &[1, 2, 3, 4, 5, 6, 7, 8],
+        2,
+        Trap::StackOverflow,
+        (2, 0, 0),
+    ),
+    (
+        0o46,
+        &[1, 2, 3, 4, 5, 6, 7],
+        0,
+        Trap::StackOverflow,
+        (2, 2, 0),
+    ),
+    (0o13, &[1, 2], 1, Trap::Illegal, (1, 0, 0)),
+];
+
+/// Whether an operation traps so, and leaves the words and all registers.
+fn is_trapped(alloc: Global, trapped: &Trapped) -> Result<bool, AllocError> {
+    let &(code, words, in_registers, trap, wanted) = trapped;
+    let mut stack = stack_with(alloc, words, in_registers)?;
+    let mut regs = REGS;
+    let (fills, spills) = (stack.fills, stack.spills);
+    let answer = stack_op(Op { code }, &mut regs, &mut stack);
+    Ok(
+        answer == Err(trap)
+            && regs == REGS
+            && has_words(&stack, words)
+            && numbers(&stack, fills, spills) == wanted,
+    )
+}
+
 #[test]
 fn traps_come_after_fills_and_before_pushes(rt: HostRuntime) -> Result<(), Fail> {
-    let cases: [(u8, &[u16], u8, Trap, (u8, u64, u64)); 8] = [
-        (0o20, &[32767, 1], 1, Trap::IntegerOverflow, (2, 1, 0)),
-        (0o15, &[32768, 0], 2, Trap::IntegerOverflow, (2, 0, 0)),
-        (0o23, &[1, 0], 0, Trap::DivideByZero, (2, 2, 0)),
-        (0o64, &[0, 1, 0], 0, Trap::DivideByZero, (3, 3, 0)),
-        (0o11, &[1, 2, 3], 1, Trap::StackUnderflow, (1, 0, 0)),
-        (
-            0o06,
-            &[1, 2, 3, 4, 5, 6, 7, 8],
-            2,
-            Trap::StackOverflow,
-            (2, 0, 0),
-        ),
-        (
-            0o46,
-            &[1, 2, 3, 4, 5, 6, 7],
-            0,
-            Trap::StackOverflow,
-            (2, 2, 0),
-        ),
-        (0o13, &[1, 2], 1, Trap::Illegal, (1, 0, 0)),
-    ];
-    for (code, words, in_registers, trap, wanted) in cases {
-        let mut stack = stack_with(rt.alloc(), words, in_registers)?;
-        let mut regs = REGS;
-        let (fills, spills) = (stack.fills, stack.spills);
-        let answer = stack_op(Op { code }, &mut regs, &mut stack);
-        assert_eq!(rt; answer, Err(trap), "code {code}");
-        assert_eq!(rt; regs, REGS, "code {code}");
-        assert!(rt; has_words(&stack, words), "code {code}");
-        assert_eq!(rt; numbers(&stack, fills, spills), wanted, "code {code}");
+    for trapped in &TRAPS {
+        assert!(rt; is_trapped(rt.alloc(), trapped)?, "code {}", trapped.0);
     }
     Ok(())
 }

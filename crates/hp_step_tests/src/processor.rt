@@ -311,22 +311,42 @@ static LINES: [Line; 22] = [
     ),
 ];
 
+/// A processor with these registers, and these words on its stack, so many of them in registers.
+fn cpu_with(
+    alloc: Global,
+    regs: Regs,
+    words: &[u16],
+    in_registers: u8,
+    segments: u8,
+) -> Result<Cpu, AllocError> {
+    Ok(Cpu {
+        regs,
+        phase: Phase::Ready,
+        stack: stack_with(alloc, 9, words, in_registers, &[])?,
+        segments,
+    })
+}
+
+/// Whether a step leaves what its line says.
+fn is_stepped(alloc: Global, line: &Line) -> Result<bool, AllocError> {
+    let &(word, right, before, in_registers, answer, after, p, r, wanted) = line;
+    let mut cpu = cpu_with(alloc, Regs { right, ..REGS }, before, in_registers, 2)?;
+    let Some(program) = program_with(alloc, word)? else {
+        return Ok(false);
+    };
+    let (fills, spills) = (cpu.stack.fills, cpu.stack.spills);
+    Ok(
+        cpu.step(&program) == answer
+            && has_words(&cpu.stack, after)
+            && (cpu.regs.p, cpu.regs.right, cpu.phase) == (p, r, Phase::Ready)
+            && numbers(&cpu.stack, fills, spills) == wanted,
+    )
+}
+
 #[test]
 fn steps_with_the_numbers_of_registers(rt: HostRuntime) -> Result<(), Fail> {
-    for (word, right, before, in_registers, answer, after, p, r, wanted) in LINES {
-        let program = program_with(rt.alloc(), word)?.expect(&rt, "a valid program");
-        let mut cpu = Cpu {
-            regs: Regs { right, ..REGS },
-            phase: Phase::Ready,
-            stack: stack_with(rt.alloc(), 9, before, in_registers, &[])?,
-            segments: 2,
-        };
-        let (fills, spills) = (cpu.stack.fills, cpu.stack.spills);
-        assert_eq!(rt; cpu.step(&program), answer, "{word}");
-        assert!(rt; has_words(&cpu.stack, after), "{word}");
-        assert_eq!(rt; (cpu.regs.p, cpu.regs.right), (p, r), "{word}");
-        assert_eq!(rt; cpu.phase, Phase::Ready, "{word}");
-        assert_eq!(rt; numbers(&cpu.stack, fills, spills), wanted, "{word}");
+    for line in &LINES {
+        assert!(rt; is_stepped(rt.alloc(), line)?, "{}", line.0);
     }
     Ok(())
 }
@@ -362,47 +382,48 @@ impl CodeStore for Loaded {
     }
 }
 
+/// A word, and what its step leaves.
+type Fetch = (u16, &'static [u16]);
+
+static FETCHES: [Fetch; 2] = [(0o4500, &[10, 20, 20]), (0o0600, &[10, 20, 0])];
+
+/// Whether the step of a word that was put where NOP,NOP stood when the segment was loaded leaves that.
+fn is_fetched(alloc: Global, &(word, after): &Fetch) -> Result<bool, AllocError> {
+    let mut cpu = cpu_with(alloc, REGS, &[10, 20], 2, 1)?;
+    let mut words = vec![in alloc; 0, 0, 0, 1]?;
+    words[0] = word;
+    let store = Loaded { seg: 0, words };
+    Ok(cpu.step(&store) == Stepped::Went && has_words(&cpu.stack, after))
+}
+
 #[test]
 fn a_word_comes_from_the_store(rt: HostRuntime) -> Result<(), Fail> {
-    for (word, answer, after) in [
-        (0o4500, Stepped::Went, &[10, 20, 20]),
-        (0o0600, Stepped::Went, &[10, 20, 0]),
-    ] {
-        // NOP,NOP stood there when the segment was loaded
-        let mut words = vec![in rt.alloc(); 0, 0, 0, 1]?;
-        words[0] = word;
-        let store = Loaded { seg: 0, words };
-        let mut cpu = Cpu {
-            regs: REGS,
-            phase: Phase::Ready,
-            stack: stack_with(rt.alloc(), 9, &[10, 20], 2, &[])?,
-            segments: 1,
-        };
-        assert_eq!(rt; cpu.step(&store), answer);
-        assert!(rt; has_words(&cpu.stack, after));
+    for fetch in &FETCHES {
+        assert!(rt; is_fetched(rt.alloc(), fetch)?, "{}", fetch.0);
     }
     Ok(())
+}
+
+/// Whether a step traps at P, and leaves registers and words where they are.
+fn is_past_the_end(alloc: Global, program: &Program, p: u16) -> Result<bool, AllocError> {
+    let regs = Regs {
+        p,
+        right: true,
+        ..REGS
+    };
+    let mut cpu = cpu_with(alloc, regs, &[10, 20], 2, 2)?;
+    Ok(
+        cpu.step(program) == Stepped::Trapped(Trap::CodeBounds)
+            && cpu.regs == regs
+            && cpu.stack.top.len() == 2,
+    )
 }
 
 #[test]
 fn there_is_no_word_past_the_end(rt: HostRuntime) -> Result<(), Fail> {
     let program = program_with(rt.alloc(), 0)?.expect(&rt, "a valid program");
-    for p in [8, 65535] {
-        let regs = Regs {
-            p,
-            right: true,
-            ..REGS
-        };
-        let mut cpu = Cpu {
-            regs,
-            phase: Phase::Ready,
-            stack: stack_with(rt.alloc(), 9, &[10, 20], 2, &[])?,
-            segments: 2,
-        };
-        assert_eq!(rt; cpu.step(&program), Stepped::Trapped(Trap::CodeBounds));
-        assert_eq!(rt; cpu.regs, regs);
-        assert_eq!(rt; cpu.stack.top.len(), 2);
-    }
+    assert!(rt; is_past_the_end(rt.alloc(), &program, 8)?);
+    assert!(rt; is_past_the_end(rt.alloc(), &program, 65535)?);
     Ok(())
 }
 
@@ -418,77 +439,64 @@ fn state(cpu: &Cpu) -> (Regs, Phase, u8, u64, u64, u16) {
     )
 }
 
+/// Whether each of three steps asks for an absent segment and changes nothing.
+fn waits<C: CodeStore>(cpu: &mut Cpu, store: &C, seg: u8) -> bool {
+    let waiting = state(cpu);
+    for _ in 0..3u8 {
+        if cpu.step(store) != Stepped::Absent(seg) || state(cpu) != waiting {
+            return false;
+        }
+    }
+    true
+}
+
 #[test]
 fn a_call_waits_for_its_segment(rt: HostRuntime) -> Result<(), Fail> {
+    let mut cpu = cpu_with(rt.alloc(), REGS, &[10, 20], 0, 2)?;
     let program = program_with(rt.alloc(), 0o30002)?.expect(&rt, "a valid program");
     let store = Lacking {
         program: &program,
         seg: 1,
     };
-    let mut cpu = Cpu {
-        regs: REGS,
-        phase: Phase::Ready,
-        stack: stack_with(rt.alloc(), 9, &[10, 20], 0, &[])?,
-        segments: 2,
-    };
     // the call is a step, though its segment is not there
-    assert_eq!(rt; cpu.step(&store), Stepped::Went);
-    assert_eq!(rt; cpu.phase, Phase::Entering { seg: 1, entry: 1 });
-    assert_eq!(rt; cpu.needed_segment(), 1);
+    assert!(rt; cpu.step(&store) == Stepped::Went);
+    assert!(rt; cpu.phase == Phase::Entering { seg: 1, entry: 1 });
+    assert!(rt; cpu.needed_segment() == 1);
     assert!(rt; has_words(&cpu.stack, &[10, 20, 7, 1, 0o23000, 4]));
-    let waiting = state(&cpu);
-    for _ in 0..3u8 {
-        assert_eq!(rt; cpu.step(&store), Stepped::Absent(1));
-        assert_eq!(rt; state(&cpu), waiting);
-    }
+    assert!(rt; waits(&mut cpu, &store, 1));
     // the next step is the pair at offset 3 of the second segment
-    assert_eq!(rt; cpu.step(&program), Stepped::Went);
-    assert_eq!(rt; (cpu.regs.seg, cpu.regs.p, cpu.phase), (1, 4, Phase::Ready));
+    assert!(rt; cpu.step(&program) == Stepped::Went);
+    assert!(rt; (cpu.regs.seg, cpu.regs.p, cpu.phase) == (1, 4, Phase::Ready));
     assert!(rt; has_words(&cpu.stack, &[10, 20, 7, 1, 0o23000, 4]));
     // with no transfer under way it is the current segment that is needed
-    let waiting = state(&cpu);
-    for _ in 0..3u8 {
-        assert_eq!(rt; cpu.step(&store), Stepped::Absent(1));
-        assert_eq!(rt; state(&cpu), waiting);
-    }
+    assert!(rt; waits(&mut cpu, &store, 1));
     Ok(())
 }
 
+/// Registers in the procedure that was called, at its EXIT.
+const CALLED: Regs = Regs {
+    q: 5,
+    p: 3,
+    seg: 1,
+    ..REGS
+};
+
+/// Registers after the return and NOP,NOP.
+const RETURNED: Regs = Regs { x: 8, p: 2, ..REGS };
+
 #[test]
 fn a_return_waits_for_its_segment(rt: HostRuntime) -> Result<(), Fail> {
+    let mut cpu = cpu_with(rt.alloc(), CALLED, &[10, 20, 8, 1, 0o23000, 4], 4, 2)?;
     let program = program_with(rt.alloc(), 0o30002)?.expect(&rt, "a valid program");
     let exit = Loaded {
         seg: 1,
         words: vec![in rt.alloc(); 0, 0, 0, 0o30400, 0, 3, 1]?,
     };
-    let mut cpu = Cpu {
-        regs: Regs {
-            q: 5,
-            p: 3,
-            seg: 1,
-            ..REGS
-        },
-        phase: Phase::Ready,
-        stack: stack_with(rt.alloc(), 9, &[10, 20, 8, 1, 0o23000, 4], 4, &[])?,
-        segments: 2,
-    };
-    assert_eq!(rt; cpu.step(&exit), Stepped::Went);
-    assert_eq!(rt; cpu.phase, Phase::Returning { seg: 0, offset: 1 });
-    let waiting = state(&cpu);
-    for _ in 0..3u8 {
-        assert_eq!(rt; cpu.step(&exit), Stepped::Absent(0));
-        assert_eq!(rt; state(&cpu), waiting);
-    }
-    assert_eq!(rt; cpu.step(&program), Stepped::Went);
-    assert_eq!(rt;
-        cpu.regs,
-        Regs {
-            x: 8,
-            q: 1,
-            p: 2,
-            ..REGS
-        }
-    );
+    assert!(rt; cpu.step(&exit) == Stepped::Went);
+    assert!(rt; cpu.phase == Phase::Returning { seg: 0, offset: 1 });
+    assert!(rt; waits(&mut cpu, &exit, 0));
+    assert!(rt; cpu.step(&program) == Stepped::Went);
+    assert!(rt; cpu.regs == RETURNED);
     assert!(rt; has_words(&cpu.stack, &[10, 20]));
     Ok(())
 }
@@ -614,51 +622,52 @@ fn first_difference(alloc: Global, prepared: &Prepared) -> Result<Option<u16>, A
     Ok(None)
 }
 
+/// A marker at 6 to 9, with room left; in split mode with R at 1, both flags on and no room; an empty stack.
+static STATES: [Prepared; 3] = [
+    Prepared {
+        regs: Regs { x: 3, q: 9, ..REGS },
+        split: false,
+        stack: &[
+            5, 32767, 40000, 7, 1, 2, 65535, 2, 10241, 6, 24930, 12594, 3, 2,
+        ],
+        extra: &[7, 24930, 65535],
+        limit: 20,
+        in_registers: 3,
+    },
+    Prepared {
+        regs: Regs {
+            x: 65535,
+            q: 5,
+            right: true,
+            overflow: true,
+            code: Code::Less,
+            ..REGS
+        },
+        split: true,
+        stack: &[2, 1, 9, 4, 0, 4],
+        extra: &[12849, 16706, 3, 0, 65535],
+        limit: 6,
+        in_registers: 4,
+    },
+    Prepared {
+        regs: Regs {
+            x: 0,
+            q: 65535,
+            traps: false,
+            code: Code::Greater,
+            ..REGS
+        },
+        split: false,
+        stack: &[],
+        extra: &[],
+        limit: 1,
+        in_registers: 0,
+    },
+];
+
 #[test]
 fn one_step_of_every_word_beside_the_flat_machine(rt: HostRuntime) -> Result<(), Fail> {
-    // a marker at 6 to 9, with room left; in split mode with R at 1, both flags on and no room; an empty stack
-    let states = [
-        Prepared {
-            regs: Regs { x: 3, q: 9, ..REGS },
-            split: false,
-            stack: &[
-                5, 32767, 40000, 7, 1, 2, 65535, 2, 10241, 6, 24930, 12594, 3, 2,
-            ],
-            extra: &[7, 24930, 65535],
-            limit: 20,
-            in_registers: 3,
-        },
-        Prepared {
-            regs: Regs {
-                x: 65535,
-                q: 5,
-                right: true,
-                overflow: true,
-                code: Code::Less,
-                ..REGS
-            },
-            split: true,
-            stack: &[2, 1, 9, 4, 0, 4],
-            extra: &[12849, 16706, 3, 0, 65535],
-            limit: 6,
-            in_registers: 4,
-        },
-        Prepared {
-            regs: Regs {
-                x: 0,
-                q: 65535,
-                traps: false,
-                code: Code::Greater,
-                ..REGS
-            },
-            split: false,
-            stack: &[],
-            extra: &[],
-            limit: 1,
-            in_registers: 0,
-        },
-    ];
-    for prepared in &states {
+    for prepared in &STATES {
         assert!(rt; prepared.stack.len() <= prepared.limit as usize);
         assert_eq!(rt; first_difference(rt.alloc(), prepared)?, None);
     }

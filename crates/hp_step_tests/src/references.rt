@@ -7,6 +7,7 @@ use hp_session::Regs;
 use hp_tos::Stack;
 use hp_word::{Code, Trap};
 use std::alloc::{AllocError, Global};
+use std::process::Abort;
 use std::test::Fail;
 
 /// Registers with X 3, Q 1, P 4, all flags off, and CCE.
@@ -61,7 +62,7 @@ type Done = (
     Code,
 );
 
-const REFERENCES: [Done; 26] = [
+static REFERENCES: [Done; 26] = [
     (
         0o041001,
         &[10, 20],
@@ -258,7 +259,7 @@ const REFERENCES: [Done; 26] = [
     (0o040002, &[], 0, &[668], (3, 5), (1, 0, 0), Code::Equal),
 ];
 
-const BRANCHES: [Done; 24] = [
+static BRANCHES: [Done; 24] = [
     (0o040402, &[], 0, &[3], (3, 5), (1, 0, 0), Code::Equal),
     (0o140003, &[], 0, &[], (3, 7), (0, 0, 0), Code::Equal),
     (0o140405, &[], 0, &[], (3, 65535), (0, 0, 0), Code::Equal),
@@ -326,8 +327,8 @@ const BRANCHES: [Done; 24] = [
 ];
 
 /// Whether an instruction leaves what its line says.
-fn is_done(alloc: Global, program: &Program, case: Done) -> Result<bool, AllocError> {
-    let (word, before, in_registers, after, places, wanted, code) = case;
+fn is_done(alloc: Global, program: &Program, case: &Done) -> Result<bool, AllocError> {
+    let &(word, before, in_registers, after, places, wanted, code) = case;
     let mut stack = stack_with(alloc, before, in_registers)?;
     let mut regs = REGS;
     let (fills, spills) = (stack.fills, stack.spills);
@@ -341,65 +342,85 @@ fn is_done(alloc: Global, program: &Program, case: Done) -> Result<bool, AllocEr
     )
 }
 
-#[test]
-fn references_in_each_mode(rt: HostRuntime) -> Result<(), Fail> {
-    let program = program(rt.alloc())?.expect(&rt, "a valid program");
-    for case in REFERENCES {
-        assert!(rt; is_done(rt.alloc(), &program, case)?, "{:o}", case.0);
+/// Each instruction leaves what its line says.
+fn all_are_done(rt: &impl Abort, alloc: Global, cases: &[Done]) -> Result<(), Fail> {
+    let program = program(alloc)?.expect(rt, "a valid program");
+    for case in cases {
+        assert!(rt; is_done(alloc, &program, case)?, "{:o}", case.0);
     }
     Ok(())
 }
 
 #[test]
+fn references_in_each_mode(rt: HostRuntime) -> Result<(), Fail> {
+    all_are_done(&rt, rt.alloc(), &REFERENCES)
+}
+
+#[test]
 fn branches_forward_and_back(rt: HostRuntime) -> Result<(), Fail> {
-    let program = program(rt.alloc())?.expect(&rt, "a valid program");
-    for case in BRANCHES {
-        assert!(rt; is_done(rt.alloc(), &program, case)?, "{:o}", case.0);
-    }
-    Ok(())
+    all_are_done(&rt, rt.alloc(), &BRANCHES)
+}
+
+/// A word, the words of a stack and how many of them stand in registers, the trap, and the numbers.
+type Trapped = (u16, &'static [u16], u8, Trap, (u8, u64, u64));
+
+static TRAPS: [Trapped; 12] = [
+    (0o041002, &[10, 20], 0, Trap::Bounds, (0, 0, 0)),
+    (0o041705, &[10], 1, Trap::Bounds, (1, 0, 0)),
+    (0o051007, &[10, 20], 0, Trap::Bounds, (1, 1, 0)),
+    (0o051000, &[], 0, Trap::StackUnderflow, (0, 0, 0)),
+    (0o071000, &[32767, 1], 0, Trap::IntegerOverflow, (1, 1, 0)),
+    (0o120000, &[32767], 0, Trap::IntegerOverflow, (0, 0, 0)),
+    (
+        0o041000,
+        &[1, 2, 3, 4, 5, 6, 7, 8],
+        2,
+        Trap::StackOverflow,
+        (2, 0, 0),
+    ),
+    (0o040310, &[], 0, Trap::CodeBounds, (0, 0, 0)),
+    (0o161001, &[1, 2], 0, Trap::Bounds, (2, 2, 0)),
+    (0o050402, &[9, 1, 5], 0, Trap::Bounds, (3, 3, 0)),
+    (
+        0o054402,
+        &[32767, 0, 1, 5],
+        1,
+        Trap::IntegerOverflow,
+        (3, 2, 0),
+    ),
+    (0o011403, &[1], 0, Trap::StackUnderflow, (0, 0, 0)),
+];
+
+/// Whether an instruction traps so, and leaves the words and all registers.
+fn is_trapped(alloc: Global, program: &Program, trapped: &Trapped) -> Result<bool, AllocError> {
+    let &(word, words, in_registers, trap, wanted) = trapped;
+    let mut stack = stack_with(alloc, words, in_registers)?;
+    let mut regs = REGS;
+    let (fills, spills) = (stack.fills, stack.spills);
+    let answer = done(word, &mut regs, &mut stack, program);
+    Ok(
+        answer == Some(Err(trap))
+            && regs == REGS
+            && has_words(&stack, words)
+            && numbers(&stack, fills, spills) == wanted,
+    )
 }
 
 #[test]
 fn traps_leave_the_words(rt: HostRuntime) -> Result<(), Fail> {
     let program = program(rt.alloc())?.expect(&rt, "a valid program");
-    let cases: [(u16, &[u16], u8, Trap, (u8, u64, u64)); 12] = [
-        (0o041002, &[10, 20], 0, Trap::Bounds, (0, 0, 0)),
-        (0o041705, &[10], 1, Trap::Bounds, (1, 0, 0)),
-        (0o051007, &[10, 20], 0, Trap::Bounds, (1, 1, 0)),
-        (0o051000, &[], 0, Trap::StackUnderflow, (0, 0, 0)),
-        (0o071000, &[32767, 1], 0, Trap::IntegerOverflow, (1, 1, 0)),
-        (0o120000, &[32767], 0, Trap::IntegerOverflow, (0, 0, 0)),
-        (
-            0o041000,
-            &[1, 2, 3, 4, 5, 6, 7, 8],
-            2,
-            Trap::StackOverflow,
-            (2, 0, 0),
-        ),
-        (0o040310, &[], 0, Trap::CodeBounds, (0, 0, 0)),
-        (0o161001, &[1, 2], 0, Trap::Bounds, (2, 2, 0)),
-        (0o050402, &[9, 1, 5], 0, Trap::Bounds, (3, 3, 0)),
-        (
-            0o054402,
-            &[32767, 0, 1, 5],
-            1,
-            Trap::IntegerOverflow,
-            (3, 2, 0),
-        ),
-        (0o011403, &[1], 0, Trap::StackUnderflow, (0, 0, 0)),
-    ];
-    for (word, words, in_registers, trap, wanted) in cases {
-        let mut stack = stack_with(rt.alloc(), words, in_registers)?;
-        let mut regs = REGS;
-        let (fills, spills) = (stack.fills, stack.spills);
-        let answer = done(word, &mut regs, &mut stack, &program);
-        assert_eq!(rt; answer, Some(Err(trap)), "{word:o}");
-        assert_eq!(rt; regs, REGS, "{word:o}");
-        assert!(rt; has_words(&stack, words), "{word:o}");
-        assert_eq!(rt; numbers(&stack, fills, spills), wanted, "{word:o}");
+    for trapped in &TRAPS {
+        assert!(rt;
+            is_trapped(rt.alloc(), &program, trapped)?,
+            "{:o}",
+            trapped.0
+        );
     }
     Ok(())
 }
+
+/// LOAD DB+1, LOAD Q-1, LOAD Q-1 with indirection, STOR DB+0.
+static SPLIT: [u16; 4] = [0o041001, 0o041601, 0o043601, 0o051000];
 
 #[test]
 fn split_mode_refers_to_the_extra_segment_from_db(rt: HostRuntime) -> Result<(), Fail> {
@@ -407,18 +428,16 @@ fn split_mode_refers_to_the_extra_segment_from_db(rt: HostRuntime) -> Result<(),
     let mut stack = stack_with(rt.alloc(), &[1, 20], 0)?;
     stack.split();
     let mut regs = REGS;
-    // LOAD DB+1, LOAD Q-1, LOAD Q-1 with indirection, STOR DB+0
-    for word in [0o041001, 0o041601, 0o043601, 0o051000] {
-        assert_eq!(rt; done(word, &mut regs, &mut stack, &program), Some(Ok(())));
+    for word in &SPLIT {
+        let answer = done(*word, &mut regs, &mut stack, &program);
+        assert!(rt; answer == Some(Ok(())), "{word:o}");
     }
     assert!(rt; has_words(&stack, &[1, 20, 501, 1]));
-    assert_eq!(rt; (stack.read_db(0), stack.read_db(1)), (Ok(501), Ok(501)));
+    assert!(rt; (stack.read_db(0), stack.read_db(1)) == (Ok(501), Ok(501)));
     // a cell of 501 leads past the extra segment
-    assert_eq!(rt;
-        done(0o043000, &mut regs, &mut stack, &program),
-        Some(Err(Trap::Bounds))
-    );
-    assert_eq!(rt; (regs.p, stack.top.len()), (8, 2));
-    assert_eq!(rt; done(0o020401, &mut regs, &mut stack, &program), None);
+    let answer = done(0o043000, &mut regs, &mut stack, &program);
+    assert!(rt; answer == Some(Err(Trap::Bounds)));
+    assert!(rt; (regs.p, stack.top.len()) == (8, 2));
+    assert!(rt; done(0o020401, &mut regs, &mut stack, &program).is_none());
     Ok(())
 }

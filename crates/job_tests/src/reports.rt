@@ -23,44 +23,76 @@ fn name(text: &str) -> Name {
     name
 }
 
-/// A session that was reported at this point.
-fn point(
-    alloc: Global,
-    program: &str,
-    printed: &[u8],
-    ending: Ending,
-) -> Result<Point, AllocError> {
+/// A session that was reported: its program, what it printed, how it ended and its steps.
+type Row = (&'static str, &'static [u8], Ending, u64);
+
+fn point(alloc: Global, row: &Row) -> Result<Point, AllocError> {
+    let (program, printed, ending, steps) = *row;
     Ok(Point {
         name: name(program),
         printed: Chars {
             bytes: Vec::from_slice(alloc, printed)?,
         },
         ending,
-        steps: 12,
+        steps,
         fills: 3,
         spills: 0,
     })
 }
 
-/// Sessions with each kind of ending, and with all that can stand at the end of what was printed.
-fn points(alloc: Global) -> Result<Vec<Point>, AllocError> {
-    let mut points = Vec::new(alloc);
-    points.push(point(alloc, "A", b"", Ending::Quit(5))?)?;
-    points.push(point(alloc, "A", b"HELLO\n", Ending::Terminated)?)?;
-    points.push(point(alloc, "PROG8888", b"HELLO", Ending::Running)?)?;
-    points.push(point(alloc, "B", b"\n", Ending::Quit(-32768))?)?;
-    points.push(point(alloc, "B", b"\n\nX", Ending::Trapped(Trap::OutputLimit))?)?;
-    points.push(point(alloc, "B", b"", Ending::Trapped(Trap::Mode))?)?;
-    Ok(points)
+fn add_points(points: &mut Vec<Point>, alloc: Global, rows: &[Row]) -> Result<(), AllocError> {
+    for row in rows {
+        points.push(point(alloc, row)?)?;
+    }
+    Ok(())
 }
+
+fn report_of(
+    alloc: Global,
+    rows: &[Row],
+    stats: Option<(u64, u64)>,
+) -> Result<Vec<u8>, AllocError> {
+    let mut points = Vec::new(alloc);
+    match add_points(&mut points, alloc, rows) {
+        Ok(()) => report(alloc, &points, stats),
+        Err(error) => Err(error),
+    }
+}
+
+fn compare(rt: &impl Abort, text: &[u8], wanted: &str) {
+    assert_eq!(rt; text, wanted.as_bytes());
+}
+
+fn reports(
+    rt: &impl Abort,
+    alloc: Global,
+    rows: &[Row],
+    stats: Option<(u64, u64)>,
+    wanted: &str,
+) -> Result<(), Fail> {
+    let text = report_of(alloc, rows, stats)?;
+    compare(rt, &text, wanted);
+    Ok(())
+}
+
+/// Sessions with each kind of ending, and with all that can stand at the end of what was printed.
+static ENDED: [Row; 6] = [
+    ("A", b"", Ending::Quit(5), 12),
+    ("A", b"HELLO\n", Ending::Terminated, 12),
+    ("PROG8888", b"HELLO", Ending::Running, 12),
+    ("B", b"\n", Ending::Quit(-32768), 12),
+    ("B", b"\n\nX", Ending::Trapped(Trap::OutputLimit), 12),
+    ("B", b"", Ending::Trapped(Trap::Mode), 12),
+];
 
 #[test]
 fn a_report_tells_each_session(rt: HostRuntime) -> Result<(), Fail> {
-    let alloc = rt.alloc();
-    let text = report(alloc, &points(alloc)?, None)?;
-    assert_eq!(rt;
-        text.as_slice(),
-        b"SESSION 1 A BYTES 0
+    reports(
+        &rt,
+        rt.alloc(),
+        &ENDED,
+        None,
+        "SESSION 1 A BYTES 0
 END 1 QUIT 5
 SESSION 2 A BYTES 6
 HELLO
@@ -78,25 +110,28 @@ X
 END 5 TRAP 9 OUTPUT LIMIT
 SESSION 6 B BYTES 0
 END 6 TRAP 10 MODE
-"
-            .as_slice()
-    );
-    Ok(())
+",
+    )
 }
+
+static COUNTED: [Row; 2] = [
+    ("A", b"X", Ending::Quit(0), 12),
+    (
+        "A",
+        b"",
+        Ending::Trapped(Trap::IntegerOverflow),
+        18446744073709551615,
+    ),
+];
 
 #[test]
 fn with_statistics_each_session_has_its_counts(rt: HostRuntime) -> Result<(), Fail> {
-    let alloc = rt.alloc();
-    let mut points = Vec::new(alloc);
-    points.push(point(alloc, "A", b"X", Ending::Quit(0))?)?;
-    points.push(Point {
-        steps: 18446744073709551615,
-        ..point(alloc, "A", b"", Ending::Trapped(Trap::IntegerOverflow))?
-    })?;
-    let text = report(alloc, &points, Some((40, 1)))?;
-    assert_eq!(rt;
-        text.as_slice(),
-        b"SESSION 1 A BYTES 1
+    reports(
+        &rt,
+        rt.alloc(),
+        &COUNTED,
+        Some((40, 1)),
+        "SESSION 1 A BYTES 1
 X
 END 1 QUIT 0
 STATS 1 STEPS 12 FILLS 3 SPILLS 0
@@ -104,33 +139,38 @@ SESSION 2 A BYTES 0
 END 2 TRAP 1 INTEGER OVERFLOW
 STATS 2 STEPS 18446744073709551615 FILLS 3 SPILLS 0
 STATS TURNS 40 LOADS 1
-"
-            .as_slice()
-    );
-    assert_eq!(rt;
-        report(alloc, &Vec::new(alloc), None)?.as_slice(),
-        b"".as_slice()
-    );
-    Ok(())
+",
+    )?;
+    reports(&rt, rt.alloc(), &[], None, "")
+}
+
+static GENERATED: [Row; 2] = [
+    ("G1", b"1679\n", Ending::Terminated, 12),
+    ("G2", b"X", Ending::Running, 12),
+];
+
+fn summary_of(alloc: Global, rows: &[Row]) -> Result<Vec<u8>, AllocError> {
+    let mut points = Vec::new(alloc);
+    match add_points(&mut points, alloc, rows) {
+        Ok(()) => summary(alloc, 65535, 55327, &points),
+        Err(error) => Err(error),
+    }
 }
 
 #[test]
 fn a_summary_has_the_sessions_behind_its_line(rt: HostRuntime) -> Result<(), Fail> {
-    let alloc = rt.alloc();
-    let mut points = Vec::new(alloc);
-    points.push(point(alloc, "G1", b"1679\n", Ending::Terminated)?)?;
-    points.push(point(alloc, "G2", b"X", Ending::Running)?)?;
-    assert_eq!(rt;
-        summary(alloc, 65535, 55327, &points)?.as_slice(),
-        b"GEN 65535 BYTES 55327
+    let text = summary_of(rt.alloc(), &GENERATED)?;
+    compare(
+        &rt,
+        &text,
+        "GEN 65535 BYTES 55327
 SESSION 1 G1 BYTES 5
 1679
 END 1 TERMINATED
 SESSION 2 G2 BYTES 1
 X
 END 2 RUNNING
-"
-            .as_slice()
+",
     );
     Ok(())
 }
@@ -159,71 +199,71 @@ fn modules(fault: ModulesRefusal) -> Refusal {
     }
 }
 
-fn file(fault: FileRefusal, byte: u32) -> Refusal {
-    Refusal::File { fault, byte }
+fn line_of(alloc: Global, refusal: Refusal) -> Result<Vec<u8>, AllocError> {
+    refusal_line(alloc, &refusal)
 }
 
-fn tells(rt: &impl Abort, alloc: Global, refusal: Refusal, want: &str) -> Result<(), Fail> {
-    let line = refusal_line(alloc, &refusal)?;
-    assert_eq!(rt; line.as_slice(), want.as_bytes());
+fn tells(rt: &impl Abort, alloc: Global, refusal: Refusal, wanted: &str) -> Result<(), Fail> {
+    let line = line_of(alloc, refusal)?;
+    compare(rt, &line, wanted);
     Ok(())
 }
 
+static FAULTS: [(UnitRefusal, &str); 12] = [
+    (
+        UnitRefusal::Text(FaultKind::BadByte),
+        "REFUSED PROGRAM A UNIT 2 LINE 30 COLUMN 400 BADBYTE\n",
+    ),
+    (
+        UnitRefusal::Text(FaultKind::BadCommand),
+        "REFUSED PROGRAM A UNIT 2 LINE 30 COLUMN 400 BADCOMMAND\n",
+    ),
+    (
+        UnitRefusal::Text(FaultKind::OpenString),
+        "REFUSED PROGRAM A UNIT 2 LINE 30 COLUMN 400 OPENSTRING\n",
+    ),
+    (
+        UnitRefusal::Text(FaultKind::OpenComment),
+        "REFUSED PROGRAM A UNIT 2 LINE 30 COLUMN 400 OPENCOMMENT\n",
+    ),
+    (
+        UnitRefusal::Text(FaultKind::NameTooLong),
+        "REFUSED PROGRAM A UNIT 2 LINE 30 COLUMN 400 NAMETOOLONG\n",
+    ),
+    (
+        UnitRefusal::Text(FaultKind::NumberTooLarge),
+        "REFUSED PROGRAM A UNIT 2 LINE 30 COLUMN 400 NUMBERTOOLARGE\n",
+    ),
+    (
+        UnitRefusal::Text(FaultKind::BadDefine),
+        "REFUSED PROGRAM A UNIT 2 LINE 30 COLUMN 400 BADDEFINE\n",
+    ),
+    (
+        UnitRefusal::Text(FaultKind::TooManyTokens),
+        "REFUSED PROGRAM A UNIT 2 LINE 30 COLUMN 400 TOOMANYTOKENS\n",
+    ),
+    (
+        UnitRefusal::Text(FaultKind::Syntax),
+        "REFUSED PROGRAM A UNIT 2 LINE 30 COLUMN 400 SYNTAX\n",
+    ),
+    (
+        UnitRefusal::Text(FaultKind::TooDeep),
+        "REFUSED PROGRAM A UNIT 2 LINE 30 COLUMN 400 TOODEEP\n",
+    ),
+    (
+        UnitRefusal::Rule(28),
+        "REFUSED PROGRAM A UNIT 2 LINE 30 COLUMN 400 RULE 28\n",
+    ),
+    (
+        UnitRefusal::Limit(5),
+        "REFUSED PROGRAM A UNIT 2 LINE 30 COLUMN 400 LIMIT 5\n",
+    ),
+];
+
 #[test]
 fn a_unit_is_refused_at_its_place(rt: HostRuntime) -> Result<(), Fail> {
-    let alloc = rt.alloc();
-    let cases: [(UnitRefusal, &str); 12] = [
-        (
-            UnitRefusal::Text(FaultKind::BadByte),
-            "REFUSED PROGRAM A UNIT 2 LINE 30 COLUMN 400 BADBYTE\n",
-        ),
-        (
-            UnitRefusal::Text(FaultKind::BadCommand),
-            "REFUSED PROGRAM A UNIT 2 LINE 30 COLUMN 400 BADCOMMAND\n",
-        ),
-        (
-            UnitRefusal::Text(FaultKind::OpenString),
-            "REFUSED PROGRAM A UNIT 2 LINE 30 COLUMN 400 OPENSTRING\n",
-        ),
-        (
-            UnitRefusal::Text(FaultKind::OpenComment),
-            "REFUSED PROGRAM A UNIT 2 LINE 30 COLUMN 400 OPENCOMMENT\n",
-        ),
-        (
-            UnitRefusal::Text(FaultKind::NameTooLong),
-            "REFUSED PROGRAM A UNIT 2 LINE 30 COLUMN 400 NAMETOOLONG\n",
-        ),
-        (
-            UnitRefusal::Text(FaultKind::NumberTooLarge),
-            "REFUSED PROGRAM A UNIT 2 LINE 30 COLUMN 400 NUMBERTOOLARGE\n",
-        ),
-        (
-            UnitRefusal::Text(FaultKind::BadDefine),
-            "REFUSED PROGRAM A UNIT 2 LINE 30 COLUMN 400 BADDEFINE\n",
-        ),
-        (
-            UnitRefusal::Text(FaultKind::TooManyTokens),
-            "REFUSED PROGRAM A UNIT 2 LINE 30 COLUMN 400 TOOMANYTOKENS\n",
-        ),
-        (
-            UnitRefusal::Text(FaultKind::Syntax),
-            "REFUSED PROGRAM A UNIT 2 LINE 30 COLUMN 400 SYNTAX\n",
-        ),
-        (
-            UnitRefusal::Text(FaultKind::TooDeep),
-            "REFUSED PROGRAM A UNIT 2 LINE 30 COLUMN 400 TOODEEP\n",
-        ),
-        (
-            UnitRefusal::Rule(28),
-            "REFUSED PROGRAM A UNIT 2 LINE 30 COLUMN 400 RULE 28\n",
-        ),
-        (
-            UnitRefusal::Limit(5),
-            "REFUSED PROGRAM A UNIT 2 LINE 30 COLUMN 400 LIMIT 5\n",
-        ),
-    ];
-    for (fault, want) in cases {
-        tells(&rt, alloc, unit(fault), want)?;
+    for (fault, wanted) in &FAULTS {
+        tells(&rt, rt.alloc(), unit(*fault), wanted)?;
     }
     Ok(())
 }
@@ -275,83 +315,80 @@ fn modules_are_refused_by_name(rt: HostRuntime) -> Result<(), Fail> {
     )
 }
 
+/// What is wrong with a program file, and at which byte.
+static FILES: [(FileRefusal, u32, &str); 5] = [
+    (FileRefusal::Truncated, 0, "REFUSED FILE TRUNCATED 0\n"),
+    (FileRefusal::Head, 12, "REFUSED FILE HEAD 12\n"),
+    (FileRefusal::Segment, 22, "REFUSED FILE SEGMENT 22\n"),
+    (FileRefusal::Trailing, 24, "REFUSED FILE TRAILING 24\n"),
+    (FileRefusal::Label, 18, "REFUSED FILE LABEL 18\n"),
+];
+
+fn file(fault: FileRefusal, byte: u32) -> Refusal {
+    Refusal::File { fault, byte }
+}
+
 #[test]
 fn jobs_sizes_and_files_are_refused(rt: HostRuntime) -> Result<(), Fail> {
     let alloc = rt.alloc();
+    let job = Refusal::Job {
+        line: 1048577,
+        rule: 13,
+    };
+    tells(&rt, alloc, job, "REFUSED JOB LINE 1048577 RULE 13\n")?;
+    let stack = Refusal::Stack {
+        session: 0,
+        need: 105,
+        given: 64,
+    };
     tells(
         &rt,
         alloc,
-        Refusal::Job {
-            line: 1048577,
-            rule: 13,
-        },
-        "REFUSED JOB LINE 1048577 RULE 13\n",
-    )?;
-    tells(
-        &rt,
-        alloc,
-        Refusal::Stack {
-            session: 0,
-            need: 105,
-            given: 64,
-        },
+        stack,
         "REFUSED STACK SESSION 1 NEED 105 GIVEN 64\n",
     )?;
-    tells(
-        &rt,
-        alloc,
-        Refusal::Memory {
-            need: 1090,
-            given: 64,
-        },
-        "REFUSED MEMORY NEED 1090 GIVEN 64\n",
-    )?;
-    tells(
-        &rt,
-        alloc,
-        file(FileRefusal::Truncated, 0),
-        "REFUSED FILE TRUNCATED 0\n",
-    )?;
-    tells(
-        &rt,
-        alloc,
-        file(FileRefusal::Head, 12),
-        "REFUSED FILE HEAD 12\n",
-    )?;
-    tells(
-        &rt,
-        alloc,
-        file(FileRefusal::Segment, 22),
-        "REFUSED FILE SEGMENT 22\n",
-    )?;
-    tells(
-        &rt,
-        alloc,
-        file(FileRefusal::Trailing, 24),
-        "REFUSED FILE TRAILING 24\n",
-    )?;
-    tells(
-        &rt,
-        alloc,
-        file(FileRefusal::Label, 18),
-        "REFUSED FILE LABEL 18\n",
-    )
+    let memory = Refusal::Memory {
+        need: 1090,
+        given: 64,
+    };
+    tells(&rt, alloc, memory, "REFUSED MEMORY NEED 1090 GIVEN 64\n")?;
+    for (fault, byte, wanted) in &FILES {
+        tells(&rt, alloc, file(*fault, *byte), wanted)?;
+    }
+    Ok(())
+}
+
+fn add_segments(
+    words: &mut Vec<Vec<u16>>,
+    alloc: Global,
+    segments: &[&[u16]],
+) -> Result<(), AllocError> {
+    for segment in segments {
+        words.push(Vec::from_slice(alloc, segment)?)?;
+    }
+    Ok(())
 }
 
 /// The program of these segments, whose main entry is the first of segment 0.
 fn program(
-    rt: &impl Abort,
     alloc: Global,
     segments: &[&[u16]],
     globals: &[u16],
 ) -> Result<Option<Program>, AllocError> {
+    let globals = Vec::from_slice(alloc, globals)?;
     let mut words = Vec::new(alloc);
-    for segment in segments {
-        words.push(Vec::from_slice(alloc, segment)?)?;
+    match add_segments(&mut words, alloc, segments) {
+        Ok(()) => Ok(Program::new(words, 0, 1, globals).ok()),
+        Err(error) => Err(error),
     }
-    let made = Program::new(words, 0, 1, Vec::from_slice(alloc, globals)?);
-    assert!(rt; made.is_ok());
-    Ok(made.ok())
+}
+
+/// The listing of a program: nothing where these segments make none.
+fn listing_of(alloc: Global, segments: &[&[u16]], globals: &[u16]) -> Result<Vec<u8>, AllocError> {
+    match program(alloc, segments, globals)? {
+        Some(program) => listing(alloc, &program),
+        None => Ok(Vec::new(alloc)),
+    }
 }
 
 fn lists(
@@ -359,20 +396,21 @@ fn lists(
     alloc: Global,
     segments: &[&[u16]],
     globals: &[u16],
-    want: &str,
+    wanted: &str,
 ) -> Result<(), Fail> {
-    if let Some(program) = program(rt, alloc, segments, globals)? {
-        assert_eq!(rt; listing(alloc, &program)?.as_slice(), want.as_bytes());
-    }
+    let text = listing_of(alloc, segments, globals)?;
+    compare(rt, &text, wanted);
     Ok(())
 }
+
+static ONE_CALL: [&[u16]; 1] = [&[0x3002, 0x87ff, 0x0000, 0x0002]];
 
 #[test]
 fn a_program_of_one_call(rt: HostRuntime) -> Result<(), Fail> {
     lists(
         &rt,
         rt.alloc(),
-        &[&[0x3002, 0x87ff, 0x0000, 0x0002]],
+        &ONE_CALL,
         &[],
         "PROGRAM VERSION 1 SEGMENTS 1 MAIN 0 ENTRY 1 DATA 0
 SEGMENT 0 WORDS 4 ENTRIES 2
@@ -383,19 +421,23 @@ ENTRY 2 GATE TERMINATE
     )
 }
 
+static CALLS: [&[u16]; 3] = [
+    &[
+        0x3002, 0x3100, 0x88ff, 0x81ff, 0x8201, 0x8100, 0x0001, 0x0005,
+    ],
+    &[0x0000, 0x0000, 0x82ff, 0x0002],
+    &[0x86ff, 0x85ff, 0x84ff, 0x83ff, 0x0004],
+];
+
+static DATA: [u16; 9] = [65535, 8, 0, 0, 0, 0, 0, 0, 0o123456];
+
 #[test]
 fn data_segments_and_entries(rt: HostRuntime) -> Result<(), Fail> {
     lists(
         &rt,
         rt.alloc(),
-        &[
-            &[
-                0x3002, 0x3100, 0x88ff, 0x81ff, 0x8201, 0x8100, 0x0001, 0x0005,
-            ],
-            &[0x0000, 0x0000, 0x82ff, 0x0002],
-            &[0x86ff, 0x85ff, 0x84ff, 0x83ff, 0x0004],
-        ],
-        &[65535, 8, 0, 0, 0, 0, 0, 0, 0o123456],
+        &CALLS,
+        &DATA,
         "PROGRAM VERSION 1 SEGMENTS 3 MAIN 0 ENTRY 1 DATA 9
 DATA 000000 177777
 DATA 000001 000010
@@ -447,7 +489,7 @@ static PAGE_WORDS: [u16; 127] = [
 
 /// Their listing: each stack operation on the left and on the right, each other instruction once, and what is no
 /// instruction.
-const PAGE: &str = "\
+static PAGE: &str = "\
 PROGRAM VERSION 1 SEGMENTS 1 MAIN 0 ENTRY 1 DATA 0
 SEGMENT 0 WORDS 127 ENTRIES 1
 000000 000007 NOP,DZRO

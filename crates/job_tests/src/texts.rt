@@ -1,7 +1,7 @@
 //! Job texts worked by hand, each rule at its edges.
 
 use hp_session::Line;
-use job_text::{JobFault, Text, read_job};
+use job_text::{Job, JobFault, Text, read_job};
 use mpe_session::Seat;
 use std::alloc::{AllocError, Global};
 use std::process::Abort;
@@ -133,29 +133,41 @@ static PREP: [(&str, u32, u8); 4] = [
     ("!JOB\n!PROGRAM A\n!UNIT\n!EOJ\n", 0, 0),
 ];
 
-/// What comes of a text: the line and the rule that it breaks first, or 0 and 0 of a job.
-fn outcome(alloc: Global, text: &[u8], prep: bool) -> Result<(u32, u8), AllocError> {
-    if text.len() > 1_048_576 {
-        return Ok((0, 0));
-    }
-    match read_job(alloc, text, prep) {
+/// The line and the rule that a text breaks first, or 0 and 0 of a job. Of any type, since what is known of a job's type would be
+/// written out here.
+fn broken<T: Drop>(read: Result<T, JobFault>) -> Result<(u32, u8), AllocError> {
+    match read {
         Ok(_) => Ok((0, 0)),
         Err(JobFault::Rule { line, rule }) => Ok((line, rule)),
         Err(JobFault::NoMemory) => Err(AllocError),
     }
 }
 
-#[test]
-fn each_rule_at_its_edges(rt: HostRuntime) -> Result<(), Fail> {
-    for (text, line, rule) in &RUN {
-        let found = outcome(rt.alloc(), text.as_bytes(), false)?;
-        assert_eq!(rt; found, (*line, *rule), "{text:?}");
+/// What comes of a text.
+fn outcome(alloc: Global, text: &[u8], prep: bool) -> Result<(u32, u8), AllocError> {
+    if text.len() > 1_048_576 {
+        return Ok((0, 0));
     }
-    for (text, line, rule) in &PREP {
-        let found = outcome(rt.alloc(), text.as_bytes(), true)?;
+    broken(read_job(alloc, text, prep))
+}
+
+fn all_are_so(
+    rt: &impl Abort,
+    alloc: Global,
+    rows: &[(&str, u32, u8)],
+    prep: bool,
+) -> Result<(), Fail> {
+    for (text, line, rule) in rows {
+        let found = outcome(alloc, text.as_bytes(), prep)?;
         assert_eq!(rt; found, (*line, *rule), "{text:?}");
     }
     Ok(())
+}
+
+#[test]
+fn each_rule_at_its_edges(rt: HostRuntime) -> Result<(), Fail> {
+    all_are_so(&rt, rt.alloc(), &RUN, false)?;
+    all_are_so(&rt, rt.alloc(), &PREP, true)
 }
 
 /// A text so many times over.
@@ -166,95 +178,130 @@ fn times(text: &mut Vec<u8>, count: u32, piece: &[u8]) -> Result<(), AllocError>
     Ok(())
 }
 
-/// A job of so many programs with so many units each, and so many sessions.
-fn job_of(alloc: Global, programs: u8, units: u32, sessions: u32) -> Result<Vec<u8>, AllocError> {
-    let mut text = Vec::from_slice(alloc, b"!JOB\n")?;
+/// The begin of a job: so many programs with so many units each.
+fn add_programs(text: &mut Vec<u8>, programs: u8, units: u32) -> Result<(), AllocError> {
+    text.extend_from_slice(b"!JOB\n")?;
     for name in b"ABCDEFGHIJKLMNOPQ".iter().take(programs as usize) {
-        text.extend_from_slice(&[
-            b'!', b'P', b'R', b'O', b'G', b'R', b'A', b'M', b' ', *name, b'\n',
-        ])?;
-        times(&mut text, units, b"!UNIT\n")?;
+        text.extend_from_slice(b"!PROGRAM ")?;
+        text.push(*name)?;
+        text.push(b'\n')?;
+        times(text, units, b"!UNIT\n")?;
     }
-    times(&mut text, sessions, b"!SESSION A\n")?;
+    Ok(())
+}
+
+/// How many programs, units of each and sessions a job has, and the line and the rule that it breaks first.
+type Counts = (u8, u32, u32, u32, u8);
+
+static COUNTS: [Counts; 6] = [
+    (16, 1, 16, 0, 0),
+    (17, 1, 1, 34, 6),
+    (1, 32, 1, 0, 0),
+    (1, 33, 1, 35, 6),
+    (2, 32, 16, 0, 0),
+    (1, 1, 17, 20, 9),
+];
+
+fn add_job(text: &mut Vec<u8>, counts: &Counts) -> Result<(), AllocError> {
+    add_programs(text, counts.0, counts.1)?;
+    times(text, counts.2, b"!SESSION A\n")?;
     text.extend_from_slice(b"!EOJ\n")?;
-    Ok(text)
+    Ok(())
+}
+
+/// What comes of a job of so many parts.
+fn outcome_of(alloc: Global, counts: &Counts) -> Result<(u32, u8), AllocError> {
+    let mut text = Vec::new(alloc);
+    match add_job(&mut text, counts) {
+        Ok(()) => outcome(alloc, &text, false),
+        Err(error) => Err(error),
+    }
+}
+
+fn add_programs_of_one_name(text: &mut Vec<u8>) -> Result<(), AllocError> {
+    add_programs(text, 16, 1)?;
+    text.extend_from_slice(b"!PROGRAM A\n")?;
+    Ok(())
+}
+
+/// What comes of sixteen programs and one more of the first one's name, which counts before their number.
+fn outcome_of_one_name(alloc: Global) -> Result<(u32, u8), AllocError> {
+    let mut text = Vec::new(alloc);
+    match add_programs_of_one_name(&mut text) {
+        Ok(()) => outcome(alloc, &text, false),
+        Err(error) => Err(error),
+    }
 }
 
 #[test]
 fn programs_units_and_sessions_have_their_number(rt: HostRuntime) -> Result<(), Fail> {
-    let alloc = rt.alloc();
-    let cases: [(u8, u32, u32, u32, u8); 6] = [
-        (16, 1, 16, 0, 0),
-        (17, 1, 1, 34, 6),
-        (1, 32, 1, 0, 0),
-        (1, 33, 1, 35, 6),
-        (2, 32, 16, 0, 0),
-        (1, 1, 17, 20, 9),
-    ];
-    for (programs, units, sessions, line, rule) in cases {
-        let text = job_of(alloc, programs, units, sessions)?;
-        assert_eq!(rt;
-            outcome(alloc, &text, false)?,
-            (line, rule),
-            "{programs} {units} {sessions}"
-        );
+    for counts in &COUNTS {
+        let wanted = (counts.3, counts.4);
+        assert_eq!(rt; outcome_of(rt.alloc(), counts)?, wanted, "{counts:?}");
     }
-    let mut text = job_of(alloc, 16, 1, 0)?;
-    text.truncate(text.len().saturating_sub(5));
-    text.extend_from_slice(b"!PROGRAM A\n")?;
-    assert_eq!(rt; outcome(alloc, &text, false)?, (34, 5));
+    assert!(rt; outcome_of_one_name(rt.alloc())? == (34, 5));
     Ok(())
 }
 
-const JOB: &[u8] =
+static JOB: &[u8] =
     b"!JOB\n!memory 40000\r\n!STATS\n\n!PROGRAM main\n!UNIT\nBEGIN\r\n\n \tEND.\n!UNIT\n!PROGRAM B2\n!UNIT\nX\r\r\n\
 !SESSION b2 STACK=100\nONE\r\n!!TWO\n\n!! \n!SESSION MAIN print=5 Extra=7\n!EOJ\n \t\n";
 
-fn has_lines(rt: &impl Abort, lines: &[Line], want: &[&[u8]]) {
-    assert_eq!(rt; lines.len(), want.len());
-    for (line, bytes) in lines.iter().zip(want) {
-        assert_eq!(rt; line.bytes.as_slice(), *bytes);
+fn has_lines(lines: &[Line], wanted: &[&[u8]]) -> bool {
+    for (line, bytes) in lines.iter().zip(wanted) {
+        if line.bytes.as_slice() != *bytes {
+            return false;
+        }
     }
+    lines.len() == wanted.len()
 }
 
-fn is_seat(rt: &impl Abort, seat: &Seat, want: (u8, u16, u16, u32), lines: &[&[u8]]) {
-    assert_eq!(rt; (seat.program, seat.stack, seat.extra, seat.room), want);
-    has_lines(rt, &seat.lines, lines);
+fn is_seat(seat: &Seat, wanted: (u8, u16, u16, u32), lines: &[&[u8]]) -> bool {
+    (seat.program, seat.stack, seat.extra, seat.room) == wanted && has_lines(&seat.lines, lines)
 }
 
-fn is_text(rt: &impl Abort, text: &Text, name: &[u8], units: &[&[u8]]) {
-    assert_eq!(rt; text.name.text.as_slice(), name);
-    assert_eq!(rt; text.units.len(), units.len());
+fn is_text(text: &Text, name: &[u8], units: &[&[u8]]) -> bool {
     for (unit, bytes) in text.units.iter().zip(units) {
-        assert_eq!(rt; unit.bytes.as_slice(), *bytes);
+        if unit.bytes.as_slice() != *bytes {
+            return false;
+        }
     }
+    text.name.text.as_slice() == name && text.units.len() == units.len()
+}
+
+fn are_texts(texts: &[Text]) -> bool {
+    match texts {
+        [main, other] => {
+            is_text(main, b"MAIN", &[b"BEGIN\n\n \tEND.\n", b""])
+                && is_text(other, b"B2", &[b"X\r\n"])
+        }
+        _ => false,
+    }
+}
+
+fn are_seats(seats: &[Seat]) -> bool {
+    match seats {
+        [first, second] => {
+            is_seat(first, (1, 100, 0, 16_384), &[b"ONE", b"!TWO", b"", b"! "])
+                && is_seat(second, (0, 1_024, 7, 5), &[])
+        }
+        _ => false,
+    }
+}
+
+fn has_parts(job: &Job) -> bool {
+    (job.memory, job.quantum, job.turns) == (40_000, 100, 100_000)
+        && job.stats
+        && are_texts(&job.programs)
+        && are_seats(&job.seats)
 }
 
 #[test]
 fn a_job_has_its_parts(rt: HostRuntime) -> Result<(), Fail> {
-    match read_job(rt.alloc(), JOB, false) {
-        Ok(job) => {
-            assert_eq!(rt;
-                (job.memory, job.quantum, job.turns),
-                (40_000, 100, 100_000)
-            );
-            assert!(rt; job.stats);
-            match (job.programs.as_slice(), job.seats.as_slice()) {
-                ([main, other], [first, second]) => {
-                    is_text(&rt, main, b"MAIN", &[b"BEGIN\n\n \tEND.\n", b""]);
-                    is_text(&rt, other, b"B2", &[b"X\r\n"]);
-                    is_seat(
-                        &rt,
-                        first,
-                        (1, 100, 0, 16_384),
-                        &[b"ONE", b"!TWO", b"", b"! "],
-                    );
-                    is_seat(&rt, second, (0, 1_024, 7, 5), &[]);
-                }
-                _ => assert!(rt; false),
-            }
-        }
-        Err(_) => assert!(rt; false),
-    }
+    let has_parts = match read_job(rt.alloc(), JOB, false) {
+        Ok(job) => has_parts(&job),
+        Err(_) => false,
+    };
+    assert!(rt; has_parts);
     Ok(())
 }

@@ -12,7 +12,7 @@ use std::test::Fail;
 /// A unit's tree, or its fault's kind, line and column.
 fn shown(alloc: Global, read: &Result<SplUnit, UnitFault>) -> Result<String, AllocError> {
     match read {
-        Ok(unit) => unit_text(alloc, unit),
+        Ok(unit) => Ok(unit_text(alloc, unit)),
         Err(UnitFault::Fault { kind, at }) => {
             format!(in alloc; "{} {} {}", kind.name(), at.line, at.column)
         }
@@ -20,13 +20,19 @@ fn shown(alloc: Global, read: &Result<SplUnit, UnitFault>) -> Result<String, All
     }
 }
 
+/// What a text comes to. Apart from `compare`, so that no way out of its loop holds a tree.
+fn told(alloc: Global, text: &[u8]) -> Result<String, AllocError> {
+    if text.len() > 1_048_576 {
+        return Ok(String::new(alloc));
+    }
+    let read = read_unit(alloc, text, 1);
+    shown(alloc, &read)
+}
+
 /// Each text comes to this.
 fn compare(rt: &impl Abort, alloc: Global, cases: &[(&str, &str)]) -> Result<(), Fail> {
     for (text, wanted) in cases {
-        let bytes = text.as_bytes();
-        assert!(rt; bytes.len() <= 1_048_576);
-        let read = read_unit(alloc, bytes, 1);
-        assert_eq!(rt; shown(alloc, &read)?.as_str(), *wanted, "{text}");
+        assert_eq!(rt; told(alloc, text.as_bytes())?.as_str(), *wanted, "{text}");
     }
     Ok(())
 }

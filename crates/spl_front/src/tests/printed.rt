@@ -1,14 +1,15 @@
 //! A unit's tree as a short text. Each operation stands in parentheses with its operands, and each statement that
 //! holds others in braces, so the text shows what belongs to which. Places are left out, and segments are shown where
 //! they are not the first.
+//!
+//! What there is no memory for is left out, so that no step can fail: such a text is none that a test wants, and each `?` would
+//! be paid for in the proof.
 
 use spl_tree::{
     At, Chars, Const, Decl, Effect, Expr, Heading, Item, Kind, Name, Ref, Shape, Source, Spec,
     SplUnit, Stmt, Target, Test,
 };
-use std::alloc::{AllocError, Global};
-
-type Put = Result<(), AllocError>;
+use std::alloc::Global;
 
 static BINARY: [&str; 16] = [
     " OR ", " AND ", " LOR ", " XOR ", " LAND ", "=", "<>", "<", ">", "<=", ">=", "+", "-", "*",
@@ -45,96 +46,97 @@ fn kind_word(kind: Kind) -> &'static str {
     }
 }
 
-fn bytes(out: &mut String, bytes: &[u8]) -> Put {
+fn put(out: &mut String, text: &str) {
+    let _ = out.push_str(text);
+}
+
+fn bytes(out: &mut String, bytes: &[u8]) {
     for byte in bytes {
-        out.push(char::from(*byte))?;
+        let _ = out.push(char::from(*byte));
     }
-    Ok(())
-}
-
-fn name(out: &mut String, name: &Name) -> Put {
-    bytes(out, &name.text)
-}
-
-fn quoted(out: &mut String, chars: &Chars) -> Put {
-    out.push('"')?;
-    bytes(out, &chars.bytes)?;
-    out.push('"')
 }
 
 /// A number with what stands before and behind it.
-fn number(out: &mut String, alloc: Global, before: &str, value: u32, behind: &str) -> Put {
-    out.push_str(format!(in alloc; "{before}{value}{behind}")?.as_str())
+fn number(out: &mut String, before: &str, value: u32, behind: &str) {
+    let _ = write!(out, "{before}{value}{behind}");
+}
+
+fn name(out: &mut String, name: &Name) {
+    bytes(out, &name.text);
+}
+
+fn quoted(out: &mut String, chars: &Chars) {
+    put(out, "\"");
+    bytes(out, &chars.bytes);
+    put(out, "\"");
 }
 
 fn sign(negated: bool) -> &'static str {
     if negated { "-" } else { "" }
 }
 
-fn truth(out: &mut String, value: bool) -> Put {
-    out.push_str(if value { "TRUE" } else { "FALSE" })
+fn truth(value: bool) -> &'static str {
+    if value { "TRUE" } else { "FALSE" }
 }
 
-fn constant(out: &mut String, alloc: Global, of: &Const) -> Put {
+fn constant(out: &mut String, of: &Const) {
     match of {
-        Const::Number(negated, value) => number(out, alloc, sign(*negated), u32::from(*value), ""),
-        Const::Wide(negated, value) => number(out, alloc, sign(*negated), *value, "D"),
+        Const::Number(negated, value) => number(out, sign(*negated), u32::from(*value), ""),
+        Const::Wide(negated, value) => number(out, sign(*negated), *value, "D"),
         Const::Text(chars) => quoted(out, chars),
-        Const::Truth(value) => truth(out, *value),
+        Const::Truth(value) => put(out, truth(*value)),
         Const::Name(of, _) => name(out, of),
     }
 }
 
 /// A bit field: its first bit and its number of bits.
-fn field(out: &mut String, alloc: Global, start: &Const, length: &Const) -> Put {
-    out.push('.')?;
-    constant(out, alloc, start)?;
-    out.push(':')?;
-    constant(out, alloc, length)
+fn field(out: &mut String, start: &Const, length: &Const) {
+    put(out, ".");
+    constant(out, start);
+    put(out, ":");
+    constant(out, length);
 }
 
 #[cycle(printed)]
-fn expressions(out: &mut String, alloc: Global, list: &[Expr]) -> Put {
+fn expressions(out: &mut String, list: &[Expr]) {
     for (index, each) in list.iter().enumerate() {
         if index > 0 {
-            out.push(',')?;
+            put(out, ",");
         }
-        expression(out, alloc, each)?;
+        expression(out, each);
     }
-    Ok(())
 }
 
 #[cycle(printed)]
-fn indexed(out: &mut String, alloc: Global, of: &Name, index: &Option<Box<Expr>>) -> Put {
-    name(out, of)?;
+fn indexed(out: &mut String, of: &Name, index: &Option<Box<Expr>>) {
+    name(out, of);
     if let Some(index) = index {
-        out.push('[')?;
-        expression(out, alloc, index)?;
-        out.push(']')?;
+        put(out, "[");
+        expression(out, index);
+        put(out, "]");
     }
-    Ok(())
 }
 
 #[cycle(printed)]
-fn expression(out: &mut String, alloc: Global, of: &Expr) -> Put {
+fn expression(out: &mut String, of: &Expr) {
     match of {
-        Expr::Number(value) => number(out, alloc, "", u32::from(*value), ""),
-        Expr::Wide(value) => number(out, alloc, "", *value, "D"),
+        Expr::Number(value) => number(out, "", u32::from(*value), ""),
+        Expr::Wide(value) => number(out, "", *value, "D"),
         Expr::Text(chars) => quoted(out, chars),
-        Expr::Truth(value) => truth(out, *value),
-        Expr::Named { name, args, .. } => called(out, alloc, name, args),
+        Expr::Truth(value) => put(out, truth(*value)),
+        Expr::Named { name, args, .. } => called(out, name, args),
         Expr::Address { name, index, .. } => {
-            out.push('@')?;
-            indexed(out, alloc, name, index)
+            put(out, "@");
+            indexed(out, name, index);
         }
-        other => operation(out, alloc, other),
+        other => operation(out, other),
     }
 }
 
 /// An operation with its operands.
 #[cycle(printed)]
-fn operation(out: &mut String, alloc: Global, of: &Expr) -> Put {
-    out.push('(')?;
+fn operation(out: &mut String, of: &Expr) {
+    put(out, "(");
     match of {
         Expr::Binary {
             op,
@@ -142,18 +144,18 @@ fn operation(out: &mut String, alloc: Global, of: &Expr) -> Put {
             right,
             ..
         } => {
-            expression(out, alloc, left)?;
-            out.push_str(word(&BINARY, *op))?;
-            expression(out, alloc, right)?;
+            expression(out, left);
+            put(out, word(&BINARY, *op));
+            expression(out, right);
         }
         Expr::Unary { op, of, .. } => {
-            out.push_str(word(&UNARY, *op))?;
-            expression(out, alloc, of)?;
+            put(out, word(&UNARY, *op));
+            expression(out, of);
         }
         Expr::Shift { kind, of, by, .. } => {
-            expression(out, alloc, of)?;
-            out.push_str(word(&SHIFTS, *kind))?;
-            constant(out, alloc, by)?;
+            expression(out, of);
+            put(out, word(&SHIFTS, *kind));
+            constant(out, by);
         }
         Expr::Field {
             of,
@@ -161,13 +163,13 @@ fn operation(out: &mut String, alloc: Global, of: &Expr) -> Put {
             length,
             ..
         } => {
-            expression(out, alloc, of)?;
-            field(out, alloc, start, length)?;
+            expression(out, of);
+            field(out, start, length);
         }
         Expr::Transfer { to, of, .. } => {
-            out.push_str(kind_word(*to))?;
-            out.push(' ')?;
-            expression(out, alloc, of)?;
+            put(out, kind_word(*to));
+            put(out, " ");
+            expression(out, of);
         }
         Expr::Bytes {
             op,
@@ -176,140 +178,139 @@ fn operation(out: &mut String, alloc: Global, of: &Expr) -> Put {
             count,
             ..
         } => {
-            reference(out, alloc, left)?;
-            out.push_str(word(&RELATIONS, *op))?;
-            reference(out, alloc, right)?;
-            out.push(',')?;
-            expression(out, alloc, count)?;
+            reference(out, left);
+            put(out, word(&RELATIONS, *op));
+            reference(out, right);
+            put(out, ",");
+            expression(out, count);
         }
         _ => {}
     }
-    out.push(')')
+    put(out, ")");
 }
 
 /// A name with its arguments or its index.
 #[cycle(printed)]
-fn called(out: &mut String, alloc: Global, of: &Name, args: &[Expr]) -> Put {
-    name(out, of)?;
+fn called(out: &mut String, of: &Name, args: &[Expr]) {
+    name(out, of);
     if args.is_empty() {
-        return Ok(());
+        return;
     }
-    out.push('[')?;
-    expressions(out, alloc, args)?;
-    out.push(']')
+    put(out, "[");
+    expressions(out, args);
+    put(out, "]");
 }
 
 #[cycle(printed)]
-fn reference(out: &mut String, alloc: Global, of: &Ref) -> Put {
-    indexed(out, alloc, &of.name, &of.index)
+fn reference(out: &mut String, of: &Ref) {
+    indexed(out, &of.name, &of.index);
 }
 
-fn target(out: &mut String, alloc: Global, of: &Target) -> Put {
+fn target(out: &mut String, of: &Target) {
     match of {
-        Target::Plain(of) => reference(out, alloc, of),
+        Target::Plain(of) => reference(out, of),
         Target::Field { of, start, length } => {
-            reference(out, alloc, of)?;
-            field(out, alloc, start, length)
+            reference(out, of);
+            field(out, start, length);
         }
         Target::Address(of, _) => {
-            out.push('@')?;
-            name(out, of)
+            put(out, "@");
+            name(out, of);
         }
     }
 }
 
-fn source(out: &mut String, alloc: Global, of: &Source) -> Put {
+fn source(out: &mut String, of: &Source) {
     match of {
         Source::Counted(of, count) => {
-            reference(out, alloc, of)?;
-            out.push(',')?;
-            expression(out, alloc, count)
+            reference(out, of);
+            put(out, ",");
+            expression(out, count);
         }
         Source::Text(chars) => quoted(out, chars),
         Source::While(of, class) => {
-            reference(out, alloc, of)?;
-            out.push_str(word(&CLASSES, *class))
+            reference(out, of);
+            put(out, word(&CLASSES, *class));
         }
     }
 }
 
-fn effect(out: &mut String, alloc: Global, of: &Effect) -> Put {
+fn effect(out: &mut String, of: &Effect) {
     match of {
         Effect::Move { to, from } => {
-            out.push_str("MOVE ")?;
-            reference(out, alloc, to)?;
-            out.push_str(":=")?;
-            source(out, alloc, from)
+            put(out, "MOVE ");
+            reference(out, to);
+            put(out, ":=");
+            source(out, from);
         }
         Effect::Scan { from, until, test } => {
-            out.push_str("SCAN ")?;
-            reference(out, alloc, from)?;
-            out.push_str(if *until { " UNTIL " } else { " WHILE " })?;
-            expression(out, alloc, test)
+            put(out, "SCAN ");
+            reference(out, from);
+            put(out, if *until { " UNTIL " } else { " WHILE " });
+            expression(out, test);
         }
     }
 }
 
-fn test(out: &mut String, alloc: Global, of: &Test) -> Put {
+fn test(out: &mut String, of: &Test) {
     match of {
-        Test::Of(of) => expression(out, alloc, of),
-        Test::Code(relation) => out.push_str(word(&RELATIONS, *relation)),
+        Test::Of(of) => expression(out, of),
+        Test::Code(relation) => put(out, word(&RELATIONS, *relation)),
     }
 }
 
-fn assigned(out: &mut String, alloc: Global, to: &Target) -> Put {
-    target(out, alloc, to)?;
-    out.push_str(":=")
+fn assigned(out: &mut String, to: &Target) {
+    target(out, to);
+    put(out, ":=");
 }
 
 #[cycle(stated)]
-fn statements(out: &mut String, alloc: Global, list: &[Stmt]) -> Put {
+fn statements(out: &mut String, list: &[Stmt]) {
     for (index, each) in list.iter().enumerate() {
         if index > 0 {
-            out.push(';')?;
+            put(out, ";");
         }
-        statement(out, alloc, each)?;
+        statement(out, each);
     }
-    Ok(())
 }
 
 #[cycle(stated)]
-fn statement(out: &mut String, alloc: Global, of: &Stmt) -> Put {
+fn statement(out: &mut String, of: &Stmt) {
     match of {
-        Stmt::Empty => out.push('_'),
+        Stmt::Empty => put(out, "_"),
         Stmt::Labelled { name: of, body, .. } => {
-            name(out, of)?;
-            out.push(':')?;
-            statement(out, alloc, body)
+            name(out, of);
+            put(out, ":");
+            statement(out, body);
         }
         Stmt::Block(list) => {
-            out.push('{')?;
-            statements(out, alloc, list)?;
-            out.push('}')
+            put(out, "{");
+            statements(out, list);
+            put(out, "}");
         }
         Stmt::Goto(of, _) => {
-            out.push_str("GO ")?;
-            name(out, of)
+            put(out, "GO ");
+            name(out, of);
         }
-        Stmt::Return(_) => out.push_str("RETURN"),
+        Stmt::Return(_) => put(out, "RETURN"),
         Stmt::Assign { to, value, .. } => {
-            assigned(out, alloc, to)?;
-            expression(out, alloc, value)
+            assigned(out, to);
+            expression(out, value);
         }
         Stmt::AssignEffect { to, effect: of, .. } => {
-            assigned(out, alloc, to)?;
-            effect(out, alloc, of)
+            assigned(out, to);
+            effect(out, of);
         }
-        Stmt::Do(of, _) => effect(out, alloc, of),
-        Stmt::Call { name, args, .. } => called(out, alloc, name, args),
-        other => structured(out, alloc, other),
+        Stmt::Do(of, _) => effect(out, of),
+        Stmt::Call { name, args, .. } => called(out, name, args),
+        other => structured(out, other),
     }
 }
 
 /// The statements that hold others under a test, a count or a choice.
 #[cycle(stated)]
-fn structured(out: &mut String, alloc: Global, of: &Stmt) -> Put {
-    out.push('{')?;
+fn structured(out: &mut String, of: &Stmt) {
+    put(out, "{");
     match of {
         Stmt::If {
             test: of,
@@ -317,32 +318,32 @@ fn structured(out: &mut String, alloc: Global, of: &Stmt) -> Put {
             no,
             ..
         } => {
-            out.push_str("IF ")?;
-            test(out, alloc, of)?;
-            out.push_str(" THEN ")?;
-            statement(out, alloc, yes)?;
+            put(out, "IF ");
+            test(out, of);
+            put(out, " THEN ");
+            statement(out, yes);
             if let Some(no) = no {
-                out.push_str(" ELSE ")?;
-                statement(out, alloc, no)?;
+                put(out, " ELSE ");
+                statement(out, no);
             }
         }
         Stmt::While { test, body, .. } => {
-            out.push_str("WHILE ")?;
-            expression(out, alloc, test)?;
-            out.push_str(" DO ")?;
-            statement(out, alloc, body)?;
+            put(out, "WHILE ");
+            expression(out, test);
+            put(out, " DO ");
+            statement(out, body);
         }
         Stmt::Until { body, test, .. } => {
-            out.push_str("DO ")?;
-            statement(out, alloc, body)?;
-            out.push_str(" UNTIL ")?;
-            expression(out, alloc, test)?;
+            put(out, "DO ");
+            statement(out, body);
+            put(out, " UNTIL ");
+            expression(out, test);
         }
         Stmt::Case { of, arms, .. } => {
-            out.push_str("CASE ")?;
-            expression(out, alloc, of)?;
-            out.push_str(" OF ")?;
-            statements(out, alloc, arms)?;
+            put(out, "CASE ");
+            expression(out, of);
+            put(out, " OF ");
+            statements(out, arms);
         }
         Stmt::For {
             name,
@@ -352,174 +353,165 @@ fn structured(out: &mut String, alloc: Global, of: &Stmt) -> Put {
             body,
             ..
         } => {
-            counting(out, alloc, name, first, step, last)?;
-            statement(out, alloc, body)?;
+            counting(out, name, first, step, last);
+            statement(out, body);
         }
         _ => {}
     }
-    out.push('}')
+    put(out, "}");
 }
 
 /// What a FOR counts by.
-fn counting(
-    out: &mut String,
-    alloc: Global,
-    of: &Name,
-    first: &Expr,
-    step: &Option<Expr>,
-    last: &Expr,
-) -> Put {
-    out.push_str("FOR ")?;
-    name(out, of)?;
-    out.push_str(":=")?;
-    expression(out, alloc, first)?;
+fn counting(out: &mut String, of: &Name, first: &Expr, step: &Option<Expr>, last: &Expr) {
+    put(out, "FOR ");
+    name(out, of);
+    put(out, ":=");
+    expression(out, first);
     if let Some(step) = step {
-        out.push_str(" STEP ")?;
-        expression(out, alloc, step)?;
+        put(out, " STEP ");
+        expression(out, step);
     }
-    out.push_str(" UNTIL ")?;
-    expression(out, alloc, last)?;
-    out.push_str(" DO ")
+    put(out, " UNTIL ");
+    expression(out, last);
+    put(out, " DO ");
 }
 
-fn names(out: &mut String, list: &[(Name, At)]) -> Put {
+fn names(out: &mut String, list: &[(Name, At)]) {
     for (index, (each, _)) in list.iter().enumerate() {
         if index > 0 {
-            out.push(',')?;
+            put(out, ",");
         }
-        name(out, each)?;
+        name(out, each);
     }
-    Ok(())
 }
 
-fn item(out: &mut String, alloc: Global, of: &Item) -> Put {
+fn item(out: &mut String, of: &Item) {
     if let Shape::Pointer = of.shape {
-        out.push('@')?;
+        put(out, "@");
     }
-    name(out, &of.name)?;
+    name(out, &of.name);
     match &of.shape {
         Shape::Simple | Shape::Pointer => {}
         Shape::Array { low, high } => {
-            out.push('[')?;
-            constant(out, alloc, low)?;
-            out.push(':')?;
-            constant(out, alloc, high)?;
-            out.push(']')?;
+            put(out, "[");
+            constant(out, low);
+            put(out, ":");
+            constant(out, high);
+            put(out, "]");
         }
         Shape::View(of) => {
-            out.push_str("[*]=")?;
-            name(out, of)?;
+            put(out, "[*]=");
+            name(out, of);
         }
     }
     for each in &of.first {
-        out.push_str(":=")?;
-        constant(out, alloc, each)?;
+        put(out, ":=");
+        constant(out, each);
     }
-    Ok(())
 }
 
-fn data(out: &mut String, alloc: Global, own: bool, kind: Kind, items: &[Item]) -> Put {
-    out.push_str(if own { "OWN " } else { "" })?;
-    out.push_str(kind_word(kind))?;
+fn data(out: &mut String, own: bool, kind: Kind, items: &[Item]) {
+    put(out, if own { "OWN " } else { "" });
+    put(out, kind_word(kind));
     for each in items {
-        out.push(' ')?;
-        item(out, alloc, each)?;
+        put(out, " ");
+        item(out, each);
     }
-    Ok(())
 }
 
-fn equates(out: &mut String, alloc: Global, list: &[(Name, At, Vec<(bool, Const)>)]) -> Put {
-    out.push_str("EQUATE")?;
+fn equates(out: &mut String, list: &[(Name, At, Vec<(bool, Const)>)]) {
+    put(out, "EQUATE");
     for (each, _, terms) in list {
-        out.push(' ')?;
-        name(out, each)?;
-        out.push('=')?;
+        put(out, " ");
+        name(out, each);
+        put(out, "=");
         for (negative, term) in terms {
-            out.push(if *negative { '-' } else { '+' })?;
-            constant(out, alloc, term)?;
+            put(out, if *negative { "-" } else { "+" });
+            constant(out, term);
         }
     }
-    Ok(())
 }
 
-fn specification(out: &mut String, of: &Spec) -> Put {
-    out.push(';')?;
-    out.push_str(kind_word(of.kind))?;
-    out.push_str(if of.array { " ARRAY " } else { " " })?;
-    names(out, &of.names)
+fn specification(out: &mut String, of: &Spec) {
+    put(out, ";");
+    put(out, kind_word(of.kind));
+    put(out, if of.array { " ARRAY " } else { " " });
+    names(out, &of.names);
 }
 
 /// Where it is not the first that a token has, a segment's number.
-fn segment(out: &mut String, alloc: Global, of: u16) -> Put {
+fn segment(out: &mut String, of: u16) {
     if of == 0 {
-        return Ok(());
+        return;
     }
-    number(out, alloc, "@", u32::from(of), "")
+    number(out, "@", u32::from(of), "");
 }
 
 /// A result's kind, a name with its segment, the parameters, those by VALUE, and their kinds.
-fn heading(out: &mut String, alloc: Global, before: &str, of: &Heading) -> Put {
-    out.push_str(before)?;
+fn heading(out: &mut String, before: &str, of: &Heading) {
+    put(out, before);
     if let Some(kind) = of.result {
-        out.push_str(kind_word(kind))?;
-        out.push(' ')?;
+        put(out, kind_word(kind));
+        put(out, " ");
     }
-    name(out, &of.name)?;
-    segment(out, alloc, of.segment)?;
-    out.push('[')?;
-    names(out, &of.names)?;
-    out.push('|')?;
-    names(out, &of.values)?;
+    name(out, &of.name);
+    segment(out, of.segment);
+    put(out, "[");
+    names(out, &of.names);
+    put(out, "|");
+    names(out, &of.values);
     for each in &of.specs {
-        specification(out, each)?;
+        specification(out, each);
     }
-    out.push_str(if of.split { "] SPLIT " } else { "] " })
+    put(out, if of.split { "] SPLIT " } else { "] " });
 }
 
 #[cycle(declared)]
-fn declaration(out: &mut String, alloc: Global, of: &Decl) -> Put {
+fn declaration(out: &mut String, of: &Decl) {
     match of {
-        Decl::Data { own, kind, items } => data(out, alloc, *own, *kind, items),
-        Decl::Equate(list) => equates(out, alloc, list),
+        Decl::Data { own, kind, items } => data(out, *own, *kind, items),
+        Decl::Equate(list) => equates(out, list),
         Decl::Intrinsic(list) => {
-            out.push_str("INTRINSIC ")?;
-            names(out, list)
+            put(out, "INTRINSIC ");
+            names(out, list);
         }
         Decl::Label(list) => {
-            out.push_str("LABEL ")?;
-            names(out, list)
+            put(out, "LABEL ");
+            names(out, list);
         }
-        Decl::Forward(of) => heading(out, alloc, "FORWARD ", of),
-        Decl::External(of) => heading(out, alloc, "EXTERNAL ", of),
+        Decl::Forward(of) => heading(out, "FORWARD ", of),
+        Decl::External(of) => heading(out, "EXTERNAL ", of),
         Decl::Procedure(of, body) => {
-            heading(out, alloc, "PROCEDURE ", of)?;
-            block(out, alloc, &body.items, &body.statements)
+            heading(out, "PROCEDURE ", of);
+            block(out, &body.items, &body.statements);
         }
         Decl::Subroutine(of, body) => {
-            heading(out, alloc, "SUBROUTINE ", of)?;
-            statement(out, alloc, body)
+            heading(out, "SUBROUTINE ", of);
+            statement(out, body);
         }
     }
 }
 
 /// Declarations and statements, a bar between them.
 #[cycle(declared)]
-fn block(out: &mut String, alloc: Global, items: &[Decl], list: &[Stmt]) -> Put {
-    out.push('{')?;
+fn block(out: &mut String, items: &[Decl], list: &[Stmt]) {
+    put(out, "{");
     for each in items {
-        declaration(out, alloc, each)?;
-        out.push(';')?;
+        declaration(out, each);
+        put(out, ";");
     }
-    out.push('|')?;
-    statements(out, alloc, list)?;
-    out.push('}')
+    put(out, "|");
+    statements(out, list);
+    put(out, "}");
 }
 
 /// A unit's tree.
-pub fn unit_text(alloc: Global, unit: &SplUnit) -> Result<String, AllocError> {
+pub fn unit_text(alloc: Global, unit: &SplUnit) -> String {
     let mut out = String::new(alloc);
-    out.push_str(if unit.subprogram { "SUBPROGRAM " } else { "" })?;
-    block(&mut out, alloc, &unit.items, &unit.statements)?;
-    segment(&mut out, alloc, unit.segment)?;
-    Ok(out)
+    if unit.subprogram {
+        put(&mut out, "SUBPROGRAM ");
+    }
+    block(&mut out, &unit.items, &unit.statements);
+    segment(&mut out, unit.segment);
+    out
 }
