@@ -3,8 +3,6 @@
 
 mod faults;
 mod reading;
-#[cfg(test)]
-mod tests;
 
 pub use faults::ProgramFault;
 pub use reading::read_program;

@@ -1,9 +1,11 @@
 //! Where the data of programs stand and what their bodies need, beside numbers that were worked out by hand.
-use crate::texts::text;
+ghost use Rattle.std.specs.Prelude.{◌≤◌, length, IfOk};
+
 use spl_layout::{Layout, places};
 use spl_program::read_program;
 use spl_program::spl_sound::Sound;
-use std::alloc::Global;
+use spl_tree::Chars;
+use std::alloc::{AllocError, Global};
 use std::test::Fail;
 
 /// The word of an item or a parameter, and where an array's data begin.
@@ -23,7 +25,7 @@ struct Case {
 }
 
 /// Each sort of item, parameter and body.
-const CASES: [Case; 5] = [
+static CASES: [Case; 5] = [
     // the cell of B is twice 5 and 3, that of A is 9 and twice 1
     Case {
         what: "arrays of bytes and of doubles with negative bounds",
@@ -80,6 +82,17 @@ const CASES: [Case; 5] = [
         bodies: &[(0, 19, None), (0, 8, Some(65_530))],
     },
 ];
+
+/// The text of a unit; one of more bytes than may be is cut.
+fn text(alloc: Global, unit: &str) -> Result<Chars, AllocError>
+    ensures { IfOk result (λ t. length t.bytes.items ≤ 1048576) }
+{
+    let bytes = unit.as_bytes();
+    let most = bytes.len().min(1_048_576);
+    Ok(Chars {
+        bytes: Vec::from_slice(alloc, &bytes[..most])?,
+    })
+}
 
 /// The units that texts are.
 fn program(alloc: Global, first: &str, second: Option<&str>) -> Result<Sound, Fail> {
