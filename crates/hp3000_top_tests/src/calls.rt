@@ -85,107 +85,128 @@ fn words_that_are_no_verb_read_and_write_nothing(rt: HostRuntime) -> Result<(), 
     Ok(())
 }
 
-/// A call over a source of the first job: its words, the call of the source that fails, that of the sink, and how many bytes the sink takes;
-/// then the status, how many programs are made, how many bytes are written, and what they begin with.
-type Case = (
-    &'static [&'static str],
-    &'static [u32],
-    &'static [u32],
-    usize,
-    u8,
-    usize,
-    usize,
-    &'static [u8],
-);
+/// A call over a source of the first job, and what comes of it.
+struct Case {
+    words: &'static [&'static str],
+    /// The calls of the source that fail, and those of the sink.
+    source_fails: &'static [u32],
+    sink_fails: &'static [u32],
+    /// How many bytes the sink takes.
+    room: usize,
+    status: u8,
+    /// How many programs are made.
+    made: usize,
+    is_sink_called: bool,
+    /// How many bytes are written, and what they begin with.
+    written: usize,
+    first: &'static [u8],
+}
 
 static CALLS: [Case; 4] = [
-    (
-        &["run"],
-        &[],
-        &[],
-        4096,
-        0,
-        1,
-        FIRST_REPORT.len(),
-        FIRST_REPORT,
-    ),
-    (&["run"], &[], &[0], 4096, 4, 0, 0, b""),
+    Case {
+        words: &["run"],
+        source_fails: &[],
+        sink_fails: &[],
+        room: 4096,
+        status: 0,
+        made: 1,
+        is_sink_called: true,
+        written: FIRST_REPORT.len(),
+        first: FIRST_REPORT,
+    },
+    Case {
+        words: &["run"],
+        source_fails: &[],
+        sink_fails: &[0],
+        room: 4096,
+        status: 4,
+        made: 0,
+        is_sink_called: true,
+        written: 0,
+        first: b"",
+    },
     // the last byte that is taken is a blank
-    (&["run"], &[], &[], 10, 4, 0, 10, b"SESSION 1 "),
-    (&["run"], &[0], &[], 4096, 3, 0, 0, b""),
+    Case {
+        words: &["run"],
+        source_fails: &[],
+        sink_fails: &[],
+        room: 10,
+        status: 4,
+        made: 0,
+        is_sink_called: true,
+        written: 10,
+        first: b"SESSION 1 ",
+    },
+    Case {
+        words: &["run"],
+        source_fails: &[0],
+        sink_fails: &[],
+        room: 4096,
+        status: 3,
+        made: 0,
+        is_sink_called: false,
+        written: 0,
+        first: b"",
+    },
 ];
 
-/// Nothing is read where a job is generated.
-static GENERATED: [Case; 4] = [
+/// Nothing is read where a job is generated: the number, how many bytes are written, and what they begin with.
+static GENERATED: [(&str, usize, &[u8]); 4] = [
+    ("7", 736, b"GEN 7 BYTES 55322\nSESSION 1 G1 BYTES 5\n1679\n"),
     (
-        &["gen", "7"],
-        &[0],
-        &[],
-        4096,
-        0,
-        8,
+        "00007",
         736,
         b"GEN 7 BYTES 55322\nSESSION 1 G1 BYTES 5\n1679\n",
     ),
-    (
-        &["gen", "00007"],
-        &[0],
-        &[],
-        4096,
-        0,
-        8,
-        736,
-        b"GEN 7 BYTES 55322\nSESSION 1 G1 BYTES 5\n1679\n",
-    ),
-    (
-        &["gen", "0"],
-        &[0],
-        &[],
-        4096,
-        0,
-        8,
-        738,
-        b"GEN 0 BYTES 55317\n",
-    ),
-    (
-        &["gen", "65535"],
-        &[0],
-        &[],
-        4096,
-        0,
-        8,
-        732,
-        b"GEN 65535 BYTES 55327\n",
-    ),
+    ("0", 738, b"GEN 0 BYTES 55317\n"),
+    ("65535", 732, b"GEN 65535 BYTES 55327\n"),
 ];
 
-/// Whether a call comes to what its row says.
+/// Whether a call comes to what its case says.
 fn is_answered(alloc: Global, case: &Case) -> Result<bool, Fail> {
-    let (words, input_fails, output_fails, room, wanted, many, length, first) = case;
-    let list = list_of(alloc, words)?;
-    let mut input = source(alloc, FIRST, input_fails)?;
-    let mut output = sink(alloc, *room, output_fails)?;
+    let list = list_of(alloc, case.words)?;
+    let mut input = source(alloc, FIRST, case.source_fails)?;
+    let mut output = sink(alloc, case.room, case.sink_fails)?;
     let (status, made) = call(alloc, &list, &mut input, &mut output);
     Ok(
-        status == *wanted
-            && made == *many
-            && output.bytes.len() == *length
+        status == case.status
+            && made == case.made
+            && (output.calls > 0) == case.is_sink_called
+            && output.bytes.len() == case.written
+            && output.bytes.starts_with(case.first),
+    )
+}
+
+/// Whether a generated job of eight programs is summed up so, without a call of the source.
+fn is_summed_up(alloc: Global, number: &str, written: usize, first: &[u8]) -> Result<bool, Fail> {
+    let list = list_of(alloc, &["gen", number])?;
+    let mut input = source(alloc, FIRST, &[0])?;
+    let mut output = sink(alloc, 4096, &[])?;
+    let (status, made) = call(alloc, &list, &mut input, &mut output);
+    Ok(
+        status == 0
+            && made == 8
+            && input.calls == 0
+            && output.bytes.len() == written
             && output.bytes.starts_with(first),
     )
 }
 
 #[test]
 fn calls_are_answered(rt: HostRuntime) -> Result<(), Fail> {
-    for case in &CALLS {
-        assert!(rt; is_answered(rt.alloc(), case)?, "{:?}", case.0);
+    for (number, case) in CALLS.iter().enumerate() {
+        assert!(rt; is_answered(rt.alloc(), case)?, "call {number}");
     }
     Ok(())
 }
 
 #[test]
 fn generated_jobs_are_summed_up(rt: HostRuntime) -> Result<(), Fail> {
-    for case in &GENERATED {
-        assert!(rt; is_answered(rt.alloc(), case)?, "{:?}", case.0);
+    for (number, written, first) in &GENERATED {
+        assert!(rt;
+            is_summed_up(rt.alloc(), number, *written, first)?,
+            "{number}"
+        );
     }
     Ok(())
 }
