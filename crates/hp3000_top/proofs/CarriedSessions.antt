@@ -19,7 +19,7 @@ use Rattle.spl_program.specs.spl_meaning.Runs.{AreBytes, LinesAreBytes, alone}
 use Rattle.spl_numbered.specs.spl_carries.Segments.{words_from, initial_words}
 use Rattle.spl_numbered.specs.spl_carries.Carries as carries
 use Rattle.spl_numbered.specs.spl_carries.Carries.{Forth, MaySit, IsPrefix, Carries, flat_point}
-use Rattle.spl_linkable.specs.spl_build.Built.{IsBuilt}
+use Rattle.spl_linkable.specs.spl_built.Built.{IsBuilt}
 use Rattle.spl_safe_programs.specs.spl_sound_programs.Laws.{SoundProgramsCarry}
 use Rattle.hp3000_top.specs.Programs.{IsMade}
 use Rattle.spl_numbered.specs.spl_bounds.Segments.{NumbersSegments}

@@ -23,7 +23,7 @@ use Rattle.spl_linkable.specs.mpe_segmenter.Names.{Part, parts, segment_names}
 use Rattle.spl_linkable.specs.mpe_segmenter.Entries.{either}
 use Rattle.spl_linkable.specs.mpe_segmenter.Counts.{passed_by, table_size, entries_full, segment_full, sizes}
 use Rattle.spl_linkable.specs.mpe_segmenter.Faults.{Fault, NoMain, TwoMains, Doubled, Unresolved, SegmentsFull, EntriesFull, SegmentFull, fault_of, mains, doubled, unresolved, main_faults, segment_faults, first_fault}
-use Rattle.spl_linkable.specs.spl_build.Built.{IsUnlinked}
+use Rattle.spl_linkable.specs.spl_built.Built.{IsUnlinked}
 use Rattle.spl_linkable.specs.spl_module_names.Faults.{counts_words}
 use Rattle.spl_linkable.proofs.spl_module_names_proofs.FaultLaws.{faults_agree}
 use Rattle.spl_linkable.specs.Linkable as l

@@ -12,7 +12,7 @@ use Rattle.spl_program.specs.Programs.{IsProgram, Tells}
 use Rattle.spl_linkable.specs.spl_branch.declared.modules.Module.{Module}
 use Rattle.spl_linkable.specs.mpe_segmenter.Names.{parts}
 use Rattle.spl_linkable.specs.mpe_segmenter.Sites.{Links}
-use Rattle.spl_linkable.specs.spl_build.Built.{IsBuilt, IsLinked}
+use Rattle.spl_linkable.specs.spl_built.Built.{IsBuilt, IsLinked}
 use Rattle.hp3000_top.specs.declared.unmade.Unmade.{Unmade}
 use Rattle.hp3000_top.specs.declared.unmade.Unmade.TheVariants as unmade
 use Rattle.hp3000_top.specs.Programs.{IsMade, IsRefused, faulty, unlinked, fault_line}

@@ -18,7 +18,7 @@ use Rattle.job_runs.specs.mpe_turns.declared.fault.OpenFault.TheVariants.{StackT
 use Rattle.job_runs.specs.mpe_turns.Opening.{first_of_two, stack_needed, small_stack, small_stack_from, small_memory, refusal}
 use Rattle.spl_program.specs.spl_meaning.Tables.{Source}
 use Rattle.spl_program.specs.spl_meaning.Bodies.{data_words}
-use Rattle.spl_linkable.specs.spl_build.Built.{IsBuilt}
+use Rattle.spl_linkable.specs.spl_built.Built.{IsBuilt}
 use Rattle.spl_numbered.specs.spl_bounds.Programs.{IsOf, most_words}
 use Rattle.spl_numbered.proofs.spl_bounds_proofs.Words.{keep_bounds}
 use Rattle.spl_numbered.proofs.spl_bounds_proofs.Data.{initial_data}

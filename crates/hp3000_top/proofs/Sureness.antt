@@ -4,7 +4,7 @@ use Rattle.hp_program.specs.declared.program.Program.{Program}
 use Rattle.job_gen.specs.job_text.States.{TextValue}
 use Rattle.spl_program.specs.spl_meaning.Tables.{Source}
 use Rattle.spl_linkable.specs.mpe_segmenter.declared.faults.PrepFault.{PrepFault}
-use Rattle.spl_linkable.specs.spl_build.Built.{IsBuilt, IsUnlinked}
+use Rattle.spl_linkable.specs.spl_built.Built.{IsBuilt, IsUnlinked}
 use Rattle.spl_linkable.specs.spl_module_names.Faults.{tells_words}
 use Rattle.spl_linkable.proofs.spl_module_names_proofs.FaultLaws.{one_told, none_built}
 use Rattle.spl_linkable.specs.Linkable as l

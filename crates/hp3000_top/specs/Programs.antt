@@ -12,7 +12,7 @@ use Rattle.spl_program.specs.declared.faults.ProgramFault.TheVariants as why
 use Rattle.spl_program.specs.Programs.{IsProgram, IsFault}
 use Rattle.spl_linkable.specs.mpe_segmenter.declared.faults.PrepFault.{PrepFault}
 use Rattle.spl_linkable.specs.mpe_segmenter.declared.faults.PrepFault.TheVariants as link
-use Rattle.spl_linkable.specs.spl_build.Built.{IsBuilt, IsUnlinked}
+use Rattle.spl_linkable.specs.spl_built.Built.{IsBuilt, IsUnlinked}
 use Rattle.spl_linkable.specs.spl_module_names.Faults.{tells_words}
 use Rattle.spl_linkable.specs.Linkable.{IsLinkable}
 

@@ -26,7 +26,7 @@ use Rattle.job_runs.specs.mpe_turns.declared.monitor.Monitor.{Monitor}
 use Rattle.job_runs.specs.mpe_turns.Monitors.{world_of}
 use Rattle.job_runs.specs.mpe_turns.Opening.{refusal}
 use Rattle.spl_linkable.specs.mpe_segmenter.declared.faults.PrepFault.{PrepFault}
-use Rattle.spl_linkable.specs.spl_build.Built.{IsUnlinked}
+use Rattle.spl_linkable.specs.spl_built.Built.{IsUnlinked}
 use Rattle.spl_program.specs.spl_meaning.Tables.{Source}
 use Rattle.spl_program.specs.declared.faults.ProgramFault.{ProgramFault}
 use Rattle.spl_program.specs.declared.faults.ProgramFault.TheVariants as why

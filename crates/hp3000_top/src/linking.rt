@@ -1,6 +1,6 @@
 //! Programs of units, built and linked.
 ghost use Rattle.std.specs.Prelude.{◌≡◌, None, map, IfOk, IfErr};
-ghost use Rattle.spl_linkable.specs.spl_build.Built.{IsBuilt};
+ghost use Rattle.spl_linkable.specs.spl_built.Built.{IsBuilt};
 ghost use Rattle.spl_program.specs.spl_meaning.Limits.{first_full};
 ghost use Rattle.spl_program.specs.spl_sound.Spelled.{source_of};
 ghost use Rattle.hp3000_top.specs.Programs.{told_of, link_line};
@@ -9,7 +9,7 @@ ghost use Rattle.hp3000_top.specs.Steps.{UnlinkedBy};
 use crate::unmade::Unmade;
 use hp_program::Program;
 use job_report::{ModulesRefusal, Refusal, refusal_line};
-use spl_linkable::spl_build::{BuildFault, PrepFault, build};
+use spl_build::{BuildFault, PrepFault, build};
 use spl_program::spl_sound::Sound;
 use spl_tree::Name;
 use std::alloc::{AllocError, Global};

@@ -8,10 +8,10 @@ use Rattle.spl_sound.specs.spl_meaning.Tables.{Source}
 use Rattle.spl_sound.specs.Spelled.{AreSpelled, most_units, source_of}
 use Rattle.spl_gen_proc.specs.spl_layout.declared.layouts.Layout.{Layout}
 use Rattle.spl_branch.specs.declared.modules.Module.{Module}
-use Rattle.spl_formed_modules.specs.spl_module_code.Modules.{AreModules}
+use Rattle.spl_built.specs.spl_module_code.Modules.{AreModules}
 use Rattle.mpe_segmenter.specs.Entered.{total}
-use Rattle.spl_formed_modules.proofs.Few.{all_few}
-use Rattle.spl_build.specs.Built.{IsLinked, IsBuilt}
+use Rattle.spl_built.proofs.spl_formed_modules_proofs.Few.{all_few}
+use Rattle.spl_built.specs.Built.{IsLinked, IsBuilt}
 use Rattle.spl_build.specs.Steps.{IsLaid}
 
 pub built_so : {E : Type 0} (us : List Source) (l : Layout) (ms : List Module) (r : Result Program E) → IsLaid us l → AreModules us ms

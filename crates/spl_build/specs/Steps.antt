@@ -7,7 +7,7 @@ use Rattle.spl_gen_proc.specs.spl_layout.Layouts.{IsLayout}
 use Rattle.spl_branch.specs.declared.modules.Module.{Module}
 use Rattle.spl_build.specs.declared.building.BuildFault.{BuildFault}
 use Rattle.spl_build.specs.declared.building.BuildFault.TheVariants as why
-use Rattle.spl_build.specs.Built.{FailsFirst}
+use Rattle.spl_built.specs.Built.{FailsFirst}
 
 -- this is the layout of units that pass no limit, and its data words are no more than a program's may be
 pub record IsLaid (us : List Source) (l : Layout) : Type 0 where

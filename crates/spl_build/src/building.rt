@@ -5,7 +5,8 @@ ghost use Rattle.mpe_segmenter.specs.Counts.{is_well_formed};
 ghost use Rattle.mpe_segmenter.specs.Entered.{total};
 ghost use Rattle.spl_sound.specs.spl_meaning.Limits.{first_full};
 ghost use Rattle.spl_sound.specs.Spelled.{source_of};
-ghost use Rattle.spl_build.specs.Built.{IsLinked, IsBuilt, IsUnbuilt};
+ghost use Rattle.spl_built.specs.Built.{IsLinked, IsBuilt};
+ghost use Rattle.spl_build.specs.Unbuilt.{IsUnbuilt};
 ghost use Rattle.spl_build.specs.Steps.{IsLaid, IsPassed, Fails};
 
 use hp_program::Program;

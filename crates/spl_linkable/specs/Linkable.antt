@@ -17,7 +17,7 @@ use Rattle.spl_module_names.specs.mpe_segmenter.Names.{Part, parts}
 use Rattle.spl_module_names.specs.mpe_segmenter.Counts.{table_size}
 use Rattle.spl_module_names.specs.mpe_segmenter.Faults.{Fault, first_fault}
 use Rattle.spl_module_names.specs.Faults.{counts_words}
-use Rattle.spl_module_names.specs.spl_build.Built.{IsBuilt, IsUnlinked}
+use Rattle.spl_module_names.specs.spl_built.Built.{IsBuilt, IsUnlinked}
 
 -- how many words a segment may have: what stands there of the units weighs so much, and the rest is its table
 abbrev pub part_bound : List Source → Part → ℕ

@@ -4,4 +4,3 @@
 mod laws;
 
 pub use laws::{no_fault_is_told, no_modules_fail, segments_keep_bounds};
-pub use spl_module_names::spl_build;

@@ -1,14 +1,14 @@
 -- All faults but that of too many words are told by outlines, and that one comes last.
 use Rattle.std.proofs.Common.{◌≡◌, ℕ, nat_lt, Bool, true, false, if◌then◌else◌, List, [], ◌∷◌, map, length, Option, Some, None, refl, sym, ap, ◌∙◌}
 use Rattle.std.specs.Prelude.{option_map, ◌==◌}
-use Rattle.spl_build.specs.spl_tree.declared.names_and_places.Name.{Name}
-use Rattle.spl_build.specs.spl_branch.declared.modules.Module.{Module}
-use Rattle.spl_build.specs.mpe_segmenter.declared.faults.PrepFault.{PrepFault}
-use Rattle.spl_build.specs.mpe_segmenter.declared.faults.PrepFault.TheVariants as f
-use Rattle.spl_build.specs.mpe_segmenter.Names.{Part, parts, segment_names}
-use Rattle.spl_build.specs.mpe_segmenter.Entries.{either}
-use Rattle.spl_build.specs.mpe_segmenter.Counts.{entries_in, entries_full, segment_full}
-use Rattle.spl_build.specs.mpe_segmenter.Faults.{mains, first_repeat, callables, unresolved, Fault, NoMain, TwoMains, Doubled, Unresolved, SegmentsFull, EntriesFull, SegmentFull, fault_of, main_faults, name_faults, segment_faults, first_fault}
+use Rattle.spl_built.specs.spl_tree.declared.names_and_places.Name.{Name}
+use Rattle.spl_built.specs.spl_branch.declared.modules.Module.{Module}
+use Rattle.spl_built.specs.mpe_segmenter.declared.faults.PrepFault.{PrepFault}
+use Rattle.spl_built.specs.mpe_segmenter.declared.faults.PrepFault.TheVariants as f
+use Rattle.spl_built.specs.mpe_segmenter.Names.{Part, parts, segment_names}
+use Rattle.spl_built.specs.mpe_segmenter.Entries.{either}
+use Rattle.spl_built.specs.mpe_segmenter.Counts.{entries_in, entries_full, segment_full}
+use Rattle.spl_built.specs.mpe_segmenter.Faults.{mains, first_repeat, callables, unresolved, Fault, NoMain, TwoMains, Doubled, Unresolved, SegmentsFull, EntriesFull, SegmentFull, fault_of, main_faults, name_faults, segment_faults, first_fault}
 use Rattle.spl_module_names.specs.Outlines.{outline_of, counted}
 use Rattle.spl_module_names.specs.Faults.{counts_words, FirstFaultsAgree, tells_words, OneFaultIsTold, NoneIsBuilt}
 use Rattle.spl_module_names.proofs.OutlineLaws.{one_outline}

@@ -6,21 +6,21 @@ use Rattle.std.specs.Prelude.{is_some, option_map}
 use Rattle.std.specs.Global.{Vec}
 use Rattle.std.proofs.lemmas.Bool.{cases_lt}
 use Rattle.std.proofs.lemmas.List.{map-append}
-use Rattle.spl_build.specs.spl_tree.Views.{letters}
-use Rattle.spl_build.specs.spl_meaning.Names.{find}
-use Rattle.spl_build.specs.spl_branch.declared.buffer.Entry as code
-use Rattle.spl_build.specs.spl_branch.declared.modules.Want.{Want}
-use Rattle.spl_build.specs.spl_branch.declared.modules.Module.{Module}
-use Rattle.spl_build.specs.spl_branch.Modules.{define_of}
-use Rattle.spl_build.specs.spl_code.Parts.{wants_of}
-use Rattle.spl_build.specs.spl_code.Parts as parts
-use Rattle.spl_build.specs.spl_scopes.Entries.{module_entries}
-use Rattle.spl_build.specs.spl_scopes.Scopes.{Placed, first_reached, placed_units}
-use Rattle.spl_build.specs.spl_modules.Made.{Made, made_of, made_from}
-use Rattle.spl_build.specs.spl_module_code.Modules.{main_mark, module_written, numbered, next_number, IsModuleOf, AreOfUnit, AreOf, program_uses}
-use Rattle.spl_build.specs.spl_module_code.Modules.{AreOfUnit as u}
-use Rattle.spl_build.specs.spl_module_code.Modules.{AreOf as a}
-use Rattle.spl_build.specs.mpe_segmenter.Entries.{Wanted, wanted_of}
+use Rattle.spl_built.specs.spl_tree.Views.{letters}
+use Rattle.spl_built.specs.spl_meaning.Names.{find}
+use Rattle.spl_built.specs.spl_branch.declared.buffer.Entry as code
+use Rattle.spl_built.specs.spl_branch.declared.modules.Want.{Want}
+use Rattle.spl_built.specs.spl_branch.declared.modules.Module.{Module}
+use Rattle.spl_built.specs.spl_branch.Modules.{define_of}
+use Rattle.spl_built.specs.spl_code.Parts.{wants_of}
+use Rattle.spl_built.specs.spl_code.Parts as parts
+use Rattle.spl_built.specs.spl_scopes.Entries.{module_entries}
+use Rattle.spl_built.specs.spl_scopes.Scopes.{Placed, first_reached, placed_units}
+use Rattle.spl_built.specs.spl_modules.Made.{Made, made_of, made_from}
+use Rattle.spl_built.specs.spl_module_code.Modules.{main_mark, module_written, numbered, next_number, IsModuleOf, AreOfUnit, AreOf, program_uses}
+use Rattle.spl_built.specs.spl_module_code.Modules.{AreOfUnit as u}
+use Rattle.spl_built.specs.spl_module_code.Modules.{AreOf as a}
+use Rattle.spl_built.specs.mpe_segmenter.Entries.{Wanted, wanted_of}
 use Rattle.spl_module_names.specs.Outlines.{Defined, defined_of, Outline, outline_of, ModulesHaveOneOutline}
 
 -- ---- 1. a module

@@ -6,13 +6,13 @@ use Rattle.std.proofs.Common.{◌≡◌, ℕ, ◌+◌, nat_eq, Bool, true, false
 use Rattle.std.specs.Prelude.{◌||◌, ◌&&◌, not, is_some, option_map}
 use Rattle.std.specs.Cmp.Lexicographic.{pointwise}
 use Rattle.std.proofs.lemmas.List.{map-append, length-map}
-use Rattle.spl_build.specs.spl_branch.declared.modules.Define.{Define}
-use Rattle.spl_build.specs.spl_branch.declared.modules.Want.{Want}
-use Rattle.spl_build.specs.spl_branch.declared.modules.Module.{Module}
-use Rattle.spl_build.specs.mpe_segmenter.Names.{is_among, with_name, segment_of, names_from, segment_names, modules_of, Part, part_from, parts}
-use Rattle.spl_build.specs.mpe_segmenter.Entries.{Own, own_of, main_of, owns, called_at, Wanted, wanted_of, is_met, with_want, wants_from, all_wants}
-use Rattle.spl_build.specs.mpe_segmenter.Counts.{entries_in}
-use Rattle.spl_build.specs.mpe_segmenter.Faults.{mains, define_names, callables, first_unmet, or_name, unmet_from, unresolved}
+use Rattle.spl_built.specs.spl_branch.declared.modules.Define.{Define}
+use Rattle.spl_built.specs.spl_branch.declared.modules.Want.{Want}
+use Rattle.spl_built.specs.spl_branch.declared.modules.Module.{Module}
+use Rattle.spl_built.specs.mpe_segmenter.Names.{is_among, with_name, segment_of, names_from, segment_names, modules_of, Part, part_from, parts}
+use Rattle.spl_built.specs.mpe_segmenter.Entries.{Own, own_of, main_of, owns, called_at, Wanted, wanted_of, is_met, with_want, wants_from, all_wants}
+use Rattle.spl_built.specs.mpe_segmenter.Counts.{entries_in}
+use Rattle.spl_built.specs.mpe_segmenter.Faults.{mains, define_names, callables, first_unmet, or_name, unmet_from, unresolved}
 use Rattle.spl_module_names.specs.Outlines.{Defined, defined_of, Outline, outline_of, counted, SegmentsHaveOneCount}
 use Rattle.spl_module_names.proofs.OutlineLaws.{one_outline}
 

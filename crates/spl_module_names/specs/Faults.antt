@@ -1,13 +1,13 @@
 -- What is wrong with modules of units whichever these are: all faults but that of too many words, which comes last.
 use Rattle.std.specs.Prelude.{◌≡◌, Bool, true, false, List, Some}
-use Rattle.spl_build.specs.hp_program.declared.program.Program.{Program}
-use Rattle.spl_build.specs.spl_meaning.Tables.{Source}
-use Rattle.spl_build.specs.spl_branch.declared.modules.Module.{Module}
-use Rattle.spl_build.specs.spl_module_code.Modules.{AreModules}
-use Rattle.spl_build.specs.mpe_segmenter.declared.faults.PrepFault.{PrepFault}
-use Rattle.spl_build.specs.mpe_segmenter.declared.faults.PrepFault.TheVariants as f
-use Rattle.spl_build.specs.mpe_segmenter.Faults.{Fault, SegmentFull, first_fault}
-use Rattle.spl_build.specs.Built.{IsBuilt, IsUnlinked}
+use Rattle.spl_built.specs.hp_program.declared.program.Program.{Program}
+use Rattle.spl_built.specs.spl_meaning.Tables.{Source}
+use Rattle.spl_built.specs.spl_branch.declared.modules.Module.{Module}
+use Rattle.spl_built.specs.spl_module_code.Modules.{AreModules}
+use Rattle.spl_built.specs.mpe_segmenter.declared.faults.PrepFault.{PrepFault}
+use Rattle.spl_built.specs.mpe_segmenter.declared.faults.PrepFault.TheVariants as f
+use Rattle.spl_built.specs.mpe_segmenter.Faults.{Fault, SegmentFull, first_fault}
+use Rattle.spl_built.specs.Built.{IsBuilt, IsUnlinked}
 
 -- a fault for which words are counted
 abbrev pub counts_words : Fault → Bool

@@ -1,13 +1,13 @@
 -- What modules are but for their words and offsets. Code may take either form of a branch, so the modules of units are not one list; but all such
 -- lists have the same outlines.
 use Rattle.std.specs.Prelude.{◌≡◌, ℕ, Bool, List, map, is_some}
-use Rattle.spl_build.specs.spl_meaning.Tables.{Source}
-use Rattle.spl_build.specs.spl_branch.declared.modules.Define.{Define}
-use Rattle.spl_build.specs.spl_branch.declared.modules.Module.{Module}
-use Rattle.spl_build.specs.spl_module_code.Modules.{AreModules}
-use Rattle.spl_build.specs.mpe_segmenter.Names.{segment_of, Part, parts}
-use Rattle.spl_build.specs.mpe_segmenter.Entries.{Wanted, wanted_of}
-use Rattle.spl_build.specs.mpe_segmenter.Counts.{entries_in}
+use Rattle.spl_built.specs.spl_meaning.Tables.{Source}
+use Rattle.spl_built.specs.spl_branch.declared.modules.Define.{Define}
+use Rattle.spl_built.specs.spl_branch.declared.modules.Module.{Module}
+use Rattle.spl_built.specs.spl_module_code.Modules.{AreModules}
+use Rattle.spl_built.specs.mpe_segmenter.Names.{segment_of, Part, parts}
+use Rattle.spl_built.specs.mpe_segmenter.Entries.{Wanted, wanted_of}
+use Rattle.spl_built.specs.mpe_segmenter.Counts.{entries_in}
 
 -- a define but for its offset: its name, and whether other modules may call it
 pub record Defined : Type 0 where

@@ -7,4 +7,3 @@ pub use laws::{
     first_faults_agree, modules_have_one_outline, none_is_built, one_fault_is_told,
     segments_have_one_count,
 };
-pub use spl_build;

@@ -1,7 +1,7 @@
 -- The layout, the modules and what is linked of them are what is built.
 use Rattle.std.proofs.Common.{map}
 use Rattle.spl_sound.specs.Spelled.{source_of}
-use Rattle.spl_formed_modules.proofs.Formed.{all_formed}
+use Rattle.spl_built.proofs.spl_formed_modules_proofs.Formed.{all_formed}
 use Rattle.spl_build.proofs.BuildLemmas.{built_so, few_modules}
 use Rattle.spl_build.proofs.building.build.Goals as goal
 

@@ -1,20 +1,17 @@
--- The program that is built of units that break no rule and pass no limit, or the first fault of their modules.
+-- The program that is built of units that break no rule and pass no limit, and the first fault of modules of which none is.
 use Rattle.std.specs.Prelude.{ℕ, ◌≡◌, List, None, Some}
-use Rattle.hp_program.specs.declared.program.Program.{Program}
-use Rattle.hp_program.specs.Programs.{segments_of}
-use Rattle.spl_sound.specs.spl_meaning.Tables.{Source}
-use Rattle.spl_sound.specs.spl_meaning.Limits.{first_full}
-use Rattle.spl_gen_proc.specs.spl_layout.declared.layouts.Layout.{Layout}
-use Rattle.spl_gen_proc.specs.spl_layout.Layouts.{IsLayout}
-use Rattle.spl_branch.specs.declared.modules.Module.{Module}
+use Rattle.spl_formed_modules.specs.mpe_segmenter.hp_program.declared.program.Program.{Program}
+use Rattle.spl_formed_modules.specs.mpe_segmenter.hp_program.Programs.{segments_of}
+use Rattle.spl_formed_modules.specs.spl_module_code.spl_meaning.Tables.{Source}
+use Rattle.spl_layout.specs.declared.layouts.Layout.{Layout}
+use Rattle.spl_layout.specs.Layouts.{IsLayout}
+use Rattle.spl_formed_modules.specs.spl_branch.declared.modules.Module.{Module}
 use Rattle.spl_formed_modules.specs.spl_module_code.Modules.{AreModules}
-use Rattle.mpe_segmenter.specs.declared.faults.PrepFault.{PrepFault}
-use Rattle.mpe_segmenter.specs.Faults.{Fault, fault_of, first_fault}
-use Rattle.mpe_segmenter.specs.Names.{parts}
-use Rattle.mpe_segmenter.specs.Programs.{Makes}
-use Rattle.mpe_segmenter.specs.Sites.{Links}
-use Rattle.spl_build.specs.declared.building.BuildFault.{BuildFault}
-use Rattle.spl_build.specs.declared.building.BuildFault.TheVariants as why
+use Rattle.spl_formed_modules.specs.mpe_segmenter.declared.faults.PrepFault.{PrepFault}
+use Rattle.spl_formed_modules.specs.mpe_segmenter.Faults.{Fault, fault_of, first_fault}
+use Rattle.spl_formed_modules.specs.mpe_segmenter.Names.{parts}
+use Rattle.spl_formed_modules.specs.mpe_segmenter.Programs.{Makes}
+use Rattle.spl_formed_modules.specs.mpe_segmenter.Sites.{Links}
 
 -- Of modules without a fault this program is made, with these data words, and each of its entries leads to what it names.
 pub record IsLinked (modules : List Module) (globals : List ℕ) (p : Program) : Type 0 where
@@ -42,9 +39,3 @@ pub record IsUnlinked (us : List Source) (f : PrepFault) : Type 0 where
   pub modules : List Module
   pub are_modules : AreModules us modules
   pub fails : FailsFirst modules f
-
--- why nothing is built of units: the first limit that they pass, or the first fault of their modules; want of memory says nothing
-abbrev pub IsUnbuilt : List Source → BuildFault → Type 0
-IsUnbuilt us (why.Limit limit at count) = first_full us ≡ Some (record { limit = limit; at = at; count = count })
-IsUnbuilt us (why.Modules f) = IsUnlinked us f
-IsUnbuilt us why.NoMemory = Unit {0}
