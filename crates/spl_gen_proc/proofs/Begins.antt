@@ -9,7 +9,7 @@ use Rattle.spl_unit_laws.specs.spl_scopes.Entries.{Entry, Owner, main, routine, 
 use Rattle.spl_unit_laws.specs.spl_modules.Entered.{Walk}
 use Rattle.spl_unit_laws.specs.spl_modules.Made.{made_from}
 use Rattle.spl_unit_laws.specs.spl_modules.UnitModules.{IsUnitModules}
-use Rattle.spl_unit_laws.specs.spl_gen_routines.Routines.{inner_count, inners_among}
+use Rattle.spl_unit_laws.specs.spl_routine_code.Routines.{inner_count, inners_among}
 use Rattle.spl_unit_laws.specs.spl_unit_codes.declared.growing.Growing.{Growing}
 use Rattle.spl_unit_laws.specs.spl_unit_codes.Begun.{AreBegun}
 use Rattle.spl_unit_laws.specs.Steps.{entry_count, entries_count, main_count, AreFree}

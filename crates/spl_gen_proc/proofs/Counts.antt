@@ -5,7 +5,7 @@ use Rattle.spl_tree.specs.declared.declarations.Decl.{Decl}
 use Rattle.spl_tree.specs.DeclarationTrees.{declarations}
 use Rattle.spl_tree.specs.Spells.{declaration}
 use Rattle.spl_unit_laws.proofs.spl_lists_proofs.NameWalks.{onward, onward_end}
-use Rattle.spl_unit_laws.specs.spl_gen_routines.Routines.{inner_count, inners_among}
+use Rattle.spl_unit_laws.specs.spl_routine_code.Routines.{inner_count, inners_among}
 use Rattle.spl_unit_laws.specs.Units.{routine_rooms, rooms_among}
 
 -- values in a Some

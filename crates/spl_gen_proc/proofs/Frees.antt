@@ -16,13 +16,13 @@ use Rattle.spl_unit_laws.specs.spl_code.Parts.{Part, ◌⨟◌}
 use Rattle.spl_unit_laws.specs.spl_code.Appends.{behind}
 use Rattle.spl_unit_laws.proofs.spl_lists_proofs.NameWalks.{onward, onward_end}
 use Rattle.spl_unit_laws.specs.spl_body_scopes.Levels.{Level}
-use Rattle.spl_unit_laws.specs.spl_gen_routines.Generates.{AreOpen, Generates, GeneratesFrom}
-use Rattle.spl_unit_laws.specs.spl_gen_routines.Scoped.{procedure_with}
-use Rattle.spl_unit_laws.specs.spl_landings.Bodies.{statements_part}
+use Rattle.spl_unit_laws.specs.spl_routine_code.Generates.{AreOpen, Generates, GeneratesFrom}
+use Rattle.spl_unit_laws.specs.spl_routine_code.Scoped.{procedure_with}
+use Rattle.spl_unit_laws.specs.spl_routine_code.Bodies.{statements_part}
 use Rattle.spl_sound.specs.spl_meaning.Pending.{formals_words}
-use Rattle.spl_unit_laws.specs.spl_gen_routines.Routines.{Around, inners_among, RoutineStands}
-use Rattle.spl_unit_laws.proofs.spl_gen_routines_proofs.OpenMarks.{one_generated, over_generated}
-use Rattle.spl_unit_laws.proofs.spl_gen_routines_proofs.InnerWalks.{SomePart, list_part}
+use Rattle.spl_unit_laws.specs.spl_routine_code.Routines.{Around, inners_among, RoutineStands}
+use Rattle.spl_unit_laws.proofs.spl_routine_code_proofs.OpenMarks.{one_generated, over_generated}
+use Rattle.spl_unit_laws.proofs.spl_routine_code_proofs.InnerWalks.{SomePart, list_part}
 use Rattle.spl_unit_laws.specs.spl_unit_codes.declared.growing.Growing.{Growing}
 use Rattle.spl_unit_laws.specs.declared.cursors.Cursor.{Cursor}
 use Rattle.spl_unit_laws.specs.Known.{Fixed, Known}

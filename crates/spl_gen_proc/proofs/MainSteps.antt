@@ -6,7 +6,7 @@ use Rattle.std.proofs.lemmas.Option.{slice_get-get_or}
 use Rattle.spl_tree.specs.DeclarationTrees as decl
 use Rattle.spl_branch.specs.declared.pieces.Piece.TheVariants.{Mark}
 use Rattle.spl_branch.specs.Pieces.{is_settable}
-use Rattle.spl_unit_laws.proofs.spl_gen_routines_proofs.OpenMarks.{first_open}
+use Rattle.spl_unit_laws.proofs.spl_routine_code_proofs.OpenMarks.{first_open}
 use Rattle.spl_unit_laws.specs.spl_unit_codes.declared.growing.Growing.{Growing}
 use Rattle.spl_unit_laws.specs.Steps.{AreFree, main_count}
 use Rattle.spl_gen_proc.proofs.Frees.{open_first}

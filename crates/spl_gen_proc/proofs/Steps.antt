@@ -11,7 +11,7 @@ use Rattle.spl_layout.specs.spl_areas.Gathered.{items_under}
 use Rattle.spl_unit_laws.specs.spl_modules.Entered.{Indexes}
 use Rattle.spl_unit_laws.specs.spl_body_scopes.Levels.{Level, routine_level}
 use Rattle.spl_unit_laws.specs.spl_body_scopes.Results.{routine_result}
-use Rattle.spl_unit_laws.specs.spl_gen_routines.Routines.{Around, inners_among, room_at, InnerStands, RoutineStands, MainBodyStands}
+use Rattle.spl_unit_laws.specs.spl_routine_code.Routines.{Around, inners_among, room_at, InnerStands, RoutineStands, MainBodyStands}
 use Rattle.spl_unit_laws.specs.spl_unit_codes.declared.growing.Growing.{Growing}
 use Rattle.spl_unit_laws.specs.declared.cursors.Cursor.{Cursor}
 use Rattle.spl_unit_laws.specs.Known.{Fixed}

@@ -16,7 +16,7 @@ use Rattle.spl_unit_laws.specs.spl_modules.Entered.{Walk}
 use Rattle.spl_unit_laws.specs.spl_modules.UnitModules.{IsUnitModules}
 use Rattle.spl_unit_laws.specs.spl_module_code.Modules.{numbered}
 use Rattle.spl_unit_laws.specs.spl_body_scopes.Levels.{Level, unit_level}
-use Rattle.spl_unit_laws.specs.spl_gen_routines.Routines.{room_at}
+use Rattle.spl_unit_laws.specs.spl_routine_code.Routines.{room_at}
 use Rattle.spl_unit_laws.specs.spl_unit_codes.declared.growing.Growing.{Growing}
 use Rattle.spl_unit_laws.specs.spl_unit_codes.Begun.{AreBegun}
 use Rattle.spl_unit_laws.specs.spl_unit_codes.Slots.{AreComplete, AreSlots, PickedFrom}

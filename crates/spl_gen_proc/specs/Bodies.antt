@@ -11,7 +11,7 @@ use Rattle.spl_branch.specs.declared.modules.Module.{Module}
 use Rattle.spl_unit_laws.specs.spl_modules.Made.{Made}
 use Rattle.spl_unit_laws.specs.spl_module_code.Modules.{numbered}
 use Rattle.spl_unit_laws.specs.spl_body_scopes.Levels.{Level, unit_level}
-use Rattle.spl_unit_laws.specs.spl_gen_routines.Routines.{room_at}
+use Rattle.spl_unit_laws.specs.spl_routine_code.Routines.{room_at}
 use Rattle.spl_unit_laws.specs.spl_unit_codes.declared.growing.Growing.{Growing}
 use Rattle.spl_unit_laws.specs.spl_unit_codes.Begun.{AreBegun}
 use Rattle.spl_unit_laws.specs.spl_unit_codes.Slots.{AreSlots, PickedFrom}

@@ -11,10 +11,10 @@ ghost use Rattle.spl_unit_laws.specs.spl_sorts.Tables.{table_of};
 ghost use Rattle.spl_sound.specs.Spelled.{source_of};
 ghost use Rattle.spl_unit_laws.specs.spl_places.NameMaps.{entries_of};
 ghost use Rattle.spl_unit_laws.specs.spl_body_scopes.Levels.{level_of};
-ghost use Rattle.spl_unit_laws.specs.spl_gen_routines.Generates.{AreOpen};
-ghost use Rattle.spl_unit_laws.specs.spl_gen_routines.Routines as r;
-ghost use Rattle.spl_unit_laws.specs.spl_gen_routines.Routines.{OnceAmong, InnerStands, RoutineStands};
-ghost use Rattle.spl_unit_laws.specs.spl_gen_routines.Views.{around_of, routine_around};
+ghost use Rattle.spl_unit_laws.specs.spl_routine_code.Generates.{AreOpen};
+ghost use Rattle.spl_unit_laws.specs.spl_routine_code.Routines as r;
+ghost use Rattle.spl_unit_laws.specs.spl_routine_code.Routines.{OnceAmong, InnerStands, RoutineStands};
+ghost use Rattle.spl_gen_routines.specs.Views.{around_of, routine_around};
 ghost use Rattle.spl_gen_proc.specs.Views.{fixed_of};
 ghost use Rattle.spl_unit_laws.specs.Steps.{Grows, RoutineGrows, InnerGrows, cursor_behind, cursor_inner, IsFree, AreFree, OnceInUnit, OnceInAll, PartsStep, Steps};
 
@@ -22,9 +22,9 @@ use crate::fixed::Fixed;
 use spl_layout::spl_rooms::Room;
 use spl_tree::{Body, Decl, Heading, Stmt};
 use spl_unit_laws::Cursor;
-use spl_unit_laws::spl_body_scopes::{Level, declare, routine_level};
-use spl_unit_laws::spl_gen_expr::Entries;
-use spl_unit_laws::spl_gen_routines::{
+use spl_gen_routines::spl_body_scopes::{Level, declare, routine_level};
+use spl_gen_routines::spl_gen_expr::Entries;
+use spl_gen_routines::{
     Around, Declared, inner_count, listed_items, room_at, routine, subroutine,
 };
 use spl_unit_laws::spl_places::{NameMap, Part, total};

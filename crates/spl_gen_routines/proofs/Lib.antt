@@ -1,9 +1,1 @@
-pub mod SetMarks
-pub mod WholeBodies
-pub mod OpenMarks
-pub mod InnerWalks
 pub mod SeenScopes
-pub mod RoutineSteps
--- Passed on from the crates below.
-pub use Rattle.spl_statement_scopes.proofs.spl_body_scopes_proofs
-pub use Rattle.spl_gen_body.proofs.spl_found_proofs

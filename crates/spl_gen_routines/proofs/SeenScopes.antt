@@ -19,13 +19,13 @@ use Rattle.spl_branch.specs.declared.buffer.Code.{Code}
 use Rattle.spl_gen_body.specs.spl_code.Calls.{Scope}
 use Rattle.spl_statement_scopes.specs.spl_body_scopes.Levels.{Level}
 use Rattle.spl_statement_scopes.specs.Scopes.{StatesInner, StatesMainInner}
-use Rattle.spl_landings.specs.Bodies.{statements_part}
+use Rattle.spl_routine_code.specs.Bodies.{statements_part}
 use Rattle.spl_gen_body.specs.declared.bodies.Procedure.{Procedure}
 use Rattle.spl_gen_body.specs.Procedures.{frame_for}
 use Rattle.spl_gen_body.proofs.FrameLaws.{frame_is}
-use Rattle.spl_gen_routines.specs.Generates.{Generates}
-use Rattle.spl_gen_routines.specs.Scoped.{subroutine_with}
-use Rattle.spl_gen_routines.specs.Routines.{Around, inner_first, InnerStands, FrameFits}
+use Rattle.spl_routine_code.specs.Generates.{Generates}
+use Rattle.spl_routine_code.specs.Scoped.{subroutine_with}
+use Rattle.spl_routine_code.specs.Routines.{Around, inner_first, InnerStands, FrameFits}
 
 -- a subroutine stands where its first level is that of its parameters with both results
 pub inner_stands : (a : Around) (h : Heading) (s : Statement) (depth entry : ℕ) (c d : Code) (first : Level) (scope : Scope) → first ≡ inner_first a h

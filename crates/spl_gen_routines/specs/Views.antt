@@ -5,7 +5,7 @@ use Rattle.spl_statement_scopes.specs.spl_body_scopes.Results.{result_of, routin
 use Rattle.spl_statement_scopes.specs.spl_body_scopes.Found.{calls_in}
 use Rattle.spl_gen_routines.specs.declared.inners.Around as code
 use Rattle.spl_gen_routines.specs.declared.routines.Declared.{Declared}
-use Rattle.spl_gen_routines.specs.Routines.{Around}
+use Rattle.spl_routine_code.specs.Routines.{Around}
 
 abbrev pub around_of : code.Around → Around
 around_of a = record { own = level_of a.own.now; outer = level_of a.outer.now; result = result_of a.result.now; calls = calls_in a.entries }

@@ -10,10 +10,11 @@ ghost use Rattle.spl_branch.specs.Pieces.{is_settable};
 ghost use Rattle.spl_branch.specs.declared.pieces.Piece.TheVariants as p;
 ghost use Rattle.spl_gen_body.specs.spl_gen_expr.Scopes.{scope_of};
 ghost use Rattle.spl_gen_body.specs.Procedures.{frame_for};
-ghost use Rattle.spl_landings.specs.Bodies.{statements_part};
-ghost use Rattle.spl_gen_routines.specs.Generates.{Generates};
-ghost use Rattle.spl_gen_routines.specs.Scoped.{procedure_with, subroutine_with, main_with};
+ghost use Rattle.spl_routine_code.specs.Bodies.{statements_part};
+ghost use Rattle.spl_routine_code.specs.Generates.{Generates};
+ghost use Rattle.spl_routine_code.specs.Scoped.{procedure_with, subroutine_with, main_with};
 
+use crate::statements::body_statements;
 use spl_branch::Code;
 use spl_gen_body::spl_gen_expr::Scope;
 use spl_gen_body::spl_rooms::Room;
@@ -21,7 +22,6 @@ use spl_gen_body::{
     Procedure, enter_main, enter_procedure, enter_subroutine, leave_main, leave_procedure,
     leave_subroutine,
 };
-use spl_landings::body_statements;
 use spl_tree::{Heading, Stmt};
 use std::alloc::{AllocError, Global};
 

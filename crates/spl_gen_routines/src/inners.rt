@@ -7,9 +7,9 @@ ghost use Rattle.spl_tree.specs.Views as view;
 ghost use Rattle.spl_sorts.specs.spl_meaning.StatementRules.{label_faults};
 ghost use Rattle.spl_branch.specs.Pieces.{is_settable};
 ghost use Rattle.spl_branch.specs.declared.pieces.Piece.TheVariants as p;
-ghost use Rattle.spl_gen_routines.specs.Generates.{AreOpen};
-ghost use Rattle.spl_gen_routines.specs.Routines as r;
-ghost use Rattle.spl_gen_routines.specs.Routines.{OnceIn, OnceAmong, inners_among, InnerStands, InnerStep, InnersStand};
+ghost use Rattle.spl_routine_code.specs.Generates.{AreOpen};
+ghost use Rattle.spl_routine_code.specs.Routines as r;
+ghost use Rattle.spl_routine_code.specs.Routines.{OnceIn, OnceAmong, inners_among, InnerStands, InnerStep, InnersStand};
 ghost use Rattle.spl_gen_routines.specs.Views.{around_of};
 
 use crate::bodies::subroutine_code;

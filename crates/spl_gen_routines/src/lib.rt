@@ -5,6 +5,7 @@ mod bodies;
 mod inners;
 mod rooms;
 mod routines;
+mod statements;
 
 pub use inners::{Around, inner_count, subroutine};
 pub use rooms::room_at;

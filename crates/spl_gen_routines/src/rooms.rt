@@ -1,6 +1,6 @@
 //! Rooms by number.
 ghost use Rattle.std.specs.Prelude.{◌≡◌};
-ghost use Rattle.spl_gen_routines.specs.Routines as r;
+ghost use Rattle.spl_routine_code.specs.Routines as r;
 
 use spl_gen_body::spl_rooms::Room;
 use spl_tree::At;

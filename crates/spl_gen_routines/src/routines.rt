@@ -14,8 +14,8 @@ ghost use Rattle.spl_branch.specs.declared.pieces.Piece.TheVariants as p;
 ghost use Rattle.spl_statement_scopes.specs.spl_body_scopes.Levels.{level_of};
 ghost use Rattle.spl_statement_scopes.specs.spl_body_scopes.Results.{routine_result};
 ghost use Rattle.spl_statement_scopes.specs.spl_body_scopes.Found.{calls_in};
-ghost use Rattle.spl_gen_routines.specs.Generates.{AreOpen};
-ghost use Rattle.spl_gen_routines.specs.Routines.{OnceAmong, inners_among, ProcedureStands, RoutineStands, MainBodyStands};
+ghost use Rattle.spl_routine_code.specs.Generates.{AreOpen};
+ghost use Rattle.spl_routine_code.specs.Routines.{OnceAmong, inners_among, ProcedureStands, RoutineStands, MainBodyStands};
 ghost use Rattle.spl_gen_routines.specs.Views.{around_of, routine_around};
 
 use crate::bodies::{main_code, procedure_code};

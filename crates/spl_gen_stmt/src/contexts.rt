@@ -1,14 +1,7 @@
 //! What the code of the statements of a body is made with.
 use spl_gen_expr::Scope;
+use spl_landings::Landing;
 use spl_operations::spl_spots::NameMap;
-
-/// Where a label leads.
-#[derive(Clone, Copy, Debug, PartialEq, Eq, Drop)]
-pub struct Landing {
-    pub mark: usize,
-    /// The words that wait in the list that bears the label.
-    pub pending: u16,
-}
 
 /// The scope of a body, its labels, and the mark of its way out.
 #[derive(Clone, Copy, Debug)]

@@ -10,10 +10,11 @@ ghost use Rattle.spl_statement_code.specs.Labels.{AppendsSetting, CanBeSet, mark
 ghost use Rattle.spl_statement_code.specs.FewWords.{nested_loops, nested_among};
 ghost use Rattle.spl_gen_stmt.specs.Contexts.{context_by};
 
-use crate::contexts::{Context, Landing};
+use crate::contexts::Context;
 use crate::statements::{listed, statement};
 use spl_branch::Code;
 use spl_gen_expr::Scope;
+use spl_landings::Landing;
 use spl_operations::spl_spots::NameMap;
 use spl_tree::Stmt;
 use std::alloc::AllocError;

@@ -6,7 +6,8 @@ ghost use Rattle.spl_statement_code.specs.spl_code.Appends.{Appends};
 ghost use Rattle.spl_statement_code.specs.Landings as landings;
 ghost use Rattle.spl_statement_code.specs.Landings.{IsMade};
 ghost use Rattle.spl_statement_code.specs.Labels.{AppendsSetting, CanBeSet, mark_of};
-ghost use Rattle.spl_gen_stmt.specs.Contexts.{context_of, landings_of};
+ghost use Rattle.spl_gen_stmt.specs.Contexts.{context_of};
+ghost use Rattle.spl_landings.specs.Landings.{landings_of};
 
 use crate::contexts::Context;
 use crate::puts::subtract_words;

@@ -12,7 +12,6 @@ mod puts;
 mod statements;
 mod stores;
 
-pub use contexts::Landing;
 pub use generator::{gen_statement, gen_statements};
 pub use spl_gen_expr;
 pub use spl_operations::spl_spots;

@@ -4,8 +4,8 @@ use Rattle.std.proofs.lemmas.List.{append-nil}
 use Rattle.spl_tree.specs.declared.statements.Stmt.{Stmt}
 use Rattle.spl_tree.specs.Views as view
 use Rattle.spl_tree.specs.StatementTrees.{statements}
-use Rattle.spl_label_marks.specs.spl_module_code.LabelsOfBodies.{Label, labels_in, labels_among}
-use Rattle.spl_gen_stmt.proofs.spl_spots_proofs.ListWalks.{onward, onward_end}
+use Rattle.spl_module_code.specs.LabelsOfBodies.{Label, labels_in, labels_among}
+use Rattle.spl_spots.proofs.ListWalks.{onward, onward_end}
 
 pub label_step : (k : ℕ) (list : List Stmt) (i : ℕ) (s : Stmt) (xs : List Label) → i < length list → s ≡ get_or list i s
     → xs ++ labels_among (statements (map view.statement (drop i list))) k

@@ -1,21 +1,21 @@
 -- A loop over labels: their marks, and where they lead.
 use Rattle.std.proofs.Common.{◌≡◌, ◌<◌, ◌≤◌, ℕ, suc, ◌+◌, false, Bool, List, [], ◌∷◌, ◌++◌, map, drop, length, get_or, replicate, Option, append_assoc, append-nil, refl, sym, ap, subst, ◌∙◌}
 use Rattle.spl_tree.specs.Views.{letters}
-use Rattle.spl_gen_stmt.specs.spl_meaning.Names.{find}
-use Rattle.spl_gen_stmt.specs.spl_found.OwnNames.{with_name}
+use Rattle.spl_module_code.specs.spl_meaning.Names.{find}
+use Rattle.spl_module_code.specs.spl_found.OwnNames.{with_name}
 use Rattle.spl_branch.specs.declared.buffer.Code.{Code}
 use Rattle.spl_branch.specs.Codes.{SameFrame}
-use Rattle.spl_label_marks.specs.spl_places.spl_spots.declared.name_maps.NameMap.{NameMap}
-use Rattle.spl_label_marks.specs.spl_places.NameMaps.{entries_of, shown, behind_table}
-use Rattle.spl_gen_stmt.proofs.spl_spots_proofs.NameMapLemmas.{shown_added, behind_more, behind_none, behind_empty}
-use Rattle.spl_label_marks.specs.spl_statement_code.Landings as there
-use Rattle.spl_gen_stmt.specs.declared.contexts.Landing.{Landing}
-use Rattle.spl_gen_stmt.specs.Contexts.{landing_of, landings_of}
-use Rattle.spl_label_marks.specs.spl_module_code.LabelsOfBodies.{landed_from}
-use Rattle.spl_label_marks.specs.spl_module_code.LabelsOfBodies as code
+use Rattle.spl_spots.specs.declared.name_maps.NameMap.{NameMap}
+use Rattle.spl_spots.specs.NameMaps.{entries_of, shown, behind_table}
+use Rattle.spl_spots.proofs.NameMapLemmas.{shown_added, behind_more, behind_none, behind_empty}
+use Rattle.spl_module_code.specs.spl_statement_code.Landings as there
+use Rattle.spl_landings.specs.declared.label_marks.Landing.{Landing}
+use Rattle.spl_landings.specs.Landings.{landing_of, landings_of}
+use Rattle.spl_module_code.specs.LabelsOfBodies.{landed_from}
+use Rattle.spl_module_code.specs.LabelsOfBodies as code
 use Rattle.spl_landings.specs.declared.label_lists.Label.{Label}
 use Rattle.spl_landings.specs.Labels.{label_of}
-use Rattle.spl_gen_stmt.proofs.spl_spots_proofs.ListWalks.{onward, onward_end}
+use Rattle.spl_spots.proofs.ListWalks.{onward, onward_end}
 
 -- a code with marks for some labels, where others are left
 pub record Landed (from now : Code) (m : NameMap Landing) (left all : List code.Label) : Type 0 where

@@ -1,4 +1,2 @@
-mod KnownBodies
-pub mod BodyMarks
 pub mod LabelWalks
 pub mod LandingWalks

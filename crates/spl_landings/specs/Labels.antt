@@ -1,6 +1,6 @@
 -- Labels as the definitions have them.
 use Rattle.spl_tree.specs.Views.{letters}
-use Rattle.spl_label_marks.specs.spl_module_code.LabelsOfBodies as code
+use Rattle.spl_module_code.specs.LabelsOfBodies as code
 use Rattle.spl_landings.specs.declared.label_lists.Label.{Label}
 
 -- a label

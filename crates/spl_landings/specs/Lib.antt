@@ -1,2 +1,4 @@
 pub mod Labels
-pub mod Bodies
+pub mod Landings
+-- Passed on from the crates below.
+pub use Rattle.spl_module_code.specs as spl_module_code

@@ -2,10 +2,10 @@
 ghost use Rattle.std.specs.Prelude.{◌≡◌, ◌++◌, OnOk, IfOk, map};
 ghost use Rattle.spl_tree.specs.Views as view;
 ghost use Rattle.spl_tree.specs.StatementTrees as trees;
-ghost use Rattle.spl_label_marks.specs.spl_module_code.LabelsOfBodies.{labels_in, labels_among};
+ghost use Rattle.spl_module_code.specs.LabelsOfBodies.{labels_in, labels_among};
 ghost use Rattle.spl_landings.specs.Labels.{label_of};
 
-use spl_gen_stmt::spl_spots::plus;
+use spl_spots::plus;
 use spl_tree::{Name, Stmt};
 use std::alloc::{AllocError, Global};
 

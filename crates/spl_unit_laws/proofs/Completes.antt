@@ -3,12 +3,12 @@ use Rattle.std.specs.Prelude.{List, length}
 use Rattle.spl_sound_labels.specs.spl_tree.DeclarationTrees as decl
 use Rattle.spl_sound_labels.specs.spl_tree.DeclarationTrees.{declarations}
 use Rattle.spl_sound_labels.specs.spl_meaning.Tables.{Source}
-use Rattle.spl_gen_routines.specs.spl_rooms.declared.room_type.Room.{Room}
-use Rattle.spl_gen_routines.specs.spl_scopes.Scopes.{Placed}
+use Rattle.spl_routine_code.specs.spl_rooms.declared.room_type.Room.{Room}
+use Rattle.spl_routine_code.specs.spl_scopes.Scopes.{Placed}
 use Rattle.spl_unit_codes.specs.spl_modules.Entered.{Walk}
 use Rattle.spl_unit_codes.specs.spl_modules.UnitModules.{IsUnitModules}
-use Rattle.spl_gen_routines.specs.spl_body_scopes.Levels.{unit_level}
-use Rattle.spl_gen_routines.specs.Routines.{room_at}
+use Rattle.spl_routine_code.specs.spl_body_scopes.Levels.{unit_level}
+use Rattle.spl_routine_code.specs.Routines.{room_at}
 use Rattle.spl_unit_codes.specs.declared.growing.Growing.{Growing}
 use Rattle.spl_unit_codes.specs.Begun.{AreBegun}
 use Rattle.spl_unit_codes.specs.Slots.{AreComplete}

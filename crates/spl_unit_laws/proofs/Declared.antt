@@ -9,27 +9,27 @@ use Rattle.spl_sound_labels.specs.spl_tree.StatementTrees as stat
 use Rattle.spl_sound_labels.specs.spl_meaning.Names.{Names, find, nothing_declared}
 use Rattle.spl_sound_labels.specs.spl_meaning.Tables.{Routine, Subroutine, routines_of, routine_subroutines, subroutines_among, unit_subroutines}
 use Rattle.spl_sound_labels.specs.spl_meaning.Bodies.{Body, Named, main_body, subroutine_body}
-use Rattle.spl_gen_routines.specs.spl_found.OwnNames.{behind_declarations}
+use Rattle.spl_routine_code.specs.spl_found.OwnNames.{behind_declarations}
 use Rattle.spl_sound_labels.specs.spl_places.Programs.{Each}
-use Rattle.spl_gen_routines.specs.spl_rooms.declared.room_type.Room.{Room}
-use Rattle.spl_gen_routines.specs.spl_rooms.Rooms.{routine_room}
-use Rattle.spl_gen_routines.specs.spl_branch.declared.buffer.Code.{Code}
-use Rattle.spl_gen_routines.specs.spl_code.Calls.{Scope}
-use Rattle.spl_gen_routines.specs.spl_body_code.Bodies.{Frame, frame_of}
-use Rattle.spl_gen_routines.specs.spl_scopes.Entries.{main, routine, module_entries, subroutine_index, procedure_index}
-use Rattle.spl_gen_routines.specs.spl_scopes.Scopes.{Placed, outer, inner, segment_of, outer_body, global_places, body_in, inner_body}
+use Rattle.spl_routine_code.specs.spl_rooms.declared.room_type.Room.{Room}
+use Rattle.spl_routine_code.specs.spl_rooms.Rooms.{routine_room}
+use Rattle.spl_routine_code.specs.spl_branch.declared.buffer.Code.{Code}
+use Rattle.spl_routine_code.specs.spl_code.Calls.{Scope}
+use Rattle.spl_routine_code.specs.spl_body_code.Bodies.{Frame, frame_of}
+use Rattle.spl_routine_code.specs.spl_scopes.Entries.{main, routine, module_entries, subroutine_index, procedure_index}
+use Rattle.spl_routine_code.specs.spl_scopes.Scopes.{Placed, outer, inner, segment_of, outer_body, global_places, body_in, inner_body}
 use Rattle.spl_unit_codes.specs.spl_modules.Entered.{Walk, Indexes}
 use Rattle.spl_unit_codes.specs.spl_modules.UnitModules.{IsUnitModules}
-use Rattle.spl_gen_routines.specs.spl_body_scopes.Levels.{Level, unit_level}
-use Rattle.spl_gen_routines.specs.spl_body_scopes.Walks.{State, Left, behind, globals_in, inner_headings}
-use Rattle.spl_gen_routines.specs.spl_body_scopes.Found.{Calls, calls_of}
-use Rattle.spl_gen_routines.proofs.spl_body_scopes_proofs.ScopeLaws.{made, routine_next, body_next, body_left, all_headings, body_names, main_there}
-use Rattle.spl_gen_routines.specs.spl_body_scopes.Results.{result_of, results_through}
-use Rattle.spl_gen_routines.specs.spl_statement_scopes.Levels.{no_names, with_results}
-use Rattle.spl_gen_routines.specs.spl_statement_scopes.Scopes.{statements_in, StatesMain}
+use Rattle.spl_routine_code.specs.spl_body_scopes.Levels.{Level, unit_level}
+use Rattle.spl_routine_code.specs.spl_body_scopes.Walks.{State, Left, behind, globals_in, inner_headings}
+use Rattle.spl_routine_code.specs.spl_body_scopes.Found.{Calls, calls_of}
+use Rattle.spl_routine_code.proofs.spl_body_scopes_proofs.ScopeLaws.{made, routine_next, body_next, body_left, all_headings, body_names, main_there}
+use Rattle.spl_routine_code.specs.spl_body_scopes.Results.{result_of, results_through}
+use Rattle.spl_routine_code.specs.spl_statement_scopes.Levels.{no_names, with_results}
+use Rattle.spl_routine_code.specs.spl_statement_scopes.Scopes.{statements_in, StatesMain}
 use Rattle.spl_unit_codes.specs.spl_module_code.Bodies.{statements_scope, routine_part}
-use Rattle.spl_gen_routines.specs.Generates.{GeneratesFrom}
-use Rattle.spl_gen_routines.specs.Routines.{Around, inners_among, room_at, FrameFits, RoutineStands}
+use Rattle.spl_routine_code.specs.Generates.{GeneratesFrom}
+use Rattle.spl_routine_code.specs.Routines.{Around, inners_among, room_at, FrameFits, RoutineStands}
 use Rattle.spl_unit_laws.specs.Known.{Fixed, main_around}
 use Rattle.spl_unit_laws.specs.Steps.{routine_around}
 use Rattle.spl_unit_laws.specs.Units.{fixed_for, whole_level}

@@ -9,18 +9,18 @@ use Rattle.spl_sound_labels.specs.spl_meaning.Pending.{formals_words}
 use Rattle.spl_sound_labels.specs.spl_meaning.Tables.{Subroutine, subroutines_among}
 use Rattle.spl_sound_labels.specs.spl_meaning.Bodies.{Body, subroutine_body}
 use Rattle.spl_sound_labels.specs.spl_places.Programs.{Each}
-use Rattle.spl_gen_routines.specs.spl_rooms.declared.room_type.Room.{Room}
-use Rattle.spl_gen_routines.specs.spl_branch.declared.buffer.Code.{Code}
-use Rattle.spl_gen_routines.specs.spl_code.Calls.{Scope}
-use Rattle.spl_gen_routines.specs.spl_scopes.Entries.{Owner, Entry}
-use Rattle.spl_gen_routines.specs.spl_statement_scopes.Scopes.{StatesInner, StatesMainInner}
-use Rattle.spl_gen_routines.specs.spl_landings.Bodies.{statements_part}
+use Rattle.spl_routine_code.specs.spl_rooms.declared.room_type.Room.{Room}
+use Rattle.spl_routine_code.specs.spl_branch.declared.buffer.Code.{Code}
+use Rattle.spl_routine_code.specs.spl_code.Calls.{Scope}
+use Rattle.spl_routine_code.specs.spl_scopes.Entries.{Owner, Entry}
+use Rattle.spl_routine_code.specs.spl_statement_scopes.Scopes.{StatesInner, StatesMainInner}
+use Rattle.spl_routine_code.specs.Bodies.{statements_part}
 use Rattle.spl_unit_codes.specs.spl_module_code.Bodies.{statements_scope, subroutine_part, subroutine_parts}
-use Rattle.spl_gen_routines.specs.Generates.{Generates, GeneratesFrom}
-use Rattle.spl_gen_routines.specs.Scoped.{subroutine_with}
-use Rattle.spl_gen_routines.specs.Routines.{Around, inner_count, inners_among, room_at, inner_first, InnerStands, InnerStep, InnersStand}
-use Rattle.spl_gen_routines.specs.Routines.{InnersStand as s}
-use Rattle.spl_gen_routines.proofs.OpenMarks.{one_generated, none_generated, then_generated}
+use Rattle.spl_routine_code.specs.Generates.{Generates, GeneratesFrom}
+use Rattle.spl_routine_code.specs.Scoped.{subroutine_with}
+use Rattle.spl_routine_code.specs.Routines.{Around, inner_count, inners_among, room_at, inner_first, InnerStands, InnerStep, InnersStand}
+use Rattle.spl_routine_code.specs.Routines.{InnersStand as s}
+use Rattle.spl_routine_code.proofs.OpenMarks.{one_generated, none_generated, then_generated}
 
 -- the scope that a subroutine's statement sees through the levels around it is that of its body
 abbrev pub Seen : List Entry → Owner → Body → Around → Subroutine → Type 0

@@ -8,18 +8,18 @@ use Rattle.spl_sound_labels.specs.spl_meaning.Names.{Names, Sort, Table, find, n
 use Rattle.spl_sound_labels.specs.spl_meaning.Tables.{Source, Routine, routines_of, routines_among, routine_table, with_declaration}
 use Rattle.spl_sound_labels.specs.spl_meaning.Places.{item_words, list_words, list_array_words}
 use Rattle.spl_sound_labels.specs.spl_meaning.Bodies.{reached_behind, own_table, all_routines, named_bodies, procedure_body}
-use Rattle.spl_gen_routines.specs.spl_found.OwnNames.{behind_declaration}
-use Rattle.spl_gen_routines.proofs.spl_found_proofs.OwnNames.{find_declaration}
+use Rattle.spl_routine_code.specs.spl_found.OwnNames.{behind_declaration}
+use Rattle.spl_routine_code.proofs.spl_found_proofs.OwnNames.{find_declaration}
 use Rattle.spl_sound_labels.specs.spl_places.ListedData.{Datum}
 use Rattle.spl_sound_labels.specs.spl_places.Counters.{total_words}
 use Rattle.spl_sound_labels.specs.spl_places.Programs.{Each, NewInUnit, NewInRoutine, routine_items, unit_items}
 use Rattle.spl_sound_labels.proofs.spl_places_proofs.ProgramLaws.{unit_held, routine_held, item_words_held}
-use Rattle.spl_gen_routines.specs.spl_areas.Gathered.{items_under, items_in}
-use Rattle.spl_gen_routines.specs.spl_scopes.Entries.{routines_behind}
-use Rattle.spl_gen_routines.specs.spl_scopes.Scopes.{Placed, first_reached, placed_units, global_places, routine_bodies}
-use Rattle.spl_gen_routines.specs.spl_body_scopes.Walks.{State, behind, routines_own, Left, first_state}
-use Rattle.spl_gen_routines.specs.spl_body_scopes.Units.{UnitsLeft}
-use Rattle.spl_gen_routines.proofs.spl_body_scopes_proofs.ScopeLaws.{drop_more, each_second, made}
+use Rattle.spl_routine_code.specs.spl_areas.Gathered.{items_under, items_in}
+use Rattle.spl_routine_code.specs.spl_scopes.Entries.{routines_behind}
+use Rattle.spl_routine_code.specs.spl_scopes.Scopes.{Placed, first_reached, placed_units, global_places, routine_bodies}
+use Rattle.spl_routine_code.specs.spl_body_scopes.Walks.{State, behind, routines_own, Left, first_state}
+use Rattle.spl_routine_code.specs.spl_body_scopes.Units.{UnitsLeft}
+use Rattle.spl_routine_code.proofs.spl_body_scopes_proofs.ScopeLaws.{drop_more, each_second, made}
 
 -- the names behind a declaration
 pub names_behind : (names : Names) (t : Table Sort) (d : Declaration) → names ≡ find t

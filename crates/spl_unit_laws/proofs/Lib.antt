@@ -14,6 +14,6 @@ pub mod Completes
 pub mod OnceLaws
 pub mod Modules
 -- Passed on from the crates below.
-pub use Rattle.spl_gen_routines.proofs as spl_gen_routines_proofs
+pub use Rattle.spl_routine_code.proofs as spl_routine_code_proofs
 pub use Rattle.spl_sound_labels.proofs.spl_lists_proofs
 pub use Rattle.spl_sound_labels.proofs.spl_places_proofs

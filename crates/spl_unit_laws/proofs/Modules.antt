@@ -3,9 +3,9 @@ use Rattle.std.proofs.Common.{◌≡◌, List, refl, subst}
 use Rattle.spl_sound_labels.specs.spl_meaning.Tables.{Source}
 use Rattle.spl_sound_labels.specs.spl_meaning.Sound.{IsSound}
 use Rattle.spl_sound_labels.proofs.spl_places_proofs.SoundLaws.{sound_new}
-use Rattle.spl_gen_routines.specs.spl_rooms.declared.room_type.Room.{Room}
-use Rattle.spl_gen_routines.specs.spl_rooms.Rooms.{rooms_of}
-use Rattle.spl_gen_routines.specs.spl_scopes.Scopes.{placed_units, first_reached}
+use Rattle.spl_routine_code.specs.spl_rooms.declared.room_type.Room.{Room}
+use Rattle.spl_routine_code.specs.spl_rooms.Rooms.{rooms_of}
+use Rattle.spl_routine_code.specs.spl_scopes.Scopes.{placed_units, first_reached}
 use Rattle.spl_unit_codes.specs.spl_module_code.Modules.{AreOf}
 use Rattle.spl_sound_labels.proofs.LabelLaws.{sound_labels}
 use Rattle.spl_sound_labels.proofs.InnerLaws.{sound_none}

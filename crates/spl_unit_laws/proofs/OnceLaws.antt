@@ -7,9 +7,9 @@ use Rattle.spl_sound_labels.specs.spl_meaning.Names.{Sort, Table, nothing_declar
 use Rattle.spl_sound_labels.specs.spl_meaning.Tables.{Source, routine_in, routines_among, routines_of, subroutine_in, subroutines_among, with_declaration}
 use Rattle.spl_sound_labels.specs.spl_meaning.Bodies.{all_routines}
 use Rattle.spl_sound_labels.specs.spl_places.Programs.{Each}
-use Rattle.spl_gen_routines.proofs.spl_body_scopes_proofs.ScopeLaws.{each_second}
+use Rattle.spl_routine_code.proofs.spl_body_scopes_proofs.ScopeLaws.{each_second}
 use Rattle.spl_sound_labels.specs.Labels.{LabelsOnceInSubroutine, LabelsOnceInRoutine, LabelsOnceInAll}
-use Rattle.spl_gen_routines.specs.Routines.{OnceIn, OnceAmong}
+use Rattle.spl_routine_code.specs.Routines.{OnceIn, OnceAmong}
 use Rattle.spl_unit_laws.specs.Steps.{OnceInUnit, OnceInAll}
 use Rattle.spl_unit_laws.specs.Units.{OnceInBodies}
 

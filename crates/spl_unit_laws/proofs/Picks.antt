@@ -5,9 +5,9 @@ use Rattle.std.proofs.lemmas.Bool.{and_parts, eqb-true, eqb-false, ne_eqb}
 use Rattle.std.proofs.lemmas.Option.{slice_get_within, slice_get-get_or}
 use Rattle.std.proofs.lemmas.List.{length-set}
 use Rattle.spl_sound_labels.specs.spl_meaning.Names.{find, same_name}
-use Rattle.spl_gen_routines.specs.spl_branch.declared.buffer.Code.{Code}
-use Rattle.spl_gen_routines.specs.spl_branch.declared.modules.Module.{Module}
-use Rattle.spl_gen_routines.specs.spl_scopes.Scopes.{Placed}
+use Rattle.spl_routine_code.specs.spl_branch.declared.buffer.Code.{Code}
+use Rattle.spl_routine_code.specs.spl_branch.declared.modules.Module.{Module}
+use Rattle.spl_routine_code.specs.spl_scopes.Scopes.{Placed}
 use Rattle.spl_unit_codes.specs.spl_module_code.Modules.{uses, is_taken, next_number, numbered, IsCodeOf, IsModuleOf, AreOfUnit}
 use Rattle.spl_unit_codes.specs.spl_module_code.Modules.{AreOfUnit as o}
 use Rattle.spl_unit_codes.specs.declared.growing.Growing.{Growing}

@@ -5,16 +5,16 @@ use Rattle.std.specs.Prelude.{Some}
 use Rattle.spl_sound_labels.specs.spl_tree.Views.{letters}
 use Rattle.spl_sound_labels.specs.spl_tree.DeclarationTrees as decl
 use Rattle.spl_sound_labels.specs.spl_tree.DeclarationTrees.{Declaration, Declarations, declarations}
-use Rattle.spl_gen_routines.specs.spl_branch.declared.buffer.Code.{Code}
-use Rattle.spl_gen_routines.specs.spl_branch.Codes.{SameFrame}
-use Rattle.spl_gen_routines.specs.spl_code.Parts.{Part, Written, nothing, ◌⨟◌}
-use Rattle.spl_gen_routines.specs.spl_code.Appends.{behind}
-use Rattle.spl_gen_routines.specs.spl_scopes.Entries.{Entry, main, module_entries, in_segment, declared_entries, entries_among, routines_behind}
-use Rattle.spl_gen_routines.specs.spl_scopes.Scopes.{Placed, outer_body}
+use Rattle.spl_routine_code.specs.spl_branch.declared.buffer.Code.{Code}
+use Rattle.spl_routine_code.specs.spl_branch.Codes.{SameFrame}
+use Rattle.spl_routine_code.specs.spl_code.Parts.{Part, Written, nothing, ◌⨟◌}
+use Rattle.spl_routine_code.specs.spl_code.Appends.{behind}
+use Rattle.spl_routine_code.specs.spl_scopes.Entries.{Entry, main, module_entries, in_segment, declared_entries, entries_among, routines_behind}
+use Rattle.spl_routine_code.specs.spl_scopes.Scopes.{Placed, outer_body}
 use Rattle.spl_unit_codes.specs.spl_modules.Made.{made_of, made_from}
 use Rattle.spl_unit_codes.specs.spl_module_code.Modules.{declared_part, declared_parts, entries_behind, inner_behind, holds_main, main_at, module_part, module_written, marks_before, main_mark}
-use Rattle.spl_gen_routines.specs.Generates.{GeneratesFrom}
-use Rattle.spl_gen_routines.proofs.OpenMarks.{next_written}
+use Rattle.spl_routine_code.specs.Generates.{GeneratesFrom}
+use Rattle.spl_routine_code.proofs.OpenMarks.{next_written}
 use Rattle.spl_unit_codes.specs.declared.growing.Growing.{Growing}
 use Rattle.spl_unit_laws.proofs.Sequences.{nothing_first, assoc}
 

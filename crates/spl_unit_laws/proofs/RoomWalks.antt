@@ -10,11 +10,11 @@ use Rattle.spl_sound_labels.specs.spl_meaning.Names.{Sort, Table, find, nothing_
 use Rattle.spl_sound_labels.specs.spl_meaning.Tables.{Source, Routine, Subroutine, routine_in, routines_among, routines_of, routine_names, routine_subroutines, subroutine_in, subroutines_among, unit_subroutines, unit_table, with_declaration}
 use Rattle.spl_sound_labels.specs.spl_meaning.Limits.{joined}
 use Rattle.spl_sound_labels.specs.spl_meaning.Bodies.{Body}
-use Rattle.spl_gen_routines.specs.spl_rooms.declared.room_type.Room.{Room}
-use Rattle.spl_gen_routines.specs.spl_rooms.Rooms.{room_within, routine_room, main_room, rooms_in}
-use Rattle.spl_gen_routines.specs.spl_rooms.Rooms as r
-use Rattle.spl_gen_routines.proofs.spl_body_scopes_proofs.ScopeLaws.{drop_more, first_at}
-use Rattle.spl_gen_routines.specs.Routines.{inner_count, inners_among, room_at}
+use Rattle.spl_routine_code.specs.spl_rooms.declared.room_type.Room.{Room}
+use Rattle.spl_routine_code.specs.spl_rooms.Rooms.{room_within, routine_room, main_room, rooms_in}
+use Rattle.spl_routine_code.specs.spl_rooms.Rooms as r
+use Rattle.spl_routine_code.proofs.spl_body_scopes_proofs.ScopeLaws.{drop_more, first_at}
+use Rattle.spl_routine_code.specs.Routines.{inner_count, inners_among, room_at}
 use Rattle.spl_unit_laws.specs.Units.{routine_rooms, rooms_among, main_rooms}
 use Rattle.spl_unit_laws.proofs.InnerParts.{AllRoomy}
 

@@ -7,22 +7,22 @@ use Rattle.spl_sound_labels.specs.spl_meaning.Pending.{formals_words}
 use Rattle.spl_sound_labels.specs.spl_meaning.Tables.{subroutines_among}
 use Rattle.spl_sound_labels.specs.spl_meaning.Bodies.{Body, Named}
 use Rattle.spl_sound_labels.specs.spl_places.Programs.{Each}
-use Rattle.spl_gen_routines.specs.spl_rooms.declared.room_type.Room.{Room}
-use Rattle.spl_gen_routines.specs.spl_branch.declared.buffer.Code.{Code}
-use Rattle.spl_gen_routines.specs.spl_code.Calls.{Scope}
-use Rattle.spl_gen_routines.specs.spl_body_code.Bodies.{Frame, frame_of, procedure_code}
-use Rattle.spl_gen_routines.specs.spl_scopes.Entries.{Owner, main, routine, Entry}
-use Rattle.spl_gen_routines.specs.spl_body_scopes.Levels.{Level}
-use Rattle.spl_gen_routines.specs.spl_body_scopes.Results.{result_of, results_through}
-use Rattle.spl_gen_routines.specs.spl_body_scopes.Found.{Calls}
-use Rattle.spl_gen_routines.specs.spl_statement_scopes.Levels.{no_names, with_results}
-use Rattle.spl_gen_routines.specs.spl_statement_scopes.Scopes.{StatesRoutine, StatesMain}
-use Rattle.spl_gen_routines.specs.spl_landings.Bodies.{statements_part}
+use Rattle.spl_routine_code.specs.spl_rooms.declared.room_type.Room.{Room}
+use Rattle.spl_routine_code.specs.spl_branch.declared.buffer.Code.{Code}
+use Rattle.spl_routine_code.specs.spl_code.Calls.{Scope}
+use Rattle.spl_routine_code.specs.spl_body_code.Bodies.{Frame, frame_of, procedure_code}
+use Rattle.spl_routine_code.specs.spl_scopes.Entries.{Owner, main, routine, Entry}
+use Rattle.spl_routine_code.specs.spl_body_scopes.Levels.{Level}
+use Rattle.spl_routine_code.specs.spl_body_scopes.Results.{result_of, results_through}
+use Rattle.spl_routine_code.specs.spl_body_scopes.Found.{Calls}
+use Rattle.spl_routine_code.specs.spl_statement_scopes.Levels.{no_names, with_results}
+use Rattle.spl_routine_code.specs.spl_statement_scopes.Scopes.{StatesRoutine, StatesMain}
+use Rattle.spl_routine_code.specs.Bodies.{statements_part}
 use Rattle.spl_unit_codes.specs.spl_module_code.Bodies.{statements_scope, body_statements, subroutine_parts, routine_part, main_part}
-use Rattle.spl_gen_routines.specs.Generates.{Generates, GeneratesFrom}
-use Rattle.spl_gen_routines.specs.Scoped.{procedure_with, main_with}
-use Rattle.spl_gen_routines.specs.Routines.{Around, inners_among, room_at, FrameFits, ProcedureStands, RoutineStands, MainBodyStands}
-use Rattle.spl_gen_routines.proofs.OpenMarks.{over_generated}
+use Rattle.spl_routine_code.specs.Generates.{Generates, GeneratesFrom}
+use Rattle.spl_routine_code.specs.Scoped.{procedure_with, main_with}
+use Rattle.spl_routine_code.specs.Routines.{Around, inners_among, room_at, FrameFits, ProcedureStands, RoutineStands, MainBodyStands}
+use Rattle.spl_routine_code.proofs.OpenMarks.{over_generated}
 use Rattle.spl_unit_laws.proofs.InnerParts.{Seen, AllRoomy, inners_made}
 
 -- the scope that a procedure's statements see through its levels is that of its body

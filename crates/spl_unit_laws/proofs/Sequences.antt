@@ -1,6 +1,6 @@
 -- Parts of code one behind the other, as one part.
 use Rattle.std.proofs.Common.{◌≡◌, ℕ, ◌+◌, ◌++◌, refl, ap, ◌∙◌, append_assoc, arith}
-use Rattle.spl_gen_routines.specs.spl_code.Parts.{Part, Written, nothing, ◌⨟◌}
+use Rattle.spl_routine_code.specs.spl_code.Parts.{Part, Written, nothing, ◌⨟◌}
 
 same_written : (a b : Written) → a.pieces ≡ b.pieces → a.marks ≡ b.marks → a.wants ≡ b.wants → a ≡ b
 same_written a b p m w i = record { pieces = p i; marks = m i; wants = w i }

@@ -8,23 +8,23 @@ use Rattle.std.proofs.lemmas.List.{length-map, length-replicate, replicate-appen
 use Rattle.spl_sound_labels.specs.spl_tree.DeclarationTrees as decl
 use Rattle.spl_sound_labels.specs.spl_tree.DeclarationTrees.{declarations}
 use Rattle.spl_sound_labels.specs.spl_meaning.Bodies.{Body, main_body}
-use Rattle.spl_gen_routines.specs.spl_rooms.declared.room_type.Room.{Room}
-use Rattle.spl_gen_routines.specs.spl_rooms.Rooms.{main_room}
-use Rattle.spl_gen_routines.specs.spl_branch.declared.buffer.Code.{Code}
-use Rattle.spl_gen_routines.specs.spl_code.Parts.{Part, Written, nothing, wants_of}
-use Rattle.spl_gen_routines.specs.spl_code.Appends as appended
-use Rattle.spl_gen_routines.specs.spl_scopes.Entries.{Entry, main, module_entries}
-use Rattle.spl_gen_routines.specs.spl_scopes.Scopes.{Placed, outer_body, global_places}
+use Rattle.spl_routine_code.specs.spl_rooms.declared.room_type.Room.{Room}
+use Rattle.spl_routine_code.specs.spl_rooms.Rooms.{main_room}
+use Rattle.spl_routine_code.specs.spl_branch.declared.buffer.Code.{Code}
+use Rattle.spl_routine_code.specs.spl_code.Parts.{Part, Written, nothing, wants_of}
+use Rattle.spl_routine_code.specs.spl_code.Appends as appended
+use Rattle.spl_routine_code.specs.spl_scopes.Entries.{Entry, main, module_entries}
+use Rattle.spl_routine_code.specs.spl_scopes.Scopes.{Placed, outer_body, global_places}
 use Rattle.spl_unit_codes.specs.spl_modules.Made.{made_of, made_from}
 use Rattle.spl_unit_codes.specs.spl_modules.Entered.{Walk}
 use Rattle.spl_unit_codes.specs.spl_modules.UnitModules.{IsUnitModules}
-use Rattle.spl_gen_routines.specs.spl_body_scopes.Walks.{State}
-use Rattle.spl_gen_routines.proofs.spl_body_scopes_proofs.ScopeLaws.{main_there}
+use Rattle.spl_routine_code.specs.spl_body_scopes.Walks.{State}
+use Rattle.spl_routine_code.proofs.spl_body_scopes_proofs.ScopeLaws.{main_there}
 use Rattle.spl_unit_codes.specs.spl_module_code.Bodies.{main_part}
 use Rattle.spl_unit_codes.specs.spl_module_code.Modules.{holds_main, main_at, module_part, module_written, marks_before, IsCodeOf, uses}
-use Rattle.spl_gen_routines.specs.Generates.{Generates, GeneratesFrom}
-use Rattle.spl_gen_routines.specs.Routines.{room_at}
-use Rattle.spl_gen_routines.proofs.OpenMarks.{one_generated}
+use Rattle.spl_routine_code.specs.Generates.{Generates, GeneratesFrom}
+use Rattle.spl_routine_code.specs.Routines.{room_at}
+use Rattle.spl_routine_code.proofs.OpenMarks.{one_generated}
 use Rattle.spl_unit_codes.specs.declared.growing.Growing.{Growing}
 use Rattle.spl_unit_laws.specs.Steps.{IsOpen, AreFree, main_count}
 use Rattle.spl_unit_codes.specs.Begun.{IsBegun, AreBegun, has_main}

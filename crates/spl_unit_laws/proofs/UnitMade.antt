@@ -10,19 +10,19 @@ use Rattle.spl_sound_labels.specs.spl_meaning.Limits.{joined}
 use Rattle.spl_sound_labels.specs.spl_places.Counters.{total_words}
 use Rattle.spl_sound_labels.specs.spl_places.Programs.{Each, NewInUnit, NewInRoutine, unit_items}
 use Rattle.spl_sound_labels.specs.spl_meaning.Bodies.{all_routines, reached_behind}
-use Rattle.spl_gen_routines.specs.spl_rooms.declared.room_type.Room.{Room}
-use Rattle.spl_gen_routines.specs.spl_rooms.Rooms.{room_within, rooms_in}
-use Rattle.spl_gen_routines.specs.spl_branch.declared.modules.Module.{Module}
-use Rattle.spl_gen_routines.specs.spl_scopes.Scopes.{Placed, placed_units}
+use Rattle.spl_routine_code.specs.spl_rooms.declared.room_type.Room.{Room}
+use Rattle.spl_routine_code.specs.spl_rooms.Rooms.{room_within, rooms_in}
+use Rattle.spl_routine_code.specs.spl_branch.declared.modules.Module.{Module}
+use Rattle.spl_routine_code.specs.spl_scopes.Scopes.{Placed, placed_units}
 use Rattle.spl_unit_codes.specs.spl_modules.Entered.{Walk}
 use Rattle.spl_unit_codes.specs.spl_modules.UnitModules.{IsUnitModules}
-use Rattle.spl_gen_routines.specs.spl_body_scopes.Walks.{State, Left, first_state}
-use Rattle.spl_gen_routines.specs.spl_body_scopes.Levels.{unit_level}
-use Rattle.spl_gen_routines.specs.spl_body_scopes.Units.{UnitsLeft}
+use Rattle.spl_routine_code.specs.spl_body_scopes.Walks.{State, Left, first_state}
+use Rattle.spl_routine_code.specs.spl_body_scopes.Levels.{unit_level}
+use Rattle.spl_routine_code.specs.spl_body_scopes.Units.{UnitsLeft}
 use Rattle.spl_unit_laws.proofs.LeftSteps.{left_first, units_behind, first_of}
 use Rattle.spl_unit_codes.specs.spl_module_code.Modules.{AreOfUnit, AreOf}
 use Rattle.spl_unit_codes.specs.spl_module_code.Modules.{AreOf as o}
-use Rattle.spl_gen_routines.specs.Routines.{room_at}
+use Rattle.spl_routine_code.specs.Routines.{room_at}
 use Rattle.spl_unit_codes.specs.declared.growing.Growing.{Growing}
 use Rattle.spl_unit_codes.specs.Begun.{AreBegun}
 use Rattle.spl_unit_laws.specs.declared.cursors.Start.{Start}

@@ -11,22 +11,22 @@ use Rattle.spl_sound_labels.specs.spl_meaning.Tables.{Routine, Subroutine, routi
 use Rattle.spl_sound_labels.specs.spl_meaning.Places.{list_array_words, sum}
 use Rattle.spl_sound_labels.specs.spl_meaning.Limits.{joined}
 use Rattle.spl_sound_labels.specs.spl_meaning.Bodies.{Body, Named, main_body}
-use Rattle.spl_gen_routines.specs.spl_rooms.declared.room_type.Room.{Room}
-use Rattle.spl_gen_routines.specs.spl_rooms.Rooms as r
-use Rattle.spl_gen_routines.specs.spl_rooms.Rooms.{room_within}
-use Rattle.spl_gen_routines.specs.spl_code.Parts.{Part, nothing}
-use Rattle.spl_gen_routines.specs.spl_scopes.Entries as callee
-use Rattle.spl_gen_routines.specs.spl_scopes.Entries.{Owner, main, routine, Entry, module_entries, in_segment, inner_entry, inner_entries, declared_entries}
-use Rattle.spl_gen_routines.specs.spl_scopes.Scopes.{Placed, outer_body, global_places, routine_bodies}
+use Rattle.spl_routine_code.specs.spl_rooms.declared.room_type.Room.{Room}
+use Rattle.spl_routine_code.specs.spl_rooms.Rooms as r
+use Rattle.spl_routine_code.specs.spl_rooms.Rooms.{room_within}
+use Rattle.spl_routine_code.specs.spl_code.Parts.{Part, nothing}
+use Rattle.spl_routine_code.specs.spl_scopes.Entries as callee
+use Rattle.spl_routine_code.specs.spl_scopes.Entries.{Owner, main, routine, Entry, module_entries, in_segment, inner_entry, inner_entries, declared_entries}
+use Rattle.spl_routine_code.specs.spl_scopes.Scopes.{Placed, outer_body, global_places, routine_bodies}
 use Rattle.spl_unit_codes.specs.spl_modules.Entered.{Walk}
 use Rattle.spl_unit_codes.specs.spl_modules.UnitModules.{IsUnitModules}
-use Rattle.spl_gen_routines.specs.spl_body_scopes.Walks.{State, Left, behind, globals_in}
-use Rattle.spl_gen_routines.proofs.spl_body_scopes_proofs.ScopeLaws.{made, body_next, body_left, first_at, main_there}
+use Rattle.spl_routine_code.specs.spl_body_scopes.Walks.{State, Left, behind, globals_in}
+use Rattle.spl_routine_code.proofs.spl_body_scopes_proofs.ScopeLaws.{made, body_next, body_left, first_at, main_there}
 use Rattle.spl_unit_codes.specs.spl_module_code.Bodies.{routine_part, subroutine_part}
 use Rattle.spl_unit_codes.specs.spl_module_code.Modules.{declared_part, routine_at, inner_at, inner_with}
-use Rattle.spl_gen_routines.specs.Generates.{GeneratesFrom}
-use Rattle.spl_gen_routines.specs.Routines.{inner_count, inners_among, room_at}
-use Rattle.spl_gen_routines.proofs.OpenMarks.{one_generated, none_generated}
+use Rattle.spl_routine_code.specs.Generates.{GeneratesFrom}
+use Rattle.spl_routine_code.specs.Routines.{inner_count, inners_among, room_at}
+use Rattle.spl_routine_code.proofs.OpenMarks.{one_generated, none_generated}
 use Rattle.spl_unit_codes.specs.declared.growing.Growing.{Growing}
 use Rattle.spl_unit_laws.specs.Steps.{Grows, RoutineGrows, InnerGrows}
 use Rattle.spl_unit_laws.proofs.InnerParts.{inner_made}

@@ -10,24 +10,24 @@ use Rattle.spl_sound_labels.specs.spl_meaning.Names.{Names, find, nothing_declar
 use Rattle.spl_sound_labels.specs.spl_meaning.Tables.{Routine, Subroutine, routines_among, routines_of, routine_table, subroutines_among, unit_subroutines, unit_table, with_declaration}
 use Rattle.spl_sound_labels.specs.spl_meaning.Places.{array_words, list_array_words}
 use Rattle.spl_sound_labels.specs.spl_meaning.Limits.{joined}
-use Rattle.spl_gen_routines.specs.spl_found.OwnNames.{behind_declarations}
+use Rattle.spl_routine_code.specs.spl_found.OwnNames.{behind_declarations}
 use Rattle.spl_sound_labels.specs.spl_places.Counters.{total_words}
 use Rattle.spl_sound_labels.specs.spl_places.Programs.{routine_items}
 use Rattle.spl_sound_labels.proofs.spl_places_proofs.ProgramLaws.{routine_held, array_words_held}
-use Rattle.spl_gen_routines.specs.spl_areas.Gathered.{items_under}
-use Rattle.spl_gen_routines.specs.spl_rooms.declared.room_type.Room.{Room}
-use Rattle.spl_gen_routines.specs.spl_rooms.Rooms as r
-use Rattle.spl_gen_routines.specs.spl_rooms.Rooms.{room_within}
-use Rattle.spl_gen_routines.specs.spl_code.Parts.{nothing}
-use Rattle.spl_gen_routines.specs.spl_scopes.Entries.{in_segment, declared_entries, routines_behind}
-use Rattle.spl_gen_routines.specs.spl_scopes.Scopes.{Placed}
+use Rattle.spl_routine_code.specs.spl_areas.Gathered.{items_under}
+use Rattle.spl_routine_code.specs.spl_rooms.declared.room_type.Room.{Room}
+use Rattle.spl_routine_code.specs.spl_rooms.Rooms as r
+use Rattle.spl_routine_code.specs.spl_rooms.Rooms.{room_within}
+use Rattle.spl_routine_code.specs.spl_code.Parts.{nothing}
+use Rattle.spl_routine_code.specs.spl_scopes.Entries.{in_segment, declared_entries, routines_behind}
+use Rattle.spl_routine_code.specs.spl_scopes.Scopes.{Placed}
 use Rattle.spl_unit_codes.specs.spl_modules.Entered.{Walk}
 use Rattle.spl_unit_codes.specs.spl_modules.UnitModules.{IsUnitModules}
-use Rattle.spl_gen_routines.specs.spl_body_scopes.Walks.{State, Left, behind, globals_in}
-use Rattle.spl_gen_routines.proofs.spl_body_scopes_proofs.ScopeLaws.{goes_on, made, body_names, drop_more}
+use Rattle.spl_routine_code.specs.spl_body_scopes.Walks.{State, Left, behind, globals_in}
+use Rattle.spl_routine_code.proofs.spl_body_scopes_proofs.ScopeLaws.{goes_on, made, body_names, drop_more}
 use Rattle.spl_unit_laws.proofs.LeftSteps.{left_plain, left_routine}
 use Rattle.spl_unit_codes.specs.spl_module_code.Modules.{declared_part, inner_behind}
-use Rattle.spl_gen_routines.specs.Routines.{inners_among}
+use Rattle.spl_routine_code.specs.Routines.{inners_among}
 use Rattle.spl_unit_codes.specs.declared.growing.Growing.{Growing}
 use Rattle.spl_unit_laws.specs.declared.cursors.Cursor.{Cursor}
 use Rattle.spl_unit_laws.specs.Known.{Known}

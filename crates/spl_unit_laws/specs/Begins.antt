@@ -4,9 +4,9 @@ use Rattle.spl_sound_labels.specs.spl_meaning.Tables.{Source, routines_of, unit_
 use Rattle.spl_sound_labels.specs.spl_meaning.Limits.{joined}
 use Rattle.spl_sound_labels.specs.spl_meaning.Bodies.{Reached}
 use Rattle.spl_sound_labels.specs.spl_places.Programs.{Each, NewInUnit, NewInRoutine}
-use Rattle.spl_gen_routines.specs.spl_rooms.declared.room_type.Room.{Room}
-use Rattle.spl_gen_routines.specs.spl_rooms.Rooms.{rooms_in}
-use Rattle.spl_gen_routines.specs.spl_body_scopes.Units.{UnitsLeft}
+use Rattle.spl_routine_code.specs.spl_rooms.declared.room_type.Room.{Room}
+use Rattle.spl_routine_code.specs.spl_rooms.Rooms.{rooms_in}
+use Rattle.spl_routine_code.specs.spl_body_scopes.Units.{UnitsLeft}
 use Rattle.spl_unit_laws.specs.declared.cursors.Start.{Start}
 
 -- no subprogram has a subroutine

@@ -1,10 +1,10 @@
 -- What is known of a unit while its code grows along its declarations.
 use Rattle.std.specs.Prelude.{ℕ, List, None}
-use Rattle.spl_gen_routines.specs.spl_rooms.declared.room_type.Room.{Room}
+use Rattle.spl_routine_code.specs.spl_rooms.declared.room_type.Room.{Room}
 use Rattle.spl_unit_codes.specs.spl_modules.Entered.{Indexes}
-use Rattle.spl_gen_routines.specs.spl_body_scopes.Levels.{Level}
-use Rattle.spl_gen_routines.specs.spl_body_scopes.Results.{result_of}
-use Rattle.spl_gen_routines.specs.Routines.{Around}
+use Rattle.spl_routine_code.specs.spl_body_scopes.Levels.{Level}
+use Rattle.spl_routine_code.specs.spl_body_scopes.Results.{result_of}
+use Rattle.spl_routine_code.specs.Routines.{Around}
 use Rattle.spl_unit_codes.specs.declared.growing.Growing.{Growing}
 use Rattle.spl_unit_laws.specs.declared.cursors.Cursor.{Cursor}
 

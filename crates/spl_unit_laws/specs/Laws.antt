@@ -4,9 +4,9 @@ use Rattle.spl_sound_labels.specs.spl_meaning.Tables.{Source}
 use Rattle.spl_sound_labels.specs.spl_meaning.Bodies.{global_words, primary_words, global_array_words}
 use Rattle.spl_sound_labels.specs.spl_meaning.Sound.{IsSound}
 use Rattle.spl_sound_labels.specs.spl_places.Programs.{Each}
-use Rattle.spl_gen_routines.specs.spl_rooms.declared.room_type.Room.{Room}
-use Rattle.spl_gen_routines.specs.spl_rooms.Rooms.{rooms_of}
-use Rattle.spl_gen_routines.specs.spl_branch.declared.modules.Module.{Module}
+use Rattle.spl_routine_code.specs.spl_rooms.declared.room_type.Room.{Room}
+use Rattle.spl_routine_code.specs.spl_rooms.Rooms.{rooms_of}
+use Rattle.spl_routine_code.specs.spl_branch.declared.modules.Module.{Module}
 use Rattle.spl_unit_codes.specs.spl_module_code.Modules.{program_uses, AreModules}
 use Rattle.spl_unit_laws.specs.declared.cursors.Start.{Start}
 use Rattle.spl_unit_laws.specs.Units.{UnitsStand, OnceInBodies}

@@ -7,13 +7,13 @@ use Rattle.spl_sound_labels.specs.spl_tree.StatementTrees.{Statement, statements
 use Rattle.spl_sound_labels.specs.spl_meaning.Names.{Names, nothing_declared}
 use Rattle.spl_sound_labels.specs.spl_meaning.Places.{item_words, array_words}
 use Rattle.spl_sound_labels.specs.spl_meaning.StatementRules.{label_faults}
-use Rattle.spl_gen_routines.specs.spl_found.OwnNames.{behind_declaration}
+use Rattle.spl_routine_code.specs.spl_found.OwnNames.{behind_declaration}
 use Rattle.spl_sound_labels.specs.spl_places.Counters.{total_words}
-use Rattle.spl_gen_routines.specs.spl_areas.Gathered.{items_under}
-use Rattle.spl_gen_routines.specs.spl_body_scopes.Levels.{Level, routine_level}
-use Rattle.spl_gen_routines.specs.spl_body_scopes.Results.{routine_result}
-use Rattle.spl_gen_routines.specs.Generates.{AreOpen}
-use Rattle.spl_gen_routines.specs.Routines.{Around, OnceIn, OnceAmong, inners_among, room_at, InnerStands, RoutineStands}
+use Rattle.spl_routine_code.specs.spl_areas.Gathered.{items_under}
+use Rattle.spl_routine_code.specs.spl_body_scopes.Levels.{Level, routine_level}
+use Rattle.spl_routine_code.specs.spl_body_scopes.Results.{routine_result}
+use Rattle.spl_routine_code.specs.Generates.{AreOpen}
+use Rattle.spl_routine_code.specs.Routines.{Around, OnceIn, OnceAmong, inners_among, room_at, InnerStands, RoutineStands}
 use Rattle.spl_unit_codes.specs.declared.growing.Growing.{Growing}
 use Rattle.spl_unit_laws.specs.declared.cursors.Cursor.{Cursor}
 use Rattle.spl_unit_laws.specs.Known.{Fixed, Known, main_around}

@@ -8,16 +8,16 @@ use Rattle.spl_sound_labels.specs.spl_meaning.Names.{find, nothing_declared}
 use Rattle.spl_sound_labels.specs.spl_meaning.Tables.{Source}
 use Rattle.spl_sound_labels.specs.spl_meaning.Places.{item_words}
 use Rattle.spl_sound_labels.specs.spl_meaning.StatementRules.{label_faults}
-use Rattle.spl_gen_routines.specs.spl_found.OwnNames.{behind_declarations}
+use Rattle.spl_routine_code.specs.spl_found.OwnNames.{behind_declarations}
 use Rattle.spl_sound_labels.specs.spl_places.Counters.{total_words}
 use Rattle.spl_sound_labels.specs.spl_places.Programs.{unit_items}
-use Rattle.spl_gen_routines.specs.spl_rooms.declared.room_type.Room.{Room}
-use Rattle.spl_gen_routines.specs.spl_branch.declared.modules.Module.{Module}
+use Rattle.spl_routine_code.specs.spl_rooms.declared.room_type.Room.{Room}
+use Rattle.spl_routine_code.specs.spl_branch.declared.modules.Module.{Module}
 use Rattle.spl_unit_codes.specs.spl_modules.Entered.{Walk}
 use Rattle.spl_unit_codes.specs.spl_modules.UnitModules.{IsUnitModules}
 use Rattle.spl_unit_codes.specs.spl_module_code.Modules.{numbered}
-use Rattle.spl_gen_routines.specs.spl_body_scopes.Levels.{Level, unit_level}
-use Rattle.spl_gen_routines.specs.Routines.{inners_among, room_at, MainBodyStands}
+use Rattle.spl_routine_code.specs.spl_body_scopes.Levels.{Level, unit_level}
+use Rattle.spl_routine_code.specs.Routines.{inners_among, room_at, MainBodyStands}
 use Rattle.spl_unit_codes.specs.declared.growing.Growing.{Growing}
 use Rattle.spl_unit_codes.specs.Begun.{AreBegun}
 use Rattle.spl_unit_codes.specs.Slots.{AreSlots, Picked}

@@ -6,8 +6,6 @@ mod laws;
 
 pub use cursors::{Cursor, Start};
 pub use laws::{labels_stand_once, units_are_made};
-pub use spl_gen_routines;
-pub use spl_gen_routines::{spl_body_scopes, spl_gen_expr};
 pub use spl_sound_labels::{spl_places, spl_spots};
 pub use spl_unit_codes;
 pub use spl_unit_codes::spl_modules;

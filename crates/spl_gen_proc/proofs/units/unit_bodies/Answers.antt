@@ -3,7 +3,7 @@ use Rattle.std.proofs.Common.{ap}
 use Rattle.spl_layout.specs.spl_rooms.declared.room_type.Room.{Room}
 use Rattle.spl_sound.specs.Spelled.{source_of}
 use Rattle.spl_unit_laws.specs.spl_body_scopes.Levels.{level_of}
-use Rattle.spl_unit_laws.specs.spl_gen_routines.Routines as r
+use Rattle.spl_unit_laws.specs.spl_routine_code.Routines as r
 use Rattle.spl_unit_laws.specs.Units.{first_cursor}
 use Rattle.spl_gen_proc.specs.Views.{fixed_of}
 use Rattle.spl_gen_proc.proofs.UnitParts.{bodies_stand}

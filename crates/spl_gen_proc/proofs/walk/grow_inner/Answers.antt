@@ -1,5 +1,5 @@
 -- The mark of its entry is the first that may be set.
-use Rattle.spl_unit_laws.proofs.spl_gen_routines_proofs.OpenMarks.{first_open}
+use Rattle.spl_unit_laws.proofs.spl_routine_code_proofs.OpenMarks.{first_open}
 use Rattle.spl_gen_proc.proofs.walk.grow_inner.Goals as goal
 
 pub subroutine-requires-clause-free : goal.subroutine-requires-clause-free

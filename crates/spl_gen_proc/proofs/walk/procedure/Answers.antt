@@ -14,7 +14,7 @@ use Rattle.spl_unit_laws.specs.spl_places.Counters.{total_words}
 use Rattle.spl_unit_laws.specs.spl_places.NameMaps.{entries_of}
 use Rattle.spl_layout.specs.spl_areas.Gathered.{items_under}
 use Rattle.spl_unit_laws.specs.spl_body_scopes.Levels.{level_of}
-use Rattle.spl_unit_laws.specs.spl_gen_routines.Routines.{inners_among}
+use Rattle.spl_unit_laws.specs.spl_routine_code.Routines.{inners_among}
 use Rattle.spl_unit_laws.specs.spl_unit_codes.declared.growing.Growing.{Growing}
 use Rattle.spl_unit_laws.specs.Steps.{Grows, RoutineGrows}
 use Rattle.spl_gen_proc.specs.Views.{fixed_of}

@@ -5,8 +5,8 @@ use Rattle.spl_tree.specs.Views as view
 use Rattle.spl_tree.specs.StatementTrees as trees
 use Rattle.spl_gen_body.specs.spl_gen_expr.Scopes.{scope_of}
 use Rattle.spl_gen_body.specs.spl_body_code.Frames.{granted}
-use Rattle.spl_landings.specs.Bodies.{statements_part}
-use Rattle.spl_gen_routines.proofs.WholeBodies.{made_in_main, main_done}
+use Rattle.spl_routine_code.specs.Bodies.{statements_part}
+use Rattle.spl_routine_code.proofs.WholeBodies.{made_in_main, main_done}
 use Rattle.spl_gen_routines.proofs.bodies.main_code.Goals as goal
 
 pub body_statements-requires : goal.body_statements-requires

@@ -9,8 +9,8 @@ use Rattle.spl_sorts.specs.spl_meaning.Pending.{formals_words}
 use Rattle.spl_gen_body.specs.spl_gen_expr.Scopes.{scope_of}
 use Rattle.spl_gen_body.specs.Procedures.{frame_for}
 use Rattle.spl_gen_body.specs.spl_body_code.Bodies.{procedure_entered, procedure_left}
-use Rattle.spl_landings.specs.Bodies.{statements_part}
-use Rattle.spl_gen_routines.proofs.WholeBodies.{with_mark, free_to_enter, made_to_leave, free_to_leave, body_done}
+use Rattle.spl_routine_code.specs.Bodies.{statements_part}
+use Rattle.spl_routine_code.proofs.WholeBodies.{with_mark, free_to_enter, made_to_leave, free_to_leave, body_done}
 use Rattle.spl_gen_routines.proofs.bodies.procedure_code.Goals as goal
 
 pub enter_procedure-requires : goal.enter_procedure-requires

@@ -9,8 +9,8 @@ use Rattle.spl_sorts.specs.spl_meaning.Pending.{formals_words}
 use Rattle.spl_gen_body.specs.spl_gen_expr.Scopes.{scope_of}
 use Rattle.spl_gen_body.specs.spl_body_code.Frames.{granted}
 use Rattle.spl_gen_body.specs.spl_body_code.Bodies.{subroutine_left}
-use Rattle.spl_landings.specs.Bodies.{statements_part}
-use Rattle.spl_gen_routines.proofs.WholeBodies.{with_mark, free_to_enter, made_to_leave, free_to_leave, body_done}
+use Rattle.spl_routine_code.specs.Bodies.{statements_part}
+use Rattle.spl_routine_code.proofs.WholeBodies.{with_mark, free_to_enter, made_to_leave, free_to_leave, body_done}
 use Rattle.spl_gen_routines.proofs.bodies.subroutine_code.Goals as goal
 
 pub enter_subroutine-requires : goal.enter_subroutine-requires

@@ -11,9 +11,9 @@ use Rattle.spl_statement_scopes.specs.spl_scopes.Scopes.{Results}
 use Rattle.spl_statement_scopes.specs.spl_body_scopes.Levels.{Level, level_of, inner_level}
 use Rattle.spl_statement_scopes.specs.spl_body_scopes.Results.{result_of, results_through}
 use Rattle.spl_statement_scopes.specs.Levels.{with_results}
-use Rattle.spl_landings.specs.Bodies.{statements_part}
-use Rattle.spl_gen_routines.specs.Generates.{Generates}
-use Rattle.spl_gen_routines.specs.Scoped.{subroutine_with}
+use Rattle.spl_routine_code.specs.Bodies.{statements_part}
+use Rattle.spl_routine_code.specs.Generates.{Generates}
+use Rattle.spl_routine_code.specs.Scoped.{subroutine_with}
 use Rattle.spl_gen_routines.specs.Views.{around_of}
 use Rattle.spl_gen_routines.proofs.SeenScopes.{inner_stands}
 use Rattle.spl_gen_routines.proofs.inners.subroutine.Goals as goal

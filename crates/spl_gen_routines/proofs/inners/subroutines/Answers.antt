@@ -3,7 +3,7 @@ use Rattle.std.proofs.Common.{◌+◌, map, ap, ◌∙◌}
 use Rattle.spl_tree.specs.DeclarationTrees.{declarations}
 use Rattle.spl_tree.specs.Spells.{declaration}
 use Rattle.spl_gen_routines.specs.Views.{around_of}
-use Rattle.spl_gen_routines.proofs.InnerWalks.{free_here, walk_next, walk_done}
+use Rattle.spl_routine_code.proofs.InnerWalks.{free_here, walk_next, walk_done}
 use Rattle.spl_gen_routines.proofs.inners.subroutines.Goals as goal
 
 pub inner-requires-clause-free : goal.inner-requires-clause-free

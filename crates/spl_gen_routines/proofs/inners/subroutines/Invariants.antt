@@ -3,7 +3,7 @@ use Rattle.std.proofs.Common.{map, drop}
 use Rattle.spl_tree.specs.DeclarationTrees.{declarations}
 use Rattle.spl_tree.specs.Spells.{declaration}
 use Rattle.spl_gen_routines.specs.Views.{around_of}
-use Rattle.spl_gen_routines.proofs.InnerWalks.{InnersWalk}
+use Rattle.spl_routine_code.proofs.InnerWalks.{InnersWalk}
 use Rattle.spl_gen_routines.proofs.inners.subroutines.Given as goal
 
 -- so many subroutines have been appended, and these declarations are left

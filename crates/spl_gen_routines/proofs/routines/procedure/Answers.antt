@@ -22,9 +22,9 @@ use Rattle.spl_statement_scopes.specs.Levels.{with_results}
 use Rattle.spl_statement_scopes.specs.Scopes.{StatesRoutine}
 use Rattle.spl_gen_body.specs.declared.bodies.Procedure.{Procedure}
 use Rattle.spl_gen_body.specs.Procedures.{frame_for}
-use Rattle.spl_landings.specs.Bodies.{statements_part}
-use Rattle.spl_gen_routines.specs.Generates.{Generates}
-use Rattle.spl_gen_routines.specs.Scoped.{procedure_with}
+use Rattle.spl_routine_code.specs.Bodies.{statements_part}
+use Rattle.spl_routine_code.specs.Generates.{Generates}
+use Rattle.spl_routine_code.specs.Scoped.{procedure_with}
 use Rattle.spl_gen_routines.specs.Views.{around_of}
 use Rattle.spl_gen_routines.proofs.SeenScopes.{frame_fits}
 use Rattle.spl_gen_routines.proofs.routines.procedure.Goals as goal

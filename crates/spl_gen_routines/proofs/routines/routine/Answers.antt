@@ -10,10 +10,10 @@ use Rattle.spl_statement_scopes.specs.spl_scopes.Scopes.{Results}
 use Rattle.spl_statement_scopes.specs.spl_body_scopes.Levels.{level_of}
 use Rattle.spl_statement_scopes.specs.spl_body_scopes.Found.{calls_in}
 use Rattle.spl_statement_scopes.specs.spl_body_scopes.Results.{result_of}
-use Rattle.spl_gen_routines.specs.Generates.{AreOpen}
-use Rattle.spl_gen_routines.specs.Routines.{Around, inners_among}
+use Rattle.spl_routine_code.specs.Generates.{AreOpen}
+use Rattle.spl_routine_code.specs.Routines.{Around, inners_among}
 use Rattle.spl_gen_routines.specs.Views.{routine_around}
-use Rattle.spl_gen_routines.proofs.RoutineSteps.{others_open, first_free, routine_stands}
+use Rattle.spl_routine_code.proofs.RoutineSteps.{others_open, first_free, routine_stands}
 use Rattle.spl_gen_routines.proofs.routines.routine.Goals as goal
 
 pub subroutines-requires-clause-free : goal.subroutines-requires-clause-free

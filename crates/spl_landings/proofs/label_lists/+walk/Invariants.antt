@@ -2,7 +2,7 @@
 use Rattle.std.proofs.Common.{◌≡◌, ◌++◌, map, drop}
 use Rattle.spl_tree.specs.Views as view
 use Rattle.spl_tree.specs.StatementTrees as trees
-use Rattle.spl_label_marks.specs.spl_module_code.LabelsOfBodies.{labels_among}
+use Rattle.spl_module_code.specs.LabelsOfBodies.{labels_among}
 use Rattle.spl_landings.specs.Labels.{label_of}
 use Rattle.spl_landings.proofs.label_lists.+walk.Given as goal
 

@@ -1,9 +1,9 @@
 -- The code of bodies by what it is made of: the frame or the room, how many words the parameters have, and the statements.
 use Rattle.std.specs.Prelude.{ℕ}
 use Rattle.spl_branch.specs.declared.pieces.Piece.TheVariants.{Mark}
-use Rattle.spl_gen_body.specs.spl_code.Parts.{Part, pieces, piece, ◌⨟◌, with_fresh}
-use Rattle.spl_gen_body.specs.spl_body_code.Frames.{granted}
-use Rattle.spl_gen_body.specs.spl_body_code.Bodies.{Frame, procedure_entered, procedure_left, subroutine_left, main_left}
+use Rattle.spl_label_marks.specs.spl_code.Parts.{Part, pieces, piece, ◌⨟◌, with_fresh}
+use Rattle.spl_label_marks.specs.spl_body_code.Frames.{granted}
+use Rattle.spl_label_marks.specs.spl_body_code.Bodies.{Frame, procedure_entered, procedure_left, subroutine_left, main_left}
 
 -- a procedure
 abbrev pub procedure_with : Frame → ℕ → ℕ → (ℕ → Part) → Part

@@ -1,7 +1,7 @@
 -- The statements of a body, as a part of code.
 use Rattle.std.specs.Prelude.{ℕ}
 use Rattle.spl_tree.specs.StatementTrees.{Statements}
-use Rattle.spl_gen_stmt.specs.spl_meaning.Names.{Table, find}
+use Rattle.spl_sorts.specs.spl_meaning.Names.{Table, find}
 use Rattle.spl_label_marks.specs.spl_code.Parts.{Part}
 use Rattle.spl_label_marks.specs.spl_code.Calls.{Scope}
 use Rattle.spl_label_marks.specs.spl_statement_code.Landings.{Landing, Context}

@@ -5,9 +5,9 @@ use Rattle.std.proofs.Math.Seq.{set-append_seam, get_or-append_seam}
 use Rattle.std.proofs.lemmas.Bool.{and_from, lt-ltb}
 use Rattle.std.proofs.lemmas.List.{append_assoc, length-append, length-replicate, replicate-append-replicate}
 use Rattle.spl_tree.specs.StatementTrees.{Statements}
-use Rattle.spl_gen_stmt.specs.spl_meaning.Names.{Table, find, same_name}
-use Rattle.spl_gen_stmt.specs.spl_meaning.Bound.{statements_weight}
-use Rattle.spl_gen_stmt.specs.spl_meaning.StatementRules.{label_faults}
+use Rattle.spl_sorts.specs.spl_meaning.Names.{Table, find, same_name}
+use Rattle.spl_sorts.specs.spl_meaning.Bound.{statements_weight}
+use Rattle.spl_sorts.specs.spl_meaning.StatementRules.{label_faults}
 use Rattle.spl_branch.specs.declared.buffer.Code.{Code}
 use Rattle.spl_branch.specs.declared.pieces.Piece.TheVariants.{Mark}
 use Rattle.spl_branch.specs.Pieces.{is_settable, count_of}
@@ -15,13 +15,13 @@ use Rattle.spl_branch.specs.Codes.{SameFrame}
 use Rattle.spl_label_marks.specs.spl_code.Parts.{Part, Written, Wanted, wants_of}
 use Rattle.spl_label_marks.specs.spl_code.Appends.{Appends, behind}
 use Rattle.spl_label_marks.specs.spl_code.Calls.{Scope}
-use Rattle.spl_gen_stmt.proofs.spl_code_proofs.AppendLaws.{same_then}
+use Rattle.spl_module_code.proofs.spl_body_code_proofs.spl_code_proofs.AppendLaws.{same_then}
 use Rattle.spl_label_marks.specs.spl_statement_code.Landings.{Landing, Context, IsMade}
 use Rattle.spl_label_marks.specs.spl_statement_code.Statements.{listed}
 use Rattle.spl_label_marks.specs.spl_statement_code.Labels.{AppendsSetting, CanBeSet, all_set, marks_within}
 use Rattle.spl_label_marks.specs.spl_statement_code.FewWords.{nested_among}
 use Rattle.spl_label_marks.specs.spl_module_code.LabelsOfBodies.{Label, labels_among, landed_from}
-use Rattle.spl_landings.specs.Bodies.{context_with, statements_part}
+use Rattle.spl_routine_code.specs.Bodies.{context_with, statements_part}
 use Rattle.spl_label_marks.specs.Laws.{with_more}
 use Rattle.spl_label_marks.proofs.LabelNames.{from_on, marks_are}
 use Rattle.spl_label_marks.proofs.LabelParts.{landed_part}

@@ -2,8 +2,8 @@
 use Rattle.std.specs.Prelude.{◌≡◌, ℕ, ◌+◌, ◌++◌, Bool, true, false, List, length, replicate, slice_set}
 use Rattle.spl_branch.specs.declared.buffer.Code.{Code}
 use Rattle.spl_branch.specs.Codes.{SameFrame}
-use Rattle.spl_gen_body.specs.spl_code.Parts.{Part, wants_of}
-use Rattle.spl_gen_body.specs.spl_code.Appends.{behind}
+use Rattle.spl_label_marks.specs.spl_code.Parts.{Part, wants_of}
+use Rattle.spl_label_marks.specs.spl_code.Appends.{behind}
 
 -- Code `d` is code `c` with a part behind it that is the body of an entry: the entry's mark was made before and is set, all marks that the part
 -- makes stand behind the others and are set, and no other has changed; its wants are those of the part; name, entries and main body stay.

@@ -4,14 +4,14 @@ use Rattle.std.proofs.lemmas.List.{length-append}
 use Rattle.spl_tree.specs.DeclarationTrees.{Heading, Declarations}
 use Rattle.spl_tree.specs.StatementTrees.{Statement}
 use Rattle.spl_sorts.specs.spl_meaning.Names.{Names}
-use Rattle.spl_gen_body.specs.spl_rooms.declared.room_type.Room.{Room}
+use Rattle.spl_rooms.specs.declared.room_type.Room.{Room}
 use Rattle.spl_branch.specs.declared.buffer.Code.{Code}
 use Rattle.spl_branch.specs.declared.pieces.Piece.TheVariants.{Mark}
 use Rattle.spl_branch.specs.Pieces.{is_settable}
-use Rattle.spl_gen_routines.specs.Generates.{AreOpen}
-use Rattle.spl_gen_routines.specs.Routines.{Around, inners_among, room_at, InnersStand, ProcedureStands, RoutineStands}
-use Rattle.spl_gen_routines.proofs.OpenMarks.{one_more, behind_first, still_open}
-use Rattle.spl_gen_routines.proofs.InnerWalks.{SomePart, list_part}
+use Rattle.spl_routine_code.specs.Generates.{AreOpen}
+use Rattle.spl_routine_code.specs.Routines.{Around, inners_among, room_at, InnersStand, ProcedureStands, RoutineStands}
+use Rattle.spl_routine_code.proofs.OpenMarks.{one_more, behind_first, still_open}
+use Rattle.spl_routine_code.proofs.InnerWalks.{SomePart, list_part}
 
 -- the entries behind the first may be set
 pub others_open : (entry count n : ℕ) (marks : List Bool) → AreOpen entry (1 + count) marks → n ≡ entry + 1 → AreOpen n count marks

@@ -7,11 +7,11 @@ use Rattle.spl_tree.specs.declared.expressions.Kind.TheVariants as kind
 use Rattle.spl_tree.specs.Trees as tree
 use Rattle.spl_tree.specs.StatementTrees as stat
 use Rattle.spl_tree.specs.StatementTrees.{Statement, statements}
-use Rattle.spl_gen_stmt.specs.spl_meaning.Names.{Sort, find, simple}
-use Rattle.spl_gen_stmt.specs.spl_meaning.Places.{Place, above_base}
-use Rattle.spl_gen_stmt.specs.spl_meaning.Bodies.{Body}
-use Rattle.spl_gen_stmt.specs.spl_meaning.Faults.{fault}
-use Rattle.spl_gen_stmt.specs.spl_meaning.StatementRules.{label_faults}
+use Rattle.spl_sorts.specs.spl_meaning.Names.{Sort, find, simple}
+use Rattle.spl_sorts.specs.spl_meaning.Places.{Place, above_base}
+use Rattle.spl_sorts.specs.spl_meaning.Bodies.{Body}
+use Rattle.spl_sorts.specs.spl_meaning.Faults.{fault}
+use Rattle.spl_sorts.specs.spl_meaning.StatementRules.{label_faults}
 use Rattle.spl_branch.specs.declared.pieces.Piece.{Piece}
 use Rattle.spl_branch.specs.declared.pieces.Piece.TheVariants.{Mark, Begin}
 use Rattle.spl_label_marks.specs.spl_code.Instructions.{LDI, LDNI, STOR, LRA, BR, BRE}
@@ -20,7 +20,7 @@ use Rattle.spl_label_marks.specs.spl_code.Calls.{Scope}
 use Rattle.spl_label_marks.specs.spl_statement_code.Instructions.{SUBS, TBA, MTBA}
 use Rattle.spl_label_marks.specs.spl_scopes.Entries.{Owner, Entry}
 use Rattle.spl_label_marks.specs.spl_module_code.Bodies.{body_statements, statements_scope}
-use Rattle.spl_landings.specs.Bodies.{statements_part}
+use Rattle.spl_routine_code.specs.Bodies.{statements_part}
 
 -- I, a local item
 abbrev scope : Scope

@@ -2,12 +2,13 @@
 use Rattle.std.proofs.Common.{map}
 use Rattle.spl_tree.specs.Views as view
 use Rattle.spl_tree.specs.StatementTrees as trees
-use Rattle.spl_gen_stmt.proofs.spl_operations_proofs.PutLemmas.{ok_then}
-use Rattle.spl_gen_stmt.specs.spl_gen_expr.Scopes.{scope_of}
-use Rattle.spl_gen_stmt.specs.Contexts.{context_by, landings_of}
-use Rattle.spl_label_marks.specs.spl_module_code.LabelsOfBodies.{labels_among}
-use Rattle.spl_landings.proofs.BodyMarks.{marks_made, marks_free, body_done, words_more}
-use Rattle.spl_landings.proofs.bodies.body_statements.Goals as goal
+use Rattle.spl_gen_body.proofs.spl_operations_proofs.PutLemmas.{ok_then}
+use Rattle.spl_gen_body.specs.spl_gen_expr.Scopes.{scope_of}
+use Rattle.spl_gen_stmt.specs.Contexts.{context_by}
+use Rattle.spl_landings.specs.Landings.{landings_of}
+use Rattle.spl_landings.specs.spl_module_code.LabelsOfBodies.{labels_among}
+use Rattle.spl_routine_code.proofs.BodyMarks.{marks_made, marks_free, body_done, words_more}
+use Rattle.spl_gen_routines.proofs.statements.body_statements.Goals as goal
 
 pub gen_statements-requires : goal.gen_statements-requires
 gen_statements-requires c = record {

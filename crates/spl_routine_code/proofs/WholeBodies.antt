@@ -6,15 +6,15 @@ use Rattle.spl_branch.specs.declared.pieces.Piece.{Piece}
 use Rattle.spl_branch.specs.declared.pieces.Piece.TheVariants.{Mark}
 use Rattle.spl_branch.specs.Pieces.{is_settable}
 use Rattle.spl_branch.specs.Codes.{SameFrame}
-use Rattle.spl_gen_body.specs.spl_code.Parts.{Part, pieces, piece, ◌⨟◌, with_fresh}
-use Rattle.spl_gen_body.specs.spl_code.Appends.{Appends, behind}
-use Rattle.spl_gen_body.proofs.spl_code_proofs.AppendLaws.{marks_behind}
-use Rattle.spl_gen_body.specs.spl_body_code.Marked.{Marked}
-use Rattle.spl_gen_body.specs.spl_body_code.Joined.{StandsBehind, WithMark}
-use Rattle.spl_gen_body.specs.spl_body_code.Bodies.{main_left}
-use Rattle.spl_gen_body.proofs.spl_body_code_proofs.JoinLaws.{appended_stands, around_joined, main_stands}
-use Rattle.spl_gen_routines.specs.Generates.{Generates}
-use Rattle.spl_gen_routines.proofs.SetMarks.{settable_made, settable_more, entered, leave_settable, left}
+use Rattle.spl_label_marks.specs.spl_code.Parts.{Part, pieces, piece, ◌⨟◌, with_fresh}
+use Rattle.spl_label_marks.specs.spl_code.Appends.{Appends, behind}
+use Rattle.spl_module_code.proofs.spl_body_code_proofs.spl_code_proofs.AppendLaws.{marks_behind}
+use Rattle.spl_label_marks.specs.spl_body_code.Marked.{Marked}
+use Rattle.spl_label_marks.specs.spl_body_code.Joined.{StandsBehind, WithMark}
+use Rattle.spl_label_marks.specs.spl_body_code.Bodies.{main_left}
+use Rattle.spl_module_code.proofs.spl_body_code_proofs.JoinLaws.{appended_stands, around_joined, main_stands}
+use Rattle.spl_routine_code.specs.Generates.{Generates}
+use Rattle.spl_routine_code.proofs.SetMarks.{settable_made, settable_more, entered, leave_settable, left}
 
 -- the marks behind the entry
 entered_marks : {entry : ℕ} {ps : List Piece} {c made d : Code} → is_settable c.marks.items (Mark entry) ≡ true → WithMark c made → Marked entry ps made d

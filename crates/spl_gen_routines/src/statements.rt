@@ -2,18 +2,18 @@
 ghost use Rattle.std.specs.Prelude.{◌≡◌, ◌<◌, ◌≤◌, ◌+◌, ◌*◌, [], length, map, OnOk};
 ghost use Rattle.spl_tree.specs.Views as view;
 ghost use Rattle.spl_tree.specs.StatementTrees as trees;
-ghost use Rattle.spl_gen_stmt.specs.spl_meaning.Bound.{statements_weight};
-ghost use Rattle.spl_gen_stmt.specs.spl_meaning.StatementRules.{label_faults};
+ghost use Rattle.spl_sorts.specs.spl_meaning.Bound.{statements_weight};
+ghost use Rattle.spl_sorts.specs.spl_meaning.StatementRules.{label_faults};
 ghost use Rattle.spl_branch.specs.Pieces.{count_of};
-ghost use Rattle.spl_label_marks.specs.spl_code.Appends.{Appends};
-ghost use Rattle.spl_gen_stmt.specs.spl_gen_expr.Scopes.{scope_of};
-ghost use Rattle.spl_label_marks.specs.spl_statement_code.FewWords.{nested_among};
-ghost use Rattle.spl_landings.specs.Bodies.{statements_part};
+ghost use Rattle.spl_routine_code.specs.spl_code.Appends.{Appends};
+ghost use Rattle.spl_gen_body.specs.spl_gen_expr.Scopes.{scope_of};
+ghost use Rattle.spl_gen_stmt.specs.spl_statement_code.FewWords.{nested_among};
+ghost use Rattle.spl_routine_code.specs.Bodies.{statements_part};
 
-use crate::label_marks::landings;
 use spl_branch::Code;
+use spl_gen_body::spl_gen_expr::Scope;
 use spl_gen_stmt::gen_statements;
-use spl_gen_stmt::spl_gen_expr::Scope;
+use spl_landings::landings;
 use spl_tree::Stmt;
 use std::alloc::{AllocError, Global};
 

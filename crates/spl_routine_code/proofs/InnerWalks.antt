@@ -5,14 +5,14 @@ use Rattle.spl_tree.specs.declared.declarations.Decl.{Decl}
 use Rattle.spl_tree.specs.DeclarationTrees as decl
 use Rattle.spl_tree.specs.DeclarationTrees.{Declaration, Declarations, declarations}
 use Rattle.spl_tree.specs.Spells.{declaration}
-use Rattle.spl_gen_body.specs.spl_rooms.declared.room_type.Room.{Room}
+use Rattle.spl_rooms.specs.declared.room_type.Room.{Room}
 use Rattle.spl_branch.specs.declared.buffer.Code.{Code}
-use Rattle.spl_gen_body.specs.spl_code.Parts.{Part, nothing, ◌⨟◌}
+use Rattle.spl_label_marks.specs.spl_code.Parts.{Part, nothing, ◌⨟◌}
 use Rattle.spl_statement_scopes.proofs.spl_lists_proofs.NameWalks.{onward, onward_end}
-use Rattle.spl_gen_routines.specs.Generates.{AreOpen, GeneratesFrom}
-use Rattle.spl_gen_routines.specs.Routines.{Around, OnceIn, OnceAmong, inner_count, inners_among, InnerStep, InnersStand}
-use Rattle.spl_gen_routines.specs.Routines.{InnersStand as s}
-use Rattle.spl_gen_routines.proofs.OpenMarks.{one_generated, none_generated, then_generated, rest_open}
+use Rattle.spl_routine_code.specs.Generates.{AreOpen, GeneratesFrom}
+use Rattle.spl_routine_code.specs.Routines.{Around, OnceIn, OnceAmong, inner_count, inners_among, InnerStep, InnersStand}
+use Rattle.spl_routine_code.specs.Routines.{InnersStand as s}
+use Rattle.spl_routine_code.proofs.OpenMarks.{one_generated, none_generated, then_generated, rest_open}
 
 -- ---- marks
 

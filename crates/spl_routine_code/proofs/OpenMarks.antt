@@ -6,10 +6,10 @@ use Rattle.std.proofs.Math.Seq.{set-append_seam, get_or-append_seam}
 use Rattle.spl_branch.specs.Pieces.{is_settable}
 use Rattle.spl_branch.specs.declared.buffer.Code.{Code}
 use Rattle.spl_branch.specs.declared.pieces.Piece.TheVariants.{Mark}
-use Rattle.spl_gen_body.specs.spl_code.Parts.{Part, Written, wants_of, nothing, ◌⨟◌}
-use Rattle.spl_gen_body.specs.spl_code.Appends.{behind}
-use Rattle.spl_gen_body.proofs.spl_code_proofs.AppendLaws.{same_then, same_none}
-use Rattle.spl_gen_routines.specs.Generates.{Generates, AreOpen, GeneratesFrom}
+use Rattle.spl_label_marks.specs.spl_code.Parts.{Part, Written, wants_of, nothing, ◌⨟◌}
+use Rattle.spl_label_marks.specs.spl_code.Appends.{behind}
+use Rattle.spl_module_code.proofs.spl_body_code_proofs.spl_code_proofs.AppendLaws.{same_then, same_none}
+use Rattle.spl_routine_code.specs.Generates.{Generates, AreOpen, GeneratesFrom}
 
 pub one_more : (n : ℕ) → 1 + n ≡ suc n
 one_more n = omega arith

@@ -11,11 +11,11 @@ use Rattle.spl_sorts.specs.spl_meaning.Pending.{formals_words}
 use Rattle.spl_sorts.specs.spl_meaning.StatementRules.{label_faults}
 use Rattle.spl_sorts.specs.spl_meaning.Bodies.{procedure_body}
 use Rattle.spl_statement_scopes.specs.spl_places.Programs.{NewInRoutine}
-use Rattle.spl_gen_body.specs.spl_rooms.declared.room_type.Room.{Room}
-use Rattle.spl_gen_body.specs.spl_rooms.Rooms.{routine_room}
+use Rattle.spl_rooms.specs.declared.room_type.Room.{Room}
+use Rattle.spl_rooms.specs.Rooms.{routine_room}
 use Rattle.spl_branch.specs.declared.buffer.Code.{Code}
-use Rattle.spl_gen_body.specs.spl_code.Calls.{Scope}
-use Rattle.spl_gen_body.specs.spl_body_code.Bodies.{Frame, frame_of}
+use Rattle.spl_label_marks.specs.spl_code.Calls.{Scope}
+use Rattle.spl_label_marks.specs.spl_body_code.Bodies.{Frame, frame_of}
 use Rattle.spl_statement_scopes.specs.spl_scopes.Scopes.{Results}
 use Rattle.spl_statement_scopes.specs.spl_body_scopes.declared.places.Base.TheVariants as base
 use Rattle.spl_statement_scopes.specs.spl_body_scopes.Levels.{Level, inner_level}
@@ -23,9 +23,9 @@ use Rattle.spl_statement_scopes.specs.spl_body_scopes.Results.{result_of, headin
 use Rattle.spl_statement_scopes.specs.spl_body_scopes.Found.{Calls}
 use Rattle.spl_statement_scopes.specs.Levels.{no_names, with_results}
 use Rattle.spl_statement_scopes.specs.Scopes.{StatesRoutine, StatesInner, StatesMain, StatesMainInner}
-use Rattle.spl_landings.specs.Bodies.{statements_part}
-use Rattle.spl_gen_routines.specs.Generates.{Generates}
-use Rattle.spl_gen_routines.specs.Scoped.{procedure_with, subroutine_with, main_with}
+use Rattle.spl_routine_code.specs.Bodies.{statements_part}
+use Rattle.spl_routine_code.specs.Generates.{Generates}
+use Rattle.spl_routine_code.specs.Scoped.{procedure_with, subroutine_with, main_with}
 
 -- ---- rooms by number
 
