@@ -23,11 +23,11 @@ ghost use Rattle.spl_unit_laws.specs.Units.{MainGrows, MainStep, OnceInBodies, U
 use crate::fixed::Fixed;
 use crate::walk::{inners, procedures, walk};
 use spl_branch::Module;
-use spl_layout::spl_rooms::Room;
-use spl_tree::{Decl, Name, SplUnit};
 use spl_gen_routines::spl_body_scopes::{Level, declare, unit_level};
 use spl_gen_routines::spl_gen_expr::Entries;
 use spl_gen_routines::{main_body, room_at};
+use spl_layout::spl_rooms::Room;
+use spl_tree::{Decl, Name, SplUnit};
 use spl_unit_laws::spl_modules::unit_entries;
 use spl_unit_laws::spl_places::NameMap;
 use spl_unit_laws::spl_spots::plus;

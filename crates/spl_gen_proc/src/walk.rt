@@ -19,14 +19,12 @@ ghost use Rattle.spl_gen_proc.specs.Views.{fixed_of};
 ghost use Rattle.spl_unit_laws.specs.Steps.{Grows, RoutineGrows, InnerGrows, cursor_behind, cursor_inner, IsFree, AreFree, OnceInUnit, OnceInAll, PartsStep, Steps};
 
 use crate::fixed::Fixed;
+use spl_gen_routines::spl_body_scopes::{Level, declare, routine_level};
+use spl_gen_routines::spl_gen_expr::Entries;
+use spl_gen_routines::{Around, Declared, inner_count, listed_items, room_at, routine, subroutine};
 use spl_layout::spl_rooms::Room;
 use spl_tree::{Body, Decl, Heading, Stmt};
 use spl_unit_laws::Cursor;
-use spl_gen_routines::spl_body_scopes::{Level, declare, routine_level};
-use spl_gen_routines::spl_gen_expr::Entries;
-use spl_gen_routines::{
-    Around, Declared, inner_count, listed_items, room_at, routine, subroutine,
-};
 use spl_unit_laws::spl_places::{NameMap, Part, total};
 use spl_unit_laws::spl_spots::plus;
 use spl_unit_laws::spl_unit_codes::Growing;

@@ -1,3 +1,2 @@
 pub mod NestLemmas
 pub mod PieceLemmas
-pub mod ViewLemmas

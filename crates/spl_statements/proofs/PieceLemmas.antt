@@ -11,6 +11,7 @@ use Rattle.spl_reading.specs.ReadStatements as r
 use Rattle.spl_tokens.proofs.Chains.{along, along_end, under}
 use Rattle.spl_statements.specs.Nests as nests
 use Rattle.spl_statements.specs.Nests.{inner, below}
+use Rattle.spl_statement_parts.specs.Parts as parts
 use Rattle.spl_statements.specs.Pieces as pieces
 
 -- IF, by the statement of THEN
@@ -54,17 +55,17 @@ while_is room ts = under _ _ _ (λ t us. under _ _ _ (λ e vs. along _ _ _ _ (λ
 
 -- DO, by what is behind its statement
 pub do_is : (room : ℕ) (ts : List Lexeme) → nests.do_statement room ts
-    ≡ followed (enter room 0) (λ t. followed (inner room) (λ x. followed (pieces.until_condition (below room))
+    ≡ followed (enter room 0) (λ t. followed (inner room) (λ x. followed (parts.until_condition (below room))
     (λ e. pure (stat.Statement.until_true x e t.at)))) ts
-unfolding r.do_statement pieces.until_condition
+unfolding r.do_statement parts.until_condition
 do_is room ts = under _ _ _ (λ t us. under _ _ _ (λ x vs. along _ _ _ _ (λ _ ws. refl) vs) us) ts
 
 -- FOR, by its values and the statement of DO
 pub for_is : (room : ℕ) (ts : List Lexeme) → nests.for_statement room ts
     ≡ followed (enter room 0) (λ f. followed (expect s.Name) (λ t. followed (expect s.Assign) (λ _.
-    followed (pieces.values (below room)) (λ v. followed (pieces.behind room w.Do)
+    followed (parts.values (below room)) (λ v. followed (pieces.behind room w.Do)
     (λ x. pure (stat.Statement.for_values t.letters v.0 (trees v.1.0) v.1.1 x f.at)))))) ts
-unfolding r.for_statement pieces.behind pieces.values pieces.bounds pieces.limit
+unfolding r.for_statement pieces.behind parts.values parts.bounds parts.limit
 for_is room ts = under (enter room 0) _ _ (λ f us. under (expect s.Name) _ _ (λ t vs. under (expect s.Assign) _ _
     (λ _ ws. by_values f t ws) vs) us) ts
   where
@@ -82,21 +83,21 @@ for_is room ts = under (enter room 0) _ _ (λ f us. under (expect s.Name) _ _ (�
     behind_steps f t a es = followed (expect (s.Word w.Until)) (λ _. followed (expression (below room) 0) (behind_limit f t a es))
 
     by_limit : (f t : Lexeme) (a : Tree) (es : List Tree) (ys : List Lexeme) → behind_steps f t a es ys
-        ≡ followed (followed (pieces.limit (below room)) (λ b. pure (es, b))) (λ b. end f t (a, b)) ys
+        ≡ followed (followed (parts.limit (below room)) (λ b. pure (es, b))) (λ b. end f t (a, b)) ys
     by_limit f t a es ys = along (expect (s.Word w.Until)) (λ _. expression (below room) 0) (behind_limit f t a es)
         (λ _. followed (expression (below room) 0) (behind_limit f t a es)) (λ _ zs. refl) ys
-        ∙ along (pieces.limit (below room)) (λ b. pure (es, b)) (λ b. end f t (a, b)) (behind_limit f t a es)
+        ∙ along (parts.limit (below room)) (λ b. pure (es, b)) (λ b. end f t (a, b)) (behind_limit f t a es)
         (λ b zs. along (expect (s.Word w.Do)) (λ _. inner room) (body f t a es b) (λ _. followed (inner room) (body f t a es b))
         (λ _ is. refl) zs ∙ along_end (es, b) (λ b. end f t (a, b)) zs) ys
 
     by_values : (f t : Lexeme) (ws : List Lexeme)
         → followed (expression (below room) 0) (λ a. followed (r.stepped (below room)) (behind_steps f t a)) ws
-        ≡ followed (pieces.values (below room)) (end f t) ws
-    by_values f t ws = along (expression (below room) 0) (λ a. followed (pieces.bounds (below room)) (λ b. pure (a, b))) (end f t)
+        ≡ followed (parts.values (below room)) (end f t) ws
+    by_values f t ws = along (expression (below room) 0) (λ a. followed (parts.bounds (below room)) (λ b. pure (a, b))) (end f t)
         (λ a. followed (r.stepped (below room)) (behind_steps f t a)) (λ a xs.
-        along (r.stepped (below room)) (λ es. followed (pieces.limit (below room)) (λ b. pure (es, b))) (λ b. end f t (a, b))
+        along (r.stepped (below room)) (λ es. followed (parts.limit (below room)) (λ b. pure (es, b))) (λ b. end f t (a, b))
         (behind_steps f t a) (λ es ys. by_limit f t a es ys) xs
-        ∙ along (pieces.bounds (below room)) (λ b. pure (a, b)) (end f t) (λ b. end f t (a, b))
+        ∙ along (parts.bounds (below room)) (λ b. pure (a, b)) (end f t) (λ b. end f t (a, b))
         (λ b ys. along_end (a, b) (end f t) ys) xs) ws
 
 -- CASE, by its arms

@@ -2,6 +2,5 @@
 #![tactic(auto)]
 
 mod statements;
-mod trees;
 
 pub use statements::{statement, statement_list};

@@ -13,13 +13,14 @@ ghost use Rattle.spl_tokens.specs.Reads.{Reads, lexeme, paired};
 ghost use Rattle.spl_effects.specs.References.{behind, statements};
 ghost use Rattle.spl_statements.specs.Nests.{Nests};
 ghost use Rattle.spl_statements.specs.Nests as nests;
+ghost use Rattle.spl_statement_parts.specs.Parts as parts;
 ghost use Rattle.spl_statements.specs.Pieces as pieces;
 
-use crate::trees::{
-    Values, block, call, case_of, done, empty, for_values, go_to, if_test, labelled, pushed,
-    returned, single, until_true, while_true,
-};
 use spl_effects::{assigned, behind_reference, effect, element, test, variable};
+use spl_statement_parts::{
+    block, call, case_of, done, empty, for_values, go_to, if_test, labelled, pushed, returned,
+    single, until_condition, until_true, values, while_true,
+};
 use spl_tokens::{Fault, Tokens, enter, name, same};
 use spl_tree::{Expr, Reserved, Stmt, Symbol, Target, Test, Token};
 use spl_within::{arguments_within, condition_within, expression_within};
@@ -32,67 +33,6 @@ pub struct Statements<F> {
     pub room: u8,
     /// Reads a statement inside.
     pub statement: F,
-}
-
-/// A step, where there is one.
-#[tactic(auto, using(spl_tokens::proofs::Steps::steps), unfolding(spl_reading::specs::Readers::pure, spl_reading::specs::Readers::refuse, spl_reading::specs::Readers::followed, spl_reading::specs::Readers::and_then, spl_reading::specs::ReadStatements::stepped))]
-fn stepped(alloc: Global, tokens: &mut Tokens<'_>, room: u8) -> Result<Option<Expr>, Fault>
-    ensures { Reads view.optional (spec.stepped room tokens.old) result tokens.new }
-{
-    if same(tokens.peek()?, Symbol::Word(Reserved::Step)) {
-        tokens.take()?;
-        Ok(Some(expression_within(alloc, tokens, room)?))
-    } else {
-        Ok(None)
-    }
-}
-
-/// The condition behind UNTIL.
-#[tactic(auto, using(spl_tokens::proofs::Steps::steps), unfolding(spl_reading::specs::Readers::pure, spl_reading::specs::Readers::refuse, spl_reading::specs::Readers::followed, spl_reading::specs::Readers::and_then, crate::specs::Pieces::until_condition))]
-fn until_condition(alloc: Global, tokens: &mut Tokens<'_>, room: u8) -> Result<Expr, Fault>
-    ensures { Reads view.expression (pieces.until_condition room tokens.old) result tokens.new }
-{
-    tokens.expect(Symbol::Word(Reserved::Until))?;
-    condition_within(alloc, tokens, room)
-}
-
-/// The value behind UNTIL.
-#[tactic(auto, using(spl_tokens::proofs::Steps::steps), unfolding(spl_reading::specs::Readers::pure, spl_reading::specs::Readers::refuse, spl_reading::specs::Readers::followed, spl_reading::specs::Readers::and_then, crate::specs::Pieces::limit))]
-fn limit(alloc: Global, tokens: &mut Tokens<'_>, room: u8) -> Result<Expr, Fault>
-    ensures { Reads view.expression (pieces.limit room tokens.old) result tokens.new }
-{
-    tokens.expect(Symbol::Word(Reserved::Until))?;
-    expression_within(alloc, tokens, room)
-}
-
-/// The step of a FOR, where there is one, and its last value.
-#[tactic(auto, using(spl_tokens::proofs::Steps::steps), unfolding(spl_reading::specs::Readers::pure, spl_reading::specs::Readers::refuse, spl_reading::specs::Readers::followed, spl_reading::specs::Readers::and_then, crate::specs::Pieces::bounds))]
-fn bounds(alloc: Global, tokens: &mut Tokens<'_>, room: u8) -> Result<(Option<Expr>, Expr), Fault>
-    ensures { Reads pieces.step_and_last (pieces.bounds room tokens.old) result tokens.new }
-{
-    let step = stepped(alloc, tokens, room)?;
-    match limit(alloc, tokens, room) {
-        Ok(last) => Ok((step, last)),
-        Err(fault) => {
-            drop(step);
-            Err(fault)
-        }
-    }
-}
-
-/// The values of a FOR.
-#[tactic(auto, using(spl_tokens::proofs::Steps::steps), unfolding(spl_reading::specs::Readers::pure, spl_reading::specs::Readers::refuse, spl_reading::specs::Readers::followed, spl_reading::specs::Readers::and_then, crate::specs::Pieces::values))]
-fn values(alloc: Global, tokens: &mut Tokens<'_>, room: u8) -> Result<Values, Fault>
-    ensures { Reads pieces.all_of (pieces.values room tokens.old) result tokens.new }
-{
-    let first = expression_within(alloc, tokens, room)?;
-    match bounds(alloc, tokens, room) {
-        Ok((step, last)) => Ok(Values { first, step, last }),
-        Err(fault) => {
-            drop(first);
-            Err(fault)
-        }
-    }
 }
 
 /// The label behind GO, GO TO or GOTO.
@@ -147,7 +87,7 @@ impl<F: Fn(Global, &mut Tokens<'_>, u8) -> Result<Stmt, Fault> + Copy> Statement
     fn boxed(&self, tokens: &mut Tokens<'_>) -> Result<Box<Stmt>, Fault>
         requires nests { Nests self.now.room (F.pre self.now.statement) (F.post self.now.statement) }
         requires room { 0 < self.now.room }
-        ensures { Reads pieces.in_box (nests.inner self.now.room tokens.old) result tokens.new }
+        ensures { Reads parts.in_box (nests.inner self.now.room tokens.old) result tokens.new }
     {
         Ok(Box::new(self.alloc, self.inside(tokens)?)?)
     }
@@ -291,7 +231,7 @@ impl<F: Fn(Global, &mut Tokens<'_>, u8) -> Result<Stmt, Fault> + Copy> Statement
     fn behind(&self, tokens: &mut Tokens<'_>, word: Reserved) -> Result<Box<Stmt>, Fault>
         requires nests { Nests self.now.room (F.pre self.now.statement) (F.post self.now.statement) }
         requires room { 0 < self.now.room }
-        ensures { Reads pieces.in_box (pieces.behind self.now.room word tokens.old) result tokens.new }
+        ensures { Reads parts.in_box (pieces.behind self.now.room word tokens.old) result tokens.new }
     {
         tokens.expect(Symbol::Word(word))?;
         self.boxed(tokens)
@@ -302,7 +242,7 @@ impl<F: Fn(Global, &mut Tokens<'_>, u8) -> Result<Stmt, Fault> + Copy> Statement
     fn otherwise(&self, tokens: &mut Tokens<'_>) -> Result<Option<Box<Stmt>>, Fault>
         requires nests { Nests self.now.room (F.pre self.now.statement) (F.post self.now.statement) }
         requires room { 0 < self.now.room }
-        ensures { Reads pieces.boxed (pieces.marked self.now.room (Symbol.Word Reserved.Else) tokens.old) result tokens.new }
+        ensures { Reads parts.boxed (pieces.marked self.now.room (Symbol.Word Reserved.Else) tokens.old) result tokens.new }
     {
         if same(tokens.peek()?, Symbol::Word(Reserved::Else)) {
             tokens.take()?;

@@ -8,7 +8,7 @@ use Rattle.spl_tree.specs.declared.statements.Stmt.TheVariants.{rolls-If}
 use Rattle.spl_tree.specs.declared.statements.Stmt.TheFolds.{fold-roll-Stmt}
 use Rattle.spl_tree.specs.StatementTrees as stat
 use Rattle.spl_tree.specs.Views.{test_tree, statement, statement_step}
-use Rattle.spl_statements.specs.Pieces.{boxed}
+use Rattle.spl_statement_parts.specs.Parts.{boxed}
 
 -- an IF, with ELSE and without
 pub if_tree : (q : Test) (b : Box Stmt Global) (e : Option (Box Stmt Global)) (at : At)
