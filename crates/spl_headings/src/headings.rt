@@ -1,5 +1,5 @@
 //! The headings of procedures and subroutines.
-ghost use Rattle.std.specs.Prelude.{◌≡◌, [], Option, Some, None};
+ghost use Rattle.std.specs.Prelude.{◌≡◌, IfOk, false, [], Option, Some, None};
 ghost use Rattle.spl_tree.specs.declared.symbols.Symbol.{Symbol};
 ghost use Rattle.spl_tree.specs.Spells as spells;
 ghost use Rattle.spl_reading.specs.Readers as readers;
@@ -123,7 +123,7 @@ fn segment_at(word: &Token, segment: Option<u16>) -> u16
     }
 }
 
-/// A heading without its options, of this segment or of that in force at its word.
+/// A heading without its options, so not split, of this segment or of that in force at its word.
 #[tactic(auto, using(spl_tokens::proofs::Steps::steps), unfolding(spl_reading::specs::Readers::pure, spl_reading::specs::Readers::refuse, spl_reading::specs::Readers::followed, spl_reading::specs::Readers::and_then, spl_reading::specs::ReadDeclarations::heading))]
 pub fn heading(
     alloc: Global,
@@ -131,7 +131,8 @@ pub fn heading(
     result_kind: Option<Kind>,
     segment: Option<u16>,
 ) -> Result<Heading, Fault>
-    ensures { Reads headings.heading (spec.heading result_kind (headings.segment_by segment) tokens.old) result tokens.new }
+    ensures read { Reads headings.heading (spec.heading result_kind (headings.segment_by segment) tokens.old) result tokens.new }
+    ensures unsplit { IfOk result (λ heading. heading.split ≡ false) }
 {
     let word = tokens.take()?;
     let token = tokens.expect(Symbol::Name)?;

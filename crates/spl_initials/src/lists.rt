@@ -7,6 +7,7 @@ ghost use Rattle.spl_sorts.specs.spl_meaning.Places as places;
 ghost use Rattle.spl_sorts.specs.spl_meaning.Runs as runs;
 ghost use Rattle.spl_sorts.specs.Tables.{table_of};
 ghost use Rattle.spl_places.specs.ListedData.{datum_of};
+ghost use Rattle.spl_places.specs.spl_found.OwnNames.{behind_declarations};
 ghost use Rattle.spl_places.specs.Spots.{place_in, behind_data};
 ghost use Rattle.spl_initials.specs.Memory.{memory_of};
 ghost use Rattle.spl_initials.specs.Cells.{cells_by, initials_by};
@@ -37,7 +38,7 @@ pub fn list_cells(
     Ok(list.next)
 }
 
-/// Stores the initial values of such a list of declarations, with the names outside it and those before it.
+/// Stores the initial values of such a list of declarations, with the names outside it and those before it, and declares what it does.
 /// Answers where the next list starts. An error is as in `list_cells`.
 pub fn list_initials(
     alloc: Global,
@@ -51,6 +52,7 @@ pub fn list_initials(
     declarations: &[Decl],
 ) -> Result<Starts, AllocError>
     ensures words { OnOk result (memory_of words.new ≡ places.put_initials runs.global_address (initials_by own (find (table_of outer.now)) (found_of (place_in area) (starts_of at) (map datum_of items.now)) (find (table_of here.old)) (decl.declarations (map view.declaration declarations.now))) (memory_of words.old)) }
+    ensures names { OnOk result (find (table_of here.new) ≡ behind_declarations (find (table_of outer.now)) (find (table_of here.old)) (decl.declarations (map view.declaration declarations.now))) }
     ensures next { IfOk result (λ next. next ≡ behind_data at (map datum_of items.now)) }
 {
     let list = list_places(alloc, area, at, items)?;
