@@ -13,7 +13,7 @@ use Rattle.spl_sorts.specs.spl_meaning.Faults.{Fault, first_fault}
 use Rattle.spl_sorts.specs.spl_meaning.DeclarationRules.{Around, initial_faults}
 use Rattle.spl_uses.specs.spl_found.OwnNames.{over, with_name, behind_items}
 use Rattle.spl_uses.specs.spl_found.FoundDeclarations.{found_initials, found_item, found_items}
-use Rattle.spl_lists.proofs.NameWalks.{onward, onward_end}
+use Rattle.spl_profiles.proofs.NameWalks.{onward, onward_end}
 
 pub initial_step : (names : Names) (k : Kind) (at : At) (list : List Const) (i : ℕ) (x : Const) (f : Option Fault) → i < length list → x ≡ get_or list i x
     → found_initials names k at (map view.constant (drop i list)) f

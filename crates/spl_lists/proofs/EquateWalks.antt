@@ -21,7 +21,7 @@ use Rattle.spl_sorts.specs.spl_meaning.DeclarationRules.{Around}
 use Rattle.spl_uses.specs.spl_found.OwnNames.{over, with_name, behind_equates}
 use Rattle.spl_uses.specs.spl_found.FoundDeclarations.{found_terms, found_equate, found_equates}
 use Rattle.spl_lists.specs.Sums.{equal_tree, IsSumOf}
-use Rattle.spl_lists.proofs.NameWalks.{onward, onward_end}
+use Rattle.spl_profiles.proofs.NameWalks.{onward, onward_end}
 
 -- ---- sums
 

@@ -1,8 +1,6 @@
-pub mod NameLemmas
-pub mod NameWalks
-pub mod HeadingWalks
-pub mod HeadingLaws
 pub mod OwnLemmas
 pub mod DataWalks
 pub mod ListWalks
 pub mod EquateWalks
+-- Passed on from the crates below.
+pub use Rattle.spl_profiles.proofs.NameWalks

@@ -13,7 +13,7 @@ use Rattle.spl_sorts.specs.spl_meaning.Faults.{Fault, unless, first_fault}
 use Rattle.spl_sorts.specs.spl_meaning.DeclarationRules.{Around}
 use Rattle.spl_uses.specs.spl_found.OwnNames.{with_name, behind_labels, behind_intrinsics, behind_declaration, behind_declarations}
 use Rattle.spl_uses.specs.spl_found.FoundDeclarations.{again, found_labels, found_intrinsics, found_local, found_locals}
-use Rattle.spl_lists.proofs.NameWalks.{onward, onward_end}
+use Rattle.spl_profiles.proofs.NameWalks.{onward, onward_end}
 
 -- ---- LABEL
 

@@ -9,8 +9,8 @@ use Rattle.spl_uses.specs.spl_found.OwnNames.{over, with_name}
 use Rattle.spl_uses.proofs.spl_found_proofs.OwnNames.{find_declared}
 use Rattle.spl_sorts.specs.declared.profiles.Formal.{Formal}
 use Rattle.spl_sorts.specs.Profiles.{formal_of}
-use Rattle.spl_lists.specs.Headings.{behind_formals}
-use Rattle.spl_lists.proofs.NameWalks.{onward, onward_end}
+use Rattle.spl_profiles.specs.Headings.{behind_formals}
+use Rattle.spl_profiles.proofs.NameWalks.{onward, onward_end}
 
 -- names outside that stand there twice
 seen_twice : (a b : Option Sort) → or_else a (or_else b b) ≡ or_else a b

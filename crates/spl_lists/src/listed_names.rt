@@ -6,8 +6,8 @@ ghost use Rattle.spl_uses.specs.spl_found.OwnNames.{behind_labels, behind_intrin
 ghost use Rattle.spl_uses.specs.spl_found.FoundDeclarations as found;
 ghost use Rattle.spl_sorts.specs.Tables.{table_of};
 
-use crate::gates::{intrinsic_named, intrinsic_sort};
 use crate::own::{again, declare};
+use spl_profiles::{intrinsic_named, intrinsic_sort};
 use spl_sorts::{Report, Sort, Table};
 use spl_tree::{At, Name};
 use std::alloc::{AllocError, Global};

@@ -11,10 +11,10 @@ ghost use Rattle.spl_sorts.specs.Tables.{table_of};
 ghost use Rattle.spl_lists.specs.Arounds.{around_of};
 
 use crate::data::{Data, items};
-use crate::headings::profile;
 use crate::listed_names::{intrinsics, labels};
 use crate::named_sums::equates;
 use crate::own::{Around, again, declare};
+use spl_profiles::profile;
 use spl_sorts::{Report, Sort, Table};
 use spl_tree::{Decl, Heading};
 use std::alloc::{AllocError, Global};

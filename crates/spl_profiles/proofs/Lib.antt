@@ -1,0 +1,4 @@
+pub mod NameLemmas
+pub mod NameWalks
+pub mod HeadingWalks
+pub mod HeadingLaws

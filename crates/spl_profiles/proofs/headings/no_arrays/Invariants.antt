@@ -1,0 +1,13 @@
+-- A loop over names.
+use Rattle.std.proofs.Common.{◌≡◌, map, drop}
+use Rattle.spl_tree.specs.Spells.{placed}
+use Rattle.spl_sorts.specs.spl_meaning.Names.{find}
+use Rattle.spl_profiles.specs.Listings.{listed_of}
+use Rattle.spl_profiles.specs.Headings.{found_failing, no_array}
+use Rattle.spl_profiles.proofs.headings.no_arrays.Given as goal
+
+-- what is found from here on is what is found in all
+abbrev pub invariant-loop-name : goal.invariant-loop-name
+invariant-loop-name l =
+    found_failing (no_array (find (listed_of l.listings))) (map placed (drop l.name-index l.values)) l.report
+    ≡ found_failing (no_array (find (listed_of l.listings))) (map placed l.values) l.initial.report
