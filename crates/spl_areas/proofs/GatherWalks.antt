@@ -19,7 +19,7 @@ use Rattle.spl_places.specs.ListedData.{Datum, list_data}
 use Rattle.spl_places.specs.Programs.{unit_items, routine_items, all_globals, all_locals, Each, NewInRoutine}
 use Rattle.spl_places.proofs.CounterLaws.{among_both}
 use Rattle.spl_places.proofs.ProgramLaws.{local_is}
-use Rattle.spl_areas.specs.Gathered.{items_in, items_among, passed_in, passed_among, passed_in_units}
+use Rattle.spl_places.specs.Gathered.{items_in, items_among, passed_in, passed_among, passed_in_units}
 
 append_same : {A : Type 0} (xs ys zs : List A) → xs ++ ys ++ zs ≡ xs ++ (ys ++ zs)
 append_same [] ys zs = refl

@@ -1,5 +1,5 @@
-pub mod Gathered
 -- Passed on from the crates below.
+pub use Rattle.spl_places.specs.Gathered
 pub use Rattle.spl_places.specs.spl_spots
 pub use Rattle.spl_places.specs.spl_found
 pub use Rattle.spl_places.specs as spl_places

@@ -10,7 +10,7 @@ ghost use Rattle.spl_sorts.specs.Tables.{table_of};
 ghost use Rattle.spl_sound.specs.Spelled.{source_of};
 ghost use Rattle.spl_places.specs.ListedData.{datum_of};
 ghost use Rattle.spl_places.specs.Programs as programs;
-ghost use Rattle.spl_areas.specs.Gathered.{items_under, items_in, items_among};
+ghost use Rattle.spl_places.specs.Gathered.{items_under, items_in, items_among};
 
 use spl_places::spl_lists::{formals, parameters};
 use spl_places::{Datum, declarations, declare_all};

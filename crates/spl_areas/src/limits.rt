@@ -11,7 +11,7 @@ ghost use Rattle.spl_sorts.specs.Tables.{table_of};
 ghost use Rattle.spl_sound.specs.Spelled.{source_of};
 ghost use Rattle.spl_places.specs.Programs.{NewInAll};
 ghost use Rattle.spl_places.specs.Passed.{local_passed};
-ghost use Rattle.spl_areas.specs.Gathered.{items_under, passed_in, passed_among, passed_in_units};
+ghost use Rattle.spl_places.specs.Gathered.{items_under, passed_in, passed_among, passed_in_units};
 
 use crate::gather::{all_globals, all_locals, list_items, nothing};
 use spl_places::spl_spots::FirstFull;

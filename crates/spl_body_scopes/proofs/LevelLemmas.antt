@@ -7,7 +7,7 @@ use Rattle.spl_sorts.specs.declared.profiles.Formal as code
 use Rattle.spl_sorts.specs.Profiles.{formal_of}
 use Rattle.spl_places.specs.declared.data.Datum as item
 use Rattle.spl_places.specs.ListedData.{datum_of, list_data}
-use Rattle.spl_areas.specs.Gathered.{items_under}
+use Rattle.spl_places.specs.Gathered.{items_under}
 use Rattle.spl_sorts.specs.spl_meaning.Places.{Place}
 use Rattle.spl_places.specs.NameMaps.{behind_table}
 use Rattle.spl_body_scopes.specs.Levels.{Level, Spots}

@@ -23,7 +23,7 @@ use Rattle.spl_places.specs.Held.{named}
 use Rattle.spl_places.specs.Programs.{routine_items, Each, NewInUnit, NewInRoutine}
 use Rattle.spl_places.proofs.HeldLaws.{held_declarations}
 use Rattle.spl_places.proofs.ProgramLaws.{routine_held, item_words_held, places_held}
-use Rattle.spl_areas.specs.Gathered.{items_under, items_in}
+use Rattle.spl_places.specs.Gathered.{items_under, items_in}
 use Rattle.spl_scopes.specs.spl_code.Calls.{Scope}
 use Rattle.spl_scopes.specs.Entries.{Owner, main, routine, Entry, routines_behind, module_entries, procedure_index, subroutine_index}
 use Rattle.spl_scopes.specs.Scopes.{Placed, first_reached, placed_units, global_places, routine_bodies, outer_body, inner_body, segment_of, scope_with}

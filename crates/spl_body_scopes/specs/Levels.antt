@@ -11,7 +11,7 @@ use Rattle.spl_places.specs.NameMaps.{entries_of, shown}
 use Rattle.spl_places.specs.Spots.{spot_of}
 use Rattle.spl_places.specs.ListedData.{Datum, list_data}
 use Rattle.spl_places.specs.Held.{named}
-use Rattle.spl_areas.specs.Gathered.{items_under}
+use Rattle.spl_places.specs.Gathered.{items_under}
 use Rattle.spl_scopes.specs.spl_code.Calls.{Scope}
 use Rattle.spl_body_scopes.specs.declared.levels.Level as code
 

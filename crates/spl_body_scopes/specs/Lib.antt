@@ -6,6 +6,6 @@ pub mod Walks
 pub mod Found
 pub mod Units
 -- Passed on from the crates below.
-pub use Rattle.spl_areas.specs as spl_areas
+pub use Rattle.spl_places.specs as spl_places
 pub use Rattle.spl_gen_expr.specs.spl_found
 pub use Rattle.spl_gen_expr.specs as spl_gen_expr

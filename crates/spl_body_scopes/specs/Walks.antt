@@ -11,7 +11,7 @@ use Rattle.spl_sorts.specs.spl_meaning.Bodies.{named_bodies}
 use Rattle.spl_gen_expr.specs.spl_found.OwnNames.{behind_declaration}
 use Rattle.spl_places.specs.Counters.{total_words}
 use Rattle.spl_places.specs.Programs.{Each, NewInUnit, NewInRoutine, NewInAll}
-use Rattle.spl_areas.specs.Gathered.{items_in}
+use Rattle.spl_places.specs.Gathered.{items_in}
 use Rattle.spl_scopes.specs.Entries.{Owner, main, routine, routines_behind, module_entries, procedure_index, subroutine_index}
 use Rattle.spl_scopes.specs.Scopes.{Placed, unit_at, global_places, routine_bodies, outer, inner, scope_in}
 use Rattle.spl_scopes.specs.spl_code.Calls.{Scope}

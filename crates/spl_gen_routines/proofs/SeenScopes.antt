@@ -13,7 +13,7 @@ use Rattle.spl_statement_scopes.specs.spl_places.ListedData.{Datum, datum_of, li
 use Rattle.spl_statement_scopes.specs.spl_places.NameMaps.{entries_of, shown}
 use Rattle.spl_statement_scopes.specs.spl_places.Spots.{spot_of, array_of, frame_starts}
 use Rattle.spl_statement_scopes.specs.spl_places.Held.{named}
-use Rattle.spl_statement_scopes.specs.spl_areas.Gathered.{items_under}
+use Rattle.spl_statement_scopes.specs.spl_places.Gathered.{items_under}
 use Rattle.spl_gen_body.specs.spl_rooms.declared.room_type.Room.{Room}
 use Rattle.spl_branch.specs.declared.buffer.Code.{Code}
 use Rattle.spl_gen_body.specs.spl_code.Calls.{Scope}

@@ -8,7 +8,7 @@ ghost use Rattle.spl_sorts.specs.spl_meaning.Names.{find};
 ghost use Rattle.spl_sorts.specs.spl_meaning.StatementRules.{label_faults};
 ghost use Rattle.spl_sorts.specs.Tables.{table_of};
 ghost use Rattle.spl_statement_scopes.specs.spl_places.ListedData.{datum_of};
-ghost use Rattle.spl_statement_scopes.specs.spl_areas.Gathered.{items_under};
+ghost use Rattle.spl_statement_scopes.specs.spl_places.Gathered.{items_under};
 ghost use Rattle.spl_branch.specs.Pieces.{is_settable};
 ghost use Rattle.spl_branch.specs.declared.pieces.Piece.TheVariants as p;
 ghost use Rattle.spl_statement_scopes.specs.spl_body_scopes.Levels.{level_of};

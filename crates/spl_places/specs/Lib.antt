@@ -4,6 +4,7 @@ pub mod Held
 pub mod Passed
 pub mod Spots
 pub mod Programs
+pub mod Gathered
 pub mod Apart
 pub mod KnownSpots
 -- Passed on from the crates below.

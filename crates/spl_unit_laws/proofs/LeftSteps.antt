@@ -14,7 +14,7 @@ use Rattle.spl_sound_labels.specs.spl_places.ListedData.{Datum}
 use Rattle.spl_sound_labels.specs.spl_places.Counters.{total_words}
 use Rattle.spl_sound_labels.specs.spl_places.Programs.{Each, NewInUnit, NewInRoutine, routine_items, unit_items}
 use Rattle.spl_sound_labels.proofs.spl_places_proofs.ProgramLaws.{unit_held, routine_held, item_words_held}
-use Rattle.spl_routine_code.specs.spl_areas.Gathered.{items_under, items_in}
+use Rattle.spl_routine_code.specs.spl_places.Gathered.{items_under, items_in}
 use Rattle.spl_routine_code.specs.spl_scopes.Entries.{routines_behind}
 use Rattle.spl_routine_code.specs.spl_scopes.Scopes.{Placed, first_reached, placed_units, global_places, routine_bodies}
 use Rattle.spl_routine_code.specs.spl_body_scopes.Walks.{State, behind, routines_own, Left, first_state}

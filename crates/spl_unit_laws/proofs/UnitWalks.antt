@@ -14,7 +14,7 @@ use Rattle.spl_routine_code.specs.spl_found.OwnNames.{behind_declarations}
 use Rattle.spl_sound_labels.specs.spl_places.Counters.{total_words}
 use Rattle.spl_sound_labels.specs.spl_places.Programs.{routine_items}
 use Rattle.spl_sound_labels.proofs.spl_places_proofs.ProgramLaws.{routine_held, array_words_held}
-use Rattle.spl_routine_code.specs.spl_areas.Gathered.{items_under}
+use Rattle.spl_routine_code.specs.spl_places.Gathered.{items_under}
 use Rattle.spl_routine_code.specs.spl_rooms.declared.room_type.Room.{Room}
 use Rattle.spl_routine_code.specs.spl_rooms.Rooms as r
 use Rattle.spl_routine_code.specs.spl_rooms.Rooms.{room_within}

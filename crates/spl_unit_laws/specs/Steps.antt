@@ -9,7 +9,7 @@ use Rattle.spl_sound_labels.specs.spl_meaning.Places.{item_words, array_words}
 use Rattle.spl_sound_labels.specs.spl_meaning.StatementRules.{label_faults}
 use Rattle.spl_routine_code.specs.spl_found.OwnNames.{behind_declaration}
 use Rattle.spl_sound_labels.specs.spl_places.Counters.{total_words}
-use Rattle.spl_routine_code.specs.spl_areas.Gathered.{items_under}
+use Rattle.spl_routine_code.specs.spl_places.Gathered.{items_under}
 use Rattle.spl_routine_code.specs.spl_body_scopes.Levels.{Level, routine_level}
 use Rattle.spl_routine_code.specs.spl_body_scopes.Results.{routine_result}
 use Rattle.spl_routine_code.specs.Generates.{AreOpen}

@@ -5,7 +5,7 @@ use Rattle.spl_tree.specs.DeclarationTrees.{declarations}
 use Rattle.spl_tree.specs.Spells.{declaration}
 use Rattle.spl_sound.specs.spl_meaning.Names.{nothing_declared}
 use Rattle.spl_places.specs.ListedData.{datum_of}
-use Rattle.spl_areas.specs.Gathered.{items_among}
+use Rattle.spl_places.specs.Gathered.{items_among}
 use Rattle.spl_areas.proofs.GatherWalks.{units_more}
 use Rattle.spl_areas.proofs.gather.all_locals.Goals as goal
 

@@ -5,7 +5,7 @@ use Rattle.spl_tree.specs.Spells.{declaration}
 use Rattle.spl_sound.specs.spl_meaning.Names.{Names, find}
 use Rattle.spl_sorts.specs.Tables.{table_of}
 use Rattle.spl_places.specs.ListedData.{datum_of}
-use Rattle.spl_areas.specs.Gathered.{items_among}
+use Rattle.spl_places.specs.Gathered.{items_among}
 use Rattle.spl_areas.proofs.GatherWalks.{unit_more}
 use Rattle.spl_areas.proofs.gather.unit_locals.Goals as goal
 

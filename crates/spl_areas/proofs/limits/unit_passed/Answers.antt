@@ -4,7 +4,7 @@ use Rattle.spl_tree.specs.DeclarationTrees.{declarations}
 use Rattle.spl_tree.specs.Spells.{declaration}
 use Rattle.spl_sound.specs.spl_meaning.Names.{Names, find}
 use Rattle.spl_sorts.specs.Tables.{table_of}
-use Rattle.spl_areas.specs.Gathered.{passed_among}
+use Rattle.spl_places.specs.Gathered.{passed_among}
 use Rattle.spl_areas.proofs.GatherWalks.{passed_more}
 use Rattle.spl_areas.proofs.limits.unit_passed.Goals as goal
 

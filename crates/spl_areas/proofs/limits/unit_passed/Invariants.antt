@@ -4,7 +4,7 @@ use Rattle.spl_tree.specs.DeclarationTrees.{declarations}
 use Rattle.spl_tree.specs.Spells.{declaration}
 use Rattle.spl_sound.specs.spl_meaning.Names.{find, nothing_declared}
 use Rattle.spl_sorts.specs.Tables.{table_of}
-use Rattle.spl_areas.specs.Gathered.{passed_among}
+use Rattle.spl_places.specs.Gathered.{passed_among}
 use Rattle.spl_areas.proofs.limits.unit_passed.Given as goal
 
 -- the first limit with the procedures from here on is that with all

@@ -1,7 +1,7 @@
 -- A loop over units.
 use Rattle.std.proofs.Common.{◌≡◌, map, drop}
 use Rattle.spl_sound.specs.Spelled.{source_of}
-use Rattle.spl_areas.specs.Gathered.{passed_in_units}
+use Rattle.spl_places.specs.Gathered.{passed_in_units}
 use Rattle.spl_areas.proofs.limits.units_passed.Given as goal
 
 -- the first limit with the units from here on is that with all

@@ -13,7 +13,7 @@ use Rattle.spl_statement_scopes.specs.spl_places.declared.data.Datum as code
 use Rattle.spl_statement_scopes.specs.spl_places.ListedData.{datum_of}
 use Rattle.spl_statement_scopes.specs.spl_places.Held.{named}
 use Rattle.spl_statement_scopes.specs.spl_places.Spots.{frame_starts}
-use Rattle.spl_statement_scopes.specs.spl_areas.Gathered.{items_under}
+use Rattle.spl_statement_scopes.specs.spl_places.Gathered.{items_under}
 use Rattle.spl_gen_body.proofs.spl_operations_proofs.PutLemmas.{ok_then}
 use Rattle.spl_gen_body.specs.spl_gen_expr.Scopes.{scope_of}
 use Rattle.spl_statement_scopes.specs.spl_body_scopes.Levels.{Level}

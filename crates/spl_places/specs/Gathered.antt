@@ -2,10 +2,10 @@
 use Rattle.std.specs.Prelude.{List, [], ◌∷◌, ◌++◌, Option}
 use Rattle.spl_tree.specs.DeclarationTrees as decl
 use Rattle.spl_tree.specs.DeclarationTrees.{Heading, Declaration, Declarations, declarations}
-use Rattle.spl_sound.specs.spl_meaning.Names.{Names, find, nothing_declared, parameters, formals_of}
-use Rattle.spl_sound.specs.spl_meaning.Tables.{Source}
-use Rattle.spl_sound.specs.spl_meaning.Limits.{Full, first_among}
-use Rattle.spl_places.specs.spl_found.OwnNames.{behind_declaration}
+use Rattle.spl_sorts.specs.spl_meaning.Names.{Names, find, nothing_declared, parameters, formals_of}
+use Rattle.spl_sorts.specs.spl_meaning.Tables.{Source}
+use Rattle.spl_sorts.specs.spl_meaning.Limits.{Full, first_among}
+use Rattle.spl_spots.specs.spl_found.OwnNames.{behind_declaration}
 use Rattle.spl_places.specs.ListedData.{Datum, list_data}
 use Rattle.spl_places.specs.Passed.{local_passed}
 
