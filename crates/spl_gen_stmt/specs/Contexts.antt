@@ -4,8 +4,8 @@ use Rattle.spl_operations.specs.spl_spots.declared.name_maps.NameMap.{NameMap}
 use Rattle.spl_gen_expr.specs.declared.scopes.Scope.{Scope}
 use Rattle.spl_gen_expr.specs.Scopes.{scope_of}
 use Rattle.spl_statement_code.specs.Landings as code
-use Rattle.spl_landings.specs.declared.label_marks.Landing.{Landing}
-use Rattle.spl_landings.specs.Landings.{landings_of}
+use Rattle.spl_landing_maps.specs.declared.landing.Landing.{Landing}
+use Rattle.spl_landing_maps.specs.Landings.{landings_of}
 use Rattle.spl_gen_stmt.specs.declared.contexts.Context.{Context}
 
 -- a scope, labels, and the mark of the way out

@@ -1,6 +1,6 @@
 //! What the code of the statements of a body is made with.
 use spl_gen_expr::Scope;
-use spl_landings::Landing;
+use spl_landing_maps::Landing;
 use spl_operations::spl_spots::NameMap;
 
 /// The scope of a body, its labels, and the mark of its way out.

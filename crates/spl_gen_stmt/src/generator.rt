@@ -14,7 +14,7 @@ use crate::contexts::Context;
 use crate::statements::{listed, statement};
 use spl_branch::Code;
 use spl_gen_expr::Scope;
-use spl_landings::Landing;
+use spl_landing_maps::Landing;
 use spl_operations::spl_spots::NameMap;
 use spl_tree::Stmt;
 use std::alloc::AllocError;

@@ -7,7 +7,7 @@ ghost use Rattle.spl_statement_code.specs.Landings as landings;
 ghost use Rattle.spl_statement_code.specs.Landings.{IsMade};
 ghost use Rattle.spl_statement_code.specs.Labels.{AppendsSetting, CanBeSet, mark_of};
 ghost use Rattle.spl_gen_stmt.specs.Contexts.{context_of};
-ghost use Rattle.spl_landings.specs.Landings.{landings_of};
+ghost use Rattle.spl_landing_maps.specs.Landings.{landings_of};
 
 use crate::contexts::Context;
 use crate::puts::subtract_words;

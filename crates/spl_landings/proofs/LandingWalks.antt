@@ -9,8 +9,8 @@ use Rattle.spl_spots.specs.declared.name_maps.NameMap.{NameMap}
 use Rattle.spl_spots.specs.NameMaps.{entries_of, shown, behind_table}
 use Rattle.spl_spots.proofs.NameMapLemmas.{shown_added, behind_more, behind_none, behind_empty}
 use Rattle.spl_module_code.specs.spl_statement_code.Landings as there
-use Rattle.spl_landings.specs.declared.label_marks.Landing.{Landing}
-use Rattle.spl_landings.specs.Landings.{landing_of, landings_of}
+use Rattle.spl_landing_maps.specs.declared.landing.Landing.{Landing}
+use Rattle.spl_landing_maps.specs.Landings.{landing_of, landings_of}
 use Rattle.spl_module_code.specs.LabelsOfBodies.{landed_from}
 use Rattle.spl_module_code.specs.LabelsOfBodies as code
 use Rattle.spl_landings.specs.declared.label_lists.Label.{Label}

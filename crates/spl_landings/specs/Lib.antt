@@ -1,4 +1,3 @@
 pub mod Labels
-pub mod Landings
 -- Passed on from the crates below.
 pub use Rattle.spl_module_code.specs as spl_module_code

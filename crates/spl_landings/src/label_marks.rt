@@ -4,22 +4,15 @@ ghost use Rattle.spl_tree.specs.Views as view;
 ghost use Rattle.spl_tree.specs.StatementTrees as trees;
 ghost use Rattle.spl_module_code.specs.spl_meaning.Names.{find};
 ghost use Rattle.spl_branch.specs.Codes.{SameFrame};
-ghost use Rattle.spl_landings.specs.Landings.{landings_of};
+ghost use Rattle.spl_landing_maps.specs.Landings.{landings_of};
 ghost use Rattle.spl_module_code.specs.LabelsOfBodies.{labels_among, landed_from};
 
 use crate::label_lists::labels;
 use spl_branch::Code;
+use spl_landing_maps::Landing;
 use spl_spots::NameMap;
 use spl_tree::Stmt;
 use std::alloc::{AllocError, Global};
-
-/// Where a label leads.
-#[derive(Clone, Copy, Debug, PartialEq, Eq, Drop)]
-pub struct Landing {
-    pub mark: usize,
-    /// The words that wait in the list that bears the label.
-    pub pending: u16,
-}
 
 /// A number of words that wait, as a landing has it. In a body they are fewer than 65,536, since statements nest at most 64
 /// deep.

@@ -5,4 +5,4 @@ mod label_lists;
 mod label_marks;
 
 pub use label_lists::{Label, labels};
-pub use label_marks::{Landing, landings};
+pub use label_marks::landings;

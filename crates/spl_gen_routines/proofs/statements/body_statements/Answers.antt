@@ -5,7 +5,7 @@ use Rattle.spl_tree.specs.StatementTrees as trees
 use Rattle.spl_gen_body.proofs.spl_operations_proofs.PutLemmas.{ok_then}
 use Rattle.spl_gen_body.specs.spl_gen_expr.Scopes.{scope_of}
 use Rattle.spl_gen_stmt.specs.Contexts.{context_by}
-use Rattle.spl_landings.specs.Landings.{landings_of}
+use Rattle.spl_gen_stmt.specs.spl_landing_maps.Landings.{landings_of}
 use Rattle.spl_landings.specs.spl_module_code.LabelsOfBodies.{labels_among}
 use Rattle.spl_routine_code.proofs.BodyMarks.{marks_made, marks_free, body_done, words_more}
 use Rattle.spl_gen_routines.proofs.statements.body_statements.Goals as goal

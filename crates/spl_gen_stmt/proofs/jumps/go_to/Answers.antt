@@ -2,7 +2,7 @@
 use Rattle.std.proofs.Common.{ap, sym, ◌∙◌, option_map}
 use Rattle.spl_tree.specs.Views.{letters}
 use Rattle.spl_operations.proofs.PutLemmas.{ok_then}
-use Rattle.spl_landings.specs.Landings.{landing_of, landings_of}
+use Rattle.spl_landing_maps.specs.Landings.{landing_of, landings_of}
 use Rattle.spl_gen_stmt.proofs.PartLemmas.{gone}
 use Rattle.spl_gen_stmt.proofs.jumps.go_to.Goals as goal
 

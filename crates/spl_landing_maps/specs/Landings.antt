@@ -1,10 +1,10 @@
 -- Where labels lead, as the definition of code has it.
 use Rattle.std.specs.Prelude.{ℕ, List, Option, option_map}
-use Rattle.spl_module_code.specs.spl_meaning.Names.{find}
+use Rattle.spl_statement_code.specs.spl_meaning.Names.{find}
 use Rattle.spl_spots.specs.declared.name_maps.NameMap.{NameMap}
 use Rattle.spl_spots.specs.NameMaps.{entries_of}
-use Rattle.spl_module_code.specs.spl_statement_code.Landings as code
-use Rattle.spl_landings.specs.declared.label_marks.Landing.{Landing}
+use Rattle.spl_statement_code.specs.Landings as code
+use Rattle.spl_landing_maps.specs.declared.landing.Landing.{Landing}
 
 -- where a label leads
 abbrev pub landing_of : Landing → code.Landing
