@@ -1,16 +1,11 @@
 -- Sums along declarations.
-use Rattle.std.proofs.Common.{◌≡◌, ◌<◌, ◌≤◌, ℕ, ◌+◌, List, map, drop, length, get_or, Some, ap, arith}
-use Rattle.std.specs.Prelude.{unwrap_or}
+use Rattle.std.proofs.Common.{◌≡◌, ◌<◌, ◌≤◌, ℕ, ◌+◌, List, map, drop, length, get_or, arith}
 use Rattle.spl_tree.specs.declared.declarations.Decl.{Decl}
 use Rattle.spl_tree.specs.DeclarationTrees.{declarations}
 use Rattle.spl_tree.specs.Spells.{declaration}
 use Rattle.spl_unit_laws.proofs.spl_lists_proofs.NameWalks.{onward, onward_end}
 use Rattle.spl_unit_laws.specs.spl_routine_code.Routines.{inner_count, inners_among}
 use Rattle.spl_unit_laws.specs.Units.{routine_rooms, rooms_among}
-
--- values in a Some
-pub some_inside : {A : Type 0} (x y : A) → Some x ≡ Some y → x ≡ y
-some_inside x y is = ap (λ o. unwrap_or o x) is
 
 pub inner_onward : (list : List Decl) (i : ℕ) (d : Decl) → i < length list → d ≡ get_or list i d
     → inners_among (declarations (map declaration (drop i list))) ≡ inner_count (declaration d) + inners_among (declarations (map declaration (drop (i + 1) list)))

@@ -1,4 +1,2 @@
-pub mod Views
-pub mod Bodies
 -- Passed on from the crates below.
 pub use Rattle.spl_layout.specs as spl_layout

@@ -2,7 +2,6 @@
 #![tactic(auto)]
 
 mod compiling;
-mod fixed;
 mod units;
 mod walk;
 

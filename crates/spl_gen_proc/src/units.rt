@@ -9,21 +9,19 @@ ghost use Rattle.spl_sound.specs.Spelled.{source_of};
 ghost use Rattle.spl_branch.specs.Pieces.{is_settable};
 ghost use Rattle.spl_branch.specs.declared.pieces.Piece.TheVariants as p;
 ghost use Rattle.spl_unit_laws.specs.spl_body_scopes.Levels.{level_of};
-ghost use Rattle.spl_gen_proc.specs.Views.{fixed_of, levels_behind};
-ghost use Rattle.spl_gen_proc.specs.Bodies.{known_at, BodiesStand, PartsPicked, UnitMade};
+ghost use Rattle.spl_unit_walks.specs.Views.{fixed_of};
+ghost use Rattle.spl_unit_walks.specs.Bodies.{known_at, BodiesStand, UnitMade};
 ghost use Rattle.spl_unit_laws.specs.spl_modules.Walks.{walk_of};
 ghost use Rattle.spl_unit_laws.specs.spl_modules.UnitModules.{IsUnitModules};
 ghost use Rattle.spl_unit_laws.specs.spl_routine_code.Routines.{room_at};
 ghost use Rattle.spl_unit_laws.specs.Steps.{AreFree};
-ghost use Rattle.spl_unit_laws.specs.spl_unit_codes.Slots.{AreComplete};
 ghost use Rattle.spl_unit_laws.specs.Begins.{UnitBegins};
 ghost use Rattle.spl_unit_laws.specs.Units as u;
 ghost use Rattle.spl_unit_laws.specs.Units.{MainGrows, MainStep, OnceInBodies, UnitAppended};
 
-use crate::fixed::Fixed;
-use crate::walk::{inners, procedures, walk};
+use crate::walk::{inners, walk};
 use spl_branch::Module;
-use spl_gen_routines::spl_body_scopes::{Level, declare, unit_level};
+use spl_gen_routines::spl_body_scopes::{Level, unit_level};
 use spl_gen_routines::spl_gen_expr::Entries;
 use spl_gen_routines::{main_body, room_at};
 use spl_layout::spl_rooms::Room;
@@ -31,28 +29,10 @@ use spl_tree::{Decl, Name, SplUnit};
 use spl_unit_laws::spl_modules::unit_entries;
 use spl_unit_laws::spl_places::NameMap;
 use spl_unit_laws::spl_spots::plus;
-use spl_unit_laws::spl_unit_codes::{Growing, begin, finish, pick, segment_numbers};
+use spl_unit_laws::spl_unit_codes::{Growing, begin};
 use spl_unit_laws::{Cursor, Start};
+use spl_unit_walks::{Fixed, picked_parts, segment_procedures, whole_level};
 use std::alloc::{AllocError, Global};
-
-/// Declares all of a unit's declarations.
-fn declare_all(alloc: Global, level: &mut Level, list: &[Decl]) -> Result<(), AllocError>
-    ensures { OnOk result (level_of level.new ≡ levels_behind (level_of level.old) (decl.declarations (map declaration list.now))) }
-{
-    for item in list {
-        declare(alloc, level, item)?;
-    }
-    Ok(())
-}
-
-/// The level of a unit's list, behind all declarations.
-fn whole_level(alloc: Global, primary: u64, unit: &SplUnit) -> Result<Level, AllocError>
-    ensures { IfOk result (λ level. level_of level ≡ u.whole_level (source_of unit.now) primary) }
-{
-    let (mut level, _next) = unit_level(alloc, primary, unit)?;
-    declare_all(alloc, &mut level, &unit.items)?;
-    Ok(level)
-}
 
 /// How many rooms a declaration has, where it is a procedure, with those of its subroutines.
 fn routine_rooms(item: &Decl) -> Result<u64, AllocError>
@@ -109,7 +89,7 @@ fn grow_main(
     ensures { OnOk result (MainGrows (fixed_of fixed.now) (source_of fixed.now.unit.now).tree.statements room.depth part.old part.new) }
 {
     let entries = Entries {
-        procedures: procedures(fixed, fixed.unit.segment),
+        procedures: segment_procedures(fixed, fixed.unit.segment),
         subroutines: &fixed.entries.main,
     };
     main_body(
@@ -161,23 +141,6 @@ fn unit_bodies(
     let last = walk(alloc, fixed, level, first, parts)?;
     main_part(alloc, fixed, room_at(fixed.rooms, at.room), parts)?;
     Ok(last)
-}
-
-/// Appends the modules that the codes of a unit become, along the names of segments as the program uses these.
-fn picked_parts(
-    alloc: Global,
-    unit: &SplUnit,
-    parts: Vec<Growing>,
-    names: &[Name],
-    modules: &mut Vec<Module>,
-) -> Result<(), AllocError>
-    requires { AreComplete parts.items }
-    ensures { OnOk result (PartsPicked (source_of unit.now) (map letters names.now) parts.items modules.old.items modules.new.items) }
-{
-    let slots = finish(alloc, parts)?;
-    let numbers = segment_numbers(alloc, unit)?;
-    pick(&numbers, slots, names, modules)?;
-    Ok(())
 }
 
 /// Appends the modules of a unit of which this is known, and answers where the data and rooms of the next begin.

@@ -9,46 +9,25 @@ ghost use Rattle.spl_sound.specs.spl_meaning.Names.{find};
 ghost use Rattle.spl_sound.specs.spl_meaning.StatementRules.{label_faults};
 ghost use Rattle.spl_unit_laws.specs.spl_sorts.Tables.{table_of};
 ghost use Rattle.spl_sound.specs.Spelled.{source_of};
-ghost use Rattle.spl_unit_laws.specs.spl_places.NameMaps.{entries_of};
 ghost use Rattle.spl_unit_laws.specs.spl_body_scopes.Levels.{level_of};
 ghost use Rattle.spl_unit_laws.specs.spl_routine_code.Generates.{AreOpen};
 ghost use Rattle.spl_unit_laws.specs.spl_routine_code.Routines as r;
 ghost use Rattle.spl_unit_laws.specs.spl_routine_code.Routines.{OnceAmong, InnerStands, RoutineStands};
 ghost use Rattle.spl_gen_routines.specs.Views.{around_of, routine_around};
-ghost use Rattle.spl_gen_proc.specs.Views.{fixed_of};
+ghost use Rattle.spl_unit_walks.specs.Views.{fixed_of};
 ghost use Rattle.spl_unit_laws.specs.Steps.{Grows, RoutineGrows, InnerGrows, cursor_behind, cursor_inner, IsFree, AreFree, OnceInUnit, OnceInAll, PartsStep, Steps};
 
-use crate::fixed::Fixed;
 use spl_gen_routines::spl_body_scopes::{Level, declare, routine_level};
 use spl_gen_routines::spl_gen_expr::Entries;
 use spl_gen_routines::{Around, Declared, inner_count, listed_items, room_at, routine, subroutine};
 use spl_layout::spl_rooms::Room;
 use spl_tree::{Body, Decl, Heading, Stmt};
 use spl_unit_laws::Cursor;
-use spl_unit_laws::spl_places::{NameMap, Part, total};
+use spl_unit_laws::spl_places::{Part, total};
 use spl_unit_laws::spl_spots::plus;
 use spl_unit_laws::spl_unit_codes::Growing;
+use spl_unit_walks::{Fixed, own_subroutines, segment_procedures};
 use std::alloc::{AllocError, Global};
-
-/// The indexes of the procedures of a segment.
-pub fn procedures<'t>(fixed: &Fixed<'t>, segment: u16) -> &'t NameMap<usize>
-    ensures { find (entries_of result.now) ≡ (fixed_of fixed.now).procedures segment }
-{
-    match fixed.entries.procedures(segment) {
-        Some(map) => map,
-        None => fixed.nothing,
-    }
-}
-
-/// The indexes of a procedure's subroutines.
-fn inner<'t>(fixed: &Fixed<'t>, routine: u64) -> &'t NameMap<usize>
-    ensures { find (entries_of result.now) ≡ (fixed_of fixed.now).inner routine }
-{
-    match fixed.entries.inner(routine as usize) {
-        Some(map) => map,
-        None => fixed.nothing,
-    }
-}
 
 /// How many subroutines a list has.
 pub fn inners(list: &[Decl]) -> Result<u64, AllocError>
@@ -103,8 +82,8 @@ fn procedure(
         own: &own,
         outer,
         entries: Entries {
-            procedures: procedures(fixed, heading.segment),
-            subroutines: inner(fixed, at.routines),
+            procedures: segment_procedures(fixed, heading.segment),
+            subroutines: own_subroutines(fixed, at.routines),
         },
         first_own: at.own,
         first_array: at.own_arrays,
@@ -170,7 +149,7 @@ fn main_inner(
         outer: fixed.whole,
         result: &None,
         entries: Entries {
-            procedures: procedures(fixed, fixed.unit.segment),
+            procedures: segment_procedures(fixed, fixed.unit.segment),
             subroutines: &fixed.entries.main,
         },
     };

@@ -2,7 +2,7 @@
 use Rattle.std.proofs.Common.{map}
 use Rattle.spl_tree.specs.Views.{letters}
 use Rattle.spl_sound.specs.Spelled.{source_of}
-use Rattle.spl_gen_proc.proofs.UnitsWalks.{units_first, units_next, unit_once, unit_begin, units_done}
+use Rattle.spl_unit_walks.proofs.UnitsWalks.{units_first, units_next, unit_once, unit_begin, units_done}
 use Rattle.spl_gen_proc.proofs.compiling.all_modules.Goals as goal
 
 pub loop-unit-init : goal.loop-unit-init

@@ -2,7 +2,7 @@
 use Rattle.std.proofs.Common.{map, drop}
 use Rattle.spl_tree.specs.Views.{letters}
 use Rattle.spl_sound.specs.Spelled.{source_of}
-use Rattle.spl_gen_proc.proofs.UnitsWalks.{UnitsWalk}
+use Rattle.spl_unit_walks.proofs.UnitsWalks.{UnitsWalk}
 use Rattle.spl_gen_proc.proofs.compiling.all_modules.Given as goal
 
 -- these units are left

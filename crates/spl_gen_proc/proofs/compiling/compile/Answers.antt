@@ -11,7 +11,7 @@ use Rattle.spl_unit_laws.specs.spl_module_code.Modules.{program_uses}
 use Rattle.spl_unit_laws.specs.Units.{OnceInBodies, UnitsStand}
 use Rattle.spl_unit_laws.proofs.Modules.{once}
 use Rattle.spl_unit_laws.specs.Begins.{UnitsBegin}
-use Rattle.spl_gen_proc.proofs.Compiled.{compiled, units_begin}
+use Rattle.spl_unit_walks.proofs.Compiled.{compiled, units_begin}
 use Rattle.spl_gen_proc.proofs.compiling.compile.Goals as goal
 
 pub first_areas-requires : goal.first_areas-requires

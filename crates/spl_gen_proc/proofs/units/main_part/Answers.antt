@@ -2,10 +2,10 @@
 use Rattle.std.proofs.Common.{◌≡◌, ◌<◌, ◌≤◌, rules, length, map, subst}
 use Rattle.spl_tree.specs.Views as view
 use Rattle.spl_unit_laws.specs.Units.{MainGrows}
-use Rattle.spl_gen_proc.specs.Views.{fixed_of}
-use Rattle.spl_gen_proc.proofs.Grown.{grown_there, grown_nowhere}
-use Rattle.spl_gen_proc.proofs.MainSteps.{found_at, main_free}
-use Rattle.spl_gen_proc.proofs.Steps.{main_none, main_some}
+use Rattle.spl_unit_walks.specs.Views.{fixed_of}
+use Rattle.spl_unit_walks.proofs.Grown.{grown_there, grown_nowhere}
+use Rattle.spl_unit_walks.proofs.MainSteps.{found_at, main_free}
+use Rattle.spl_unit_walks.proofs.Steps.{main_none, main_some}
 use Rattle.spl_gen_proc.proofs.units.main_part.Goals as goal
 
 pub grow_main-requires-clause-free : goal.grow_main-requires-clause-free

@@ -5,8 +5,8 @@ use Rattle.spl_sound.specs.Spelled.{source_of}
 use Rattle.spl_unit_laws.specs.spl_body_scopes.Levels.{level_of}
 use Rattle.spl_unit_laws.specs.spl_routine_code.Routines as r
 use Rattle.spl_unit_laws.specs.Units.{first_cursor}
-use Rattle.spl_gen_proc.specs.Views.{fixed_of}
-use Rattle.spl_gen_proc.proofs.UnitParts.{bodies_stand}
+use Rattle.spl_unit_walks.specs.Views.{fixed_of}
+use Rattle.spl_unit_walks.proofs.UnitParts.{bodies_stand}
 use Rattle.spl_gen_proc.proofs.units.unit_bodies.Goals as goal
 
 pub returns : goal.returns

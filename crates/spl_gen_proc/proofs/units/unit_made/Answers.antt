@@ -4,9 +4,9 @@ use Rattle.spl_tree.specs.Views.{letters}
 use Rattle.spl_sound.specs.Spelled.{source_of}
 use Rattle.spl_unit_laws.specs.spl_modules.Walks.{walk_of}
 use Rattle.spl_unit_laws.specs.spl_body_scopes.Levels.{level_of}
-use Rattle.spl_gen_proc.specs.Views.{fixed_of}
-use Rattle.spl_gen_proc.proofs.Begins.{free_begun}
-use Rattle.spl_gen_proc.proofs.UnitParts.{unit_is_made, bodies_complete}
+use Rattle.spl_unit_walks.specs.Views.{fixed_of}
+use Rattle.spl_unit_walks.proofs.Begins.{free_begun}
+use Rattle.spl_unit_walks.proofs.UnitParts.{unit_is_made, bodies_complete}
 use Rattle.spl_gen_proc.proofs.units.unit_made.Goals as goal
 
 pub unit_bodies-requires-clause-free : goal.unit_bodies-requires-clause-free

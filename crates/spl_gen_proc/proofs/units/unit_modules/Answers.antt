@@ -4,7 +4,7 @@ use Rattle.spl_tree.specs.Views.{letters}
 use Rattle.spl_sound.specs.Spelled.{source_of}
 use Rattle.spl_unit_laws.specs.spl_modules.Walks.{walk_of}
 use Rattle.spl_unit_laws.specs.spl_body_scopes.Levels.{level_of}
-use Rattle.spl_gen_proc.proofs.UnitParts.{unit_appended}
+use Rattle.spl_unit_walks.proofs.UnitParts.{unit_appended}
 use Rattle.spl_gen_proc.proofs.units.unit_modules.Goals as goal
 
 pub returns : goal.returns

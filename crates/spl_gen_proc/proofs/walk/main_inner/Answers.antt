@@ -7,10 +7,10 @@ use Rattle.spl_sound.specs.spl_meaning.Names.{find}
 use Rattle.spl_unit_laws.specs.spl_places.NameMaps.{entries_of}
 use Rattle.spl_unit_laws.specs.spl_unit_codes.declared.growing.Growing.{Growing}
 use Rattle.spl_unit_laws.specs.Steps.{Grows, InnerGrows}
-use Rattle.spl_gen_proc.specs.Views.{fixed_of}
-use Rattle.spl_gen_proc.proofs.Grown.{grown_there, grown_nowhere}
-use Rattle.spl_gen_proc.proofs.MainSteps.{found_at}
-use Rattle.spl_gen_proc.proofs.Steps.{inner_grows}
+use Rattle.spl_unit_walks.specs.Views.{fixed_of}
+use Rattle.spl_unit_walks.proofs.Grown.{grown_there, grown_nowhere}
+use Rattle.spl_unit_walks.proofs.MainSteps.{found_at}
+use Rattle.spl_unit_walks.proofs.Steps.{inner_grows}
 use Rattle.spl_gen_proc.proofs.walk.main_inner.Goals as goal
 use Rattle.spl_gen_proc.proofs.walk.main_inner.Goals.{then-segment-len+in_ok-grow_inner, else-segment-len}
 
@@ -32,8 +32,8 @@ returns-clause-parts c =
           subst (λ (v : Vec Growing Global). Grows f.segment (InnerGrows f c.args.at h s) c.args.parts.now.items v.items) (sym w.parts-is)
           (grown_there f.segment c.from-segment.result (InnerGrows f c.args.at h s) c.args.parts.now.items w.index_mut.result.now w.grow_inner.new.part
           c.from-segment.ensures (subst (λ n. c.from-segment.result < n) many w.if-segment-len.true) w.index_mut.ensures.value
-          (inner_grows f c.args.at h s (find (entries_of c.procedures.result.now)) w.room_at-room.result w.index_mut.result.now w.grow_inner.new.part
-          c.procedures.ensures w.room_at-room.ensures w.in_ok-grow_inner.ensures.code w.in_ok-grow_inner.ensures.done))
+          (inner_grows f c.args.at h s (find (entries_of c.segment_procedures.result.now)) w.room_at-room.result w.index_mut.result.now w.grow_inner.new.part
+          c.segment_procedures.ensures w.room_at-room.ensures w.in_ok-grow_inner.ensures.code w.in_ok-grow_inner.ensures.done))
       | else-segment-len w ↦
           subst (λ (v : Vec Growing Global). Grows f.segment (InnerGrows f c.args.at h s) c.args.parts.now.items v.items) (sym w.parts-is)
           (grown_nowhere f.segment c.from-segment.result (InnerGrows f c.args.at h s) c.args.parts.now.items c.from-segment.ensures

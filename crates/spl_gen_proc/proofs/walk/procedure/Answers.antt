@@ -17,10 +17,10 @@ use Rattle.spl_unit_laws.specs.spl_body_scopes.Levels.{level_of}
 use Rattle.spl_unit_laws.specs.spl_routine_code.Routines.{inners_among}
 use Rattle.spl_unit_laws.specs.spl_unit_codes.declared.growing.Growing.{Growing}
 use Rattle.spl_unit_laws.specs.Steps.{Grows, RoutineGrows}
-use Rattle.spl_gen_proc.specs.Views.{fixed_of}
-use Rattle.spl_gen_proc.proofs.Grown.{grown_there, grown_nowhere}
-use Rattle.spl_gen_proc.proofs.MainSteps.{found_at}
-use Rattle.spl_gen_proc.proofs.Steps.{routine_grows, cursor_is}
+use Rattle.spl_unit_walks.specs.Views.{fixed_of}
+use Rattle.spl_unit_walks.proofs.Grown.{grown_there, grown_nowhere}
+use Rattle.spl_unit_walks.proofs.MainSteps.{found_at}
+use Rattle.spl_unit_walks.proofs.Steps.{routine_grows, cursor_is}
 use Rattle.spl_gen_proc.proofs.walk.procedure.Goals as goal
 use Rattle.spl_gen_proc.proofs.walk.procedure.Goals.{then-segment-len+in_ok-grow_routine, else-segment-len}
 
@@ -60,9 +60,9 @@ returns-clause-parts c =
           subst (λ (v : Vec Growing Global). Grows h.segment (RoutineGrows f outer c.args.at h ds ss) c.args.parts.now.items v.items) (sym w.parts-is)
           (grown_there h.segment c.from-segment.result (RoutineGrows f outer c.args.at h ds ss) c.args.parts.now.items w.index_mut.result.now w.grow_routine.new.part
           c.from-segment.ensures (subst (λ n. c.from-segment.result < n) many w.if-segment-len.true) w.index_mut.ensures.value
-          (routine_grows f outer (level_of c.in_ok-own.own) c.args.at h c.deref.result.now ds ss (find (entries_of c.procedures.result.now)) (find (entries_of c.inner.result.now))
+          (routine_grows f outer (level_of c.in_ok-own.own) c.args.at h c.deref.result.now ds ss (find (entries_of c.segment_procedures.result.now)) (find (entries_of c.own_subroutines.result.now))
           w.index_mut.result.now w.grow_routine.new.part c.in_ok-own.ensures.level (ap (λ (xs : List Decl). declarations (map declaration xs)) c.deref.ensures.value)
-          c.procedures.ensures c.inner.ensures w.in_ok-grow_routine.ensures.code w.in_ok-grow_routine.ensures.done))
+          c.segment_procedures.ensures c.own_subroutines.ensures w.in_ok-grow_routine.ensures.code w.in_ok-grow_routine.ensures.done))
       | else-segment-len w ↦
           subst (λ (v : Vec Growing Global). Grows h.segment (RoutineGrows f outer c.args.at h ds ss) c.args.parts.now.items v.items) (sym w.parts-is)
           (grown_nowhere h.segment c.from-segment.result (RoutineGrows f outer c.args.at h ds ss) c.args.parts.now.items c.from-segment.ensures

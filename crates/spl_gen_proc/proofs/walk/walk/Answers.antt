@@ -5,8 +5,8 @@ use Rattle.spl_tree.specs.DeclarationTrees.{declarations}
 use Rattle.spl_tree.specs.Spells.{declaration}
 use Rattle.spl_unit_laws.specs.spl_body_scopes.Levels.{level_of}
 use Rattle.spl_unit_laws.specs.Known.{Known}
-use Rattle.spl_gen_proc.specs.Views.{fixed_of}
-use Rattle.spl_gen_proc.proofs.Frees.{walk_first, walk_next, free_at, once_at, walk_done}
+use Rattle.spl_unit_walks.specs.Views.{fixed_of}
+use Rattle.spl_unit_walks.proofs.Frees.{walk_first, walk_next, free_at, once_at, walk_done}
 use Rattle.spl_gen_proc.proofs.walk.walk.Goals as goal
 
 pub loop-item-init : goal.loop-item-init

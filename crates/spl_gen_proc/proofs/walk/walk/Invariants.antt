@@ -3,8 +3,8 @@ use Rattle.std.proofs.Common.{map, drop}
 use Rattle.spl_tree.specs.DeclarationTrees.{declarations}
 use Rattle.spl_tree.specs.Spells.{declaration}
 use Rattle.spl_unit_laws.specs.spl_body_scopes.Levels.{level_of}
-use Rattle.spl_gen_proc.specs.Views.{fixed_of}
-use Rattle.spl_gen_proc.proofs.Frees.{UnitWalk}
+use Rattle.spl_unit_walks.specs.Views.{fixed_of}
+use Rattle.spl_unit_walks.proofs.Frees.{UnitWalk}
 use Rattle.spl_gen_proc.proofs.walk.walk.Given as goal
 
 -- the walk has come to here, and these declarations are left

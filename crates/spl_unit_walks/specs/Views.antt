@@ -7,7 +7,7 @@ use Rattle.spl_unit_laws.specs.spl_found.OwnNames.{behind_declarations}
 use Rattle.spl_unit_laws.specs.spl_modules.Walks.{walk_of}
 use Rattle.spl_unit_laws.specs.spl_body_scopes.Levels.{Level, level_of}
 use Rattle.spl_unit_laws.specs.Known.{Fixed}
-use Rattle.spl_gen_proc.specs.declared.fixed.Fixed as code
+use Rattle.spl_unit_walks.specs.declared.fixed.Fixed as code
 
 abbrev pub fixed_of : code.Fixed → Fixed
 fixed_of f = record {

@@ -4,8 +4,8 @@ use Rattle.spl_tree.specs.declared.declarations.Decl.{Decl}
 use Rattle.spl_tree.specs.DeclarationTrees.{declarations}
 use Rattle.spl_tree.specs.Spells.{declaration}
 use Rattle.spl_unit_laws.specs.spl_body_scopes.Levels.{level_of}
-use Rattle.spl_gen_proc.proofs.LevelWalks.{all_declared}
-use Rattle.spl_gen_proc.proofs.units.whole_level.Goals as goal
+use Rattle.spl_unit_walks.proofs.LevelWalks.{all_declared}
+use Rattle.spl_unit_walks.proofs.levels.whole_level.Goals as goal
 
 pub returns : goal.returns
 returns c =

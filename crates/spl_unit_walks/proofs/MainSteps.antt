@@ -9,7 +9,7 @@ use Rattle.spl_branch.specs.Pieces.{is_settable}
 use Rattle.spl_unit_laws.proofs.spl_routine_code_proofs.OpenMarks.{first_open}
 use Rattle.spl_unit_laws.specs.spl_unit_codes.declared.growing.Growing.{Growing}
 use Rattle.spl_unit_laws.specs.Steps.{AreFree, main_count}
-use Rattle.spl_gen_proc.proofs.Frees.{open_first}
+use Rattle.spl_unit_walks.proofs.Frees.{open_first}
 
 pub found_at : (g k : ℕ) (xs : List Growing) (x : Growing) → k ≡ g → k < length xs → x ≡ get_or xs k x → slice_get xs g ≡ Some x
 found_at g k xs x same lt is = ap (λ i. slice_get xs i) (sym same) ∙ slice_get-get_or xs k x lt ∙ ap Some (sym is)

@@ -4,8 +4,8 @@ use Rattle.spl_tree.specs.Views.{letters}
 use Rattle.spl_sound.specs.spl_meaning.Names.{find}
 use Rattle.spl_sound.specs.Spelled.{source_of}
 use Rattle.spl_unit_laws.specs.spl_places.NameMaps.{entries_of}
-use Rattle.spl_gen_proc.proofs.UnitParts.{parts_picked}
-use Rattle.spl_gen_proc.proofs.units.picked_parts.Goals as goal
+use Rattle.spl_unit_walks.proofs.UnitParts.{parts_picked}
+use Rattle.spl_unit_walks.proofs.picks.picked_parts.Goals as goal
 
 pub returns : goal.returns
 returns c =

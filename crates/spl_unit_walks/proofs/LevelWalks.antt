@@ -8,7 +8,7 @@ use Rattle.spl_unit_laws.specs.spl_found.OwnNames.{behind_declarations}
 use Rattle.spl_unit_laws.proofs.spl_lists_proofs.NameWalks.{onward, onward_end}
 use Rattle.spl_unit_laws.specs.spl_body_scopes.Levels.{Level, Spots, unit_level}
 use Rattle.spl_unit_laws.specs.Steps.{level_behind}
-use Rattle.spl_gen_proc.specs.Views.{levels_behind}
+use Rattle.spl_unit_walks.specs.Views.{levels_behind}
 
 -- what is declared so far, and what is left, is all
 pub record LevelWalk (from : Level) (all left : Declarations) (now : Level) : Type 0 where

@@ -27,7 +27,7 @@ use Rattle.spl_unit_laws.specs.Steps.{Steps, AreFree}
 use Rattle.spl_unit_laws.specs.Begins.{UnitBegins}
 use Rattle.spl_unit_laws.proofs.Completes.{codes_complete}
 use Rattle.spl_unit_laws.specs.Units.{MainStep, UnitAppended, first_cursor, whole_level, fixed_for}
-use Rattle.spl_gen_proc.specs.Bodies.{known_at, BodiesStand, PartsPicked, UnitMade}
+use Rattle.spl_unit_walks.specs.Bodies.{known_at, BodiesStand, PartsPicked, UnitMade}
 
 -- what stays the same for a unit, where its whole level is this one
 abbrev pub fixed_with : Source → Walk → Level → List Room → Fixed

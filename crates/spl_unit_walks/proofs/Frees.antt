@@ -28,7 +28,7 @@ use Rattle.spl_unit_laws.specs.declared.cursors.Cursor.{Cursor}
 use Rattle.spl_unit_laws.specs.Known.{Fixed, Known}
 use Rattle.spl_unit_laws.specs.Steps.{Grows, RoutineGrows, InnerGrows, PartsStep, Step, Steps, entry_count, entries_count, IsOpen, IsFree, main_count, AreFree, OnceInUnit, OnceInAll, level_behind}
 use Rattle.spl_unit_laws.specs.Steps.{Steps as t}
-use Rattle.spl_gen_proc.proofs.Counts.{some_inside}
+use Rattle.spl_unit_walks.proofs.Grown.{some_inside}
 
 -- ---- parts, whatever they are of
 

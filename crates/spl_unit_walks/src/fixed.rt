@@ -3,7 +3,7 @@ ghost use Rattle.std.specs.Prelude.{◌≡◌, []};
 ghost use Rattle.spl_sound.specs.spl_meaning.Names.{find};
 ghost use Rattle.spl_unit_laws.specs.spl_places.NameMaps.{entries_of};
 
-use spl_gen_routines::spl_body_scopes::Level;
+use spl_body_scopes::Level;
 use spl_layout::spl_rooms::Room;
 use spl_tree::SplUnit;
 use spl_unit_laws::spl_modules::UnitEntries;

@@ -3,8 +3,8 @@ use Rattle.std.proofs.Common.{map}
 use Rattle.spl_tree.specs.DeclarationTrees.{declarations}
 use Rattle.spl_tree.specs.Spells.{declaration}
 use Rattle.spl_unit_laws.specs.spl_body_scopes.Levels.{level_of}
-use Rattle.spl_gen_proc.proofs.LevelWalks.{level_first, level_next, level_done}
-use Rattle.spl_gen_proc.proofs.units.declare_all.Goals as goal
+use Rattle.spl_unit_walks.proofs.LevelWalks.{level_first, level_next, level_done}
+use Rattle.spl_unit_walks.proofs.levels.declare_all.Goals as goal
 
 pub loop-item-init : goal.loop-item-init
 loop-item-init c = level_first c.args.list.now (level_of c.args.level.now)

@@ -1,0 +1,9 @@
+pub mod Grown
+pub mod Frees
+pub mod LevelWalks
+pub mod UnitsWalks
+pub mod Steps
+pub mod MainSteps
+pub mod UnitParts
+pub mod Begins
+pub mod Compiled
