@@ -26,7 +26,7 @@ fn stepped(alloc: Global, tokens: &mut Tokens<'_>, room: u8) -> Result<Option<Ex
     }
 }
 
-/// The condition behind UNTIL.
+/// The condition behind UNTIL. An error is the first token that may not stand there, or want of memory.
 #[tactic(auto, using(spl_tokens::proofs::Steps::steps), unfolding(spl_reading::specs::Readers::pure, spl_reading::specs::Readers::refuse, spl_reading::specs::Readers::followed, spl_reading::specs::Readers::and_then, crate::specs::Parts::until_condition))]
 pub fn until_condition(alloc: Global, tokens: &mut Tokens<'_>, room: u8) -> Result<Expr, Fault>
     ensures { Reads view.expression (parts.until_condition room tokens.old) result tokens.new }
@@ -59,7 +59,7 @@ fn bounds(alloc: Global, tokens: &mut Tokens<'_>, room: u8) -> Result<(Option<Ex
     }
 }
 
-/// The values of a FOR.
+/// The values of a FOR. An error is the first token that may not stand there, or want of memory.
 #[tactic(auto, using(spl_tokens::proofs::Steps::steps), unfolding(spl_reading::specs::Readers::pure, spl_reading::specs::Readers::refuse, spl_reading::specs::Readers::followed, spl_reading::specs::Readers::and_then, crate::specs::Parts::values))]
 pub fn values(alloc: Global, tokens: &mut Tokens<'_>, room: u8) -> Result<Values, Fault>
     ensures { Reads parts.all_of (parts.values room tokens.old) result tokens.new }

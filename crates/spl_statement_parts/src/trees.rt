@@ -109,14 +109,14 @@ pub fn call(name: Name, args: Vec<Expr>, at: At) -> Stmt
     Stmt::Call { name, args, at }
 }
 
-/// A list of one statement.
+/// A list of one statement. Want of memory alone is an error.
 pub fn single(alloc: Global, only: Stmt) -> Result<Vec<Stmt>, AllocError>
     ensures { IfOk result (λ xs. statements xs ≡ view.statement only ∷ []) }
 {
     pushed(Vec::new(alloc), only)
 }
 
-/// A list with one statement more.
+/// A list with one statement more. Want of memory alone is an error.
 #[tactic(auto, using(spl_tokens::proofs::Steps::pushed))]
 pub fn pushed(read: Vec<Stmt>, next: Stmt) -> Result<Vec<Stmt>, AllocError>
     ensures { IfOk result (λ xs. statements xs ≡ statements read ++ view.statement next ∷ []) }
