@@ -4,7 +4,7 @@ use Rattle.spl_tree.specs.Views.{letters}
 use Rattle.spl_sorts.specs.spl_meaning.Places.{Place}
 use Rattle.spl_sorts.specs.spl_meaning.Pending.{formal_words, formals_words}
 use Rattle.spl_sorts.specs.spl_meaning.Bodies.{parameter_places}
-use Rattle.spl_gen_expr.specs.spl_found.OwnNames.{with_name}
+use Rattle.spl_places.specs.spl_found.OwnNames.{with_name}
 use Rattle.spl_places.proofs.spl_lists_proofs.NameWalks.{onward, onward_end}
 use Rattle.spl_sorts.specs.declared.profiles.Formal.{Formal}
 use Rattle.spl_sorts.specs.Profiles.{formal_of}

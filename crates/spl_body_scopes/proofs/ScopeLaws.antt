@@ -15,8 +15,8 @@ use Rattle.spl_sorts.specs.spl_meaning.Names.{Names, Sort, Table, find, or_else,
 use Rattle.spl_sorts.specs.spl_meaning.Tables.{Source, Routine, Subroutine, routines_of, routines_among, routine_table, outer_names, routine_subroutines, subroutine_in, subroutines_among, unit_subroutines, unit_table, with_declaration}
 use Rattle.spl_sorts.specs.spl_meaning.Places.{Place, data_word, above_base, below_base, below_return, item_words, list_words, list_array_words, places_from}
 use Rattle.spl_sorts.specs.spl_meaning.Bodies.{Body, Named, Reached, reached_behind, marker_gap, parameter_places, named_bodies, procedure_body, subroutine_body, main_body, all_routines}
-use Rattle.spl_gen_expr.specs.spl_found.OwnNames.{behind_declaration, behind_declarations}
-use Rattle.spl_gen_expr.proofs.spl_found_proofs.OwnNames.{find_declaration, find_declarations}
+use Rattle.spl_places.specs.spl_found.OwnNames.{behind_declaration, behind_declarations}
+use Rattle.spl_places.proofs.spl_found_proofs.OwnNames.{find_declaration, find_declarations}
 use Rattle.spl_places.specs.ListedData.{Datum, list_data}
 use Rattle.spl_places.specs.Counters.{total_words}
 use Rattle.spl_places.specs.Held.{named}

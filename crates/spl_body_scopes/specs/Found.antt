@@ -6,7 +6,7 @@ use Rattle.spl_tree.specs.DeclarationTrees.{Heading, Declarations, declarations}
 use Rattle.spl_tree.specs.StatementTrees as stat
 use Rattle.spl_sorts.specs.spl_meaning.Names.{Names, find}
 use Rattle.spl_places.specs.NameMaps.{entries_of}
-use Rattle.spl_gen_expr.specs.declared.scopes.Entries.{Entries}
+use Rattle.spl_code_scopes.specs.declared.scopes.Entries.{Entries}
 use Rattle.spl_scopes.specs.Entries.{Owner, main, routine, module_entries, procedure_index, subroutine_index}
 use Rattle.spl_scopes.specs.Scopes.{Placed, outer, inner, scope_in, results_in}
 use Rattle.spl_scopes.specs.spl_code.Calls.{Scope}

@@ -5,7 +5,7 @@ use Rattle.spl_tree.specs.DeclarationTrees.{Heading, Declarations}
 use Rattle.spl_sorts.specs.spl_meaning.Names.{Names, find, or_else, nothing_declared, parameters, formals_of}
 use Rattle.spl_sorts.specs.spl_meaning.Places.{Place, data_word, above_base, below_base, below_return, places_from}
 use Rattle.spl_sorts.specs.spl_meaning.Bodies.{marker_gap, parameter_places}
-use Rattle.spl_gen_expr.specs.spl_found.OwnNames.{behind_declarations}
+use Rattle.spl_places.specs.spl_found.OwnNames.{behind_declarations}
 use Rattle.spl_sorts.specs.Tables.{table_of}
 use Rattle.spl_places.specs.NameMaps.{entries_of, shown}
 use Rattle.spl_places.specs.Spots.{spot_of}

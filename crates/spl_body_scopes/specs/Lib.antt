@@ -7,5 +7,5 @@ pub mod Found
 pub mod Units
 -- Passed on from the crates below.
 pub use Rattle.spl_places.specs as spl_places
-pub use Rattle.spl_gen_expr.specs.spl_found
-pub use Rattle.spl_gen_expr.specs as spl_gen_expr
+pub use Rattle.spl_places.specs.spl_found
+pub use Rattle.spl_code_scopes.specs as spl_code_scopes

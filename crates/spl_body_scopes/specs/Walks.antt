@@ -8,7 +8,7 @@ use Rattle.spl_sorts.specs.spl_meaning.Names.{Names, Sort, Table, find, nothing_
 use Rattle.spl_sorts.specs.spl_meaning.Tables.{Source, Routine, routine_table, routines_of, routines_among, unit_table, with_declarations}
 use Rattle.spl_sorts.specs.spl_meaning.Places.{item_words, list_words, sum}
 use Rattle.spl_sorts.specs.spl_meaning.Bodies.{named_bodies}
-use Rattle.spl_gen_expr.specs.spl_found.OwnNames.{behind_declaration}
+use Rattle.spl_places.specs.spl_found.OwnNames.{behind_declaration}
 use Rattle.spl_places.specs.Counters.{total_words}
 use Rattle.spl_places.specs.Programs.{Each, NewInUnit, NewInRoutine, NewInAll}
 use Rattle.spl_places.specs.Gathered.{items_in}

@@ -12,4 +12,4 @@ pub use laws::{
 };
 pub use levels::{Level, declare, inner_level, routine_level, scope, unit_level};
 pub use results::{BodyResult, Results, inner_result, routine_result};
-pub use spl_gen_expr;
+pub use spl_code_scopes;

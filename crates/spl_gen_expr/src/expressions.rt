@@ -18,20 +18,20 @@ ghost use Rattle.spl_operations.specs.spl_code.Calls.{result_room};
 ghost use Rattle.spl_operations.specs.spl_code.Operands.{leads_to_doubles};
 ghost use Rattle.spl_operations.specs.spl_code.Code as written;
 ghost use Rattle.spl_operations.specs.spl_code.Appends.{Appends};
-ghost use Rattle.spl_gen_expr.specs.Scopes.{scope_of};
+ghost use Rattle.spl_code_scopes.specs.Scopes.{scope_of};
 ghost use Rattle.spl_operations.specs.Views.{access_view};
 ghost use Rattle.spl_gen_expr.specs.Marks.{aim_view, Known};
 ghost use Rattle.spl_gen_expr.specs.Phrases.{is_condition, value_part, test_part, either_part, both_part, relation_part, text_part, bytes_part, index_part, call_part, named_part, element_part, argument_part, equated, called_by};
 
 use crate::calls::{call_name, call_procedure, call_subroutine, make_room, take_result};
 use crate::marks::{Aim, close, end, lead, open, relate, set_mark, two_marks};
-use crate::scopes::Scope;
 use crate::texts::{compare_bytes, compare_text};
 use crate::words::{
     formal_words, next_formal, operand_width, other_formals, relation_number, result_words,
     small_constant, text_bytes,
 };
 use spl_branch::Code;
+use spl_code_scopes::Scope;
 use spl_operations::spl_spots::plus;
 use spl_operations::{
     Access, Class, address_at, compare, convert, extract, index_to_x, load_at, mode_of,

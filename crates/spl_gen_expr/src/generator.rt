@@ -6,12 +6,12 @@ ghost use Rattle.spl_branch.specs.Pieces.{count_of};
 ghost use Rattle.spl_operations.specs.spl_code.Code as written;
 ghost use Rattle.spl_operations.specs.spl_code.FewWords.{spare};
 ghost use Rattle.spl_operations.specs.spl_code.Appends.{Appends};
-ghost use Rattle.spl_gen_expr.specs.Scopes.{scope_of};
+ghost use Rattle.spl_code_scopes.specs.Scopes.{scope_of};
 
 use crate::expressions::write;
 use crate::marks::Aim;
-use crate::scopes::Scope;
 use spl_branch::Code;
+use spl_code_scopes::Scope;
 use spl_tree::Expr;
 use std::alloc::AllocError;
 

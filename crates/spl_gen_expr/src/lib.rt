@@ -5,13 +5,12 @@ mod calls;
 mod expressions;
 mod generator;
 mod marks;
-mod scopes;
 mod texts;
 mod words;
 
 pub use expressions::{named, reference, write};
 pub use generator::{gen_condition, gen_expr};
 pub use marks::{Aim, lead, relate, set_mark, two_marks};
-pub use scopes::{Entries, Places, Scope};
+pub use spl_code_scopes::{Entries, Places, Scope};
 pub use texts::push_text_offset;
 pub use words::small_constant;

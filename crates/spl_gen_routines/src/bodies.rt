@@ -8,7 +8,7 @@ ghost use Rattle.spl_sorts.specs.spl_meaning.Pending.{formals_words};
 ghost use Rattle.spl_sorts.specs.spl_meaning.StatementRules.{label_faults};
 ghost use Rattle.spl_branch.specs.Pieces.{is_settable};
 ghost use Rattle.spl_branch.specs.declared.pieces.Piece.TheVariants as p;
-ghost use Rattle.spl_gen_body.specs.spl_gen_expr.Scopes.{scope_of};
+ghost use Rattle.spl_statement_scopes.specs.spl_body_scopes.spl_code_scopes.Scopes.{scope_of};
 ghost use Rattle.spl_gen_body.specs.Procedures.{frame_for};
 ghost use Rattle.spl_routine_code.specs.Bodies.{statements_part};
 ghost use Rattle.spl_routine_code.specs.Generates.{Generates};

@@ -6,7 +6,7 @@ ghost use Rattle.spl_sorts.specs.spl_meaning.Bound.{statements_weight};
 ghost use Rattle.spl_sorts.specs.spl_meaning.StatementRules.{label_faults};
 ghost use Rattle.spl_branch.specs.Pieces.{count_of};
 ghost use Rattle.spl_routine_code.specs.spl_code.Appends.{Appends};
-ghost use Rattle.spl_gen_body.specs.spl_gen_expr.Scopes.{scope_of};
+ghost use Rattle.spl_statement_scopes.specs.spl_body_scopes.spl_code_scopes.Scopes.{scope_of};
 ghost use Rattle.spl_gen_stmt.specs.spl_statement_code.FewWords.{nested_among};
 ghost use Rattle.spl_routine_code.specs.Bodies.{statements_part};
 

@@ -1,8 +1,8 @@
 -- What the code of statements is made with, as the definition has it.
 use Rattle.std.specs.Prelude.{ℕ}
 use Rattle.spl_operations.specs.spl_spots.declared.name_maps.NameMap.{NameMap}
-use Rattle.spl_gen_expr.specs.declared.scopes.Scope.{Scope}
-use Rattle.spl_gen_expr.specs.Scopes.{scope_of}
+use Rattle.spl_gen_expr.specs.spl_code_scopes.declared.scopes.Scope.{Scope}
+use Rattle.spl_gen_expr.specs.spl_code_scopes.Scopes.{scope_of}
 use Rattle.spl_statement_code.specs.Landings as code
 use Rattle.spl_landing_maps.specs.declared.landing.Landing.{Landing}
 use Rattle.spl_landing_maps.specs.Landings.{landings_of}

@@ -10,7 +10,7 @@ ghost use Rattle.spl_statement_code.specs.spl_code.Operands.{at_place};
 ghost use Rattle.spl_statement_code.specs.spl_code.Stores as stores;
 ghost use Rattle.spl_statement_code.specs.spl_code.Code.{is_indexed};
 ghost use Rattle.spl_statement_code.specs.spl_code.Appends.{Appends};
-ghost use Rattle.spl_gen_expr.specs.Scopes.{scope_of};
+ghost use Rattle.spl_gen_expr.specs.spl_code_scopes.Scopes.{scope_of};
 ghost use Rattle.spl_operations.specs.Views.{access_view};
 ghost use Rattle.spl_statement_code.specs.Assignments as targets;
 

@@ -5,7 +5,7 @@ ghost use Rattle.spl_sorts.specs.spl_meaning.Pending as pending;
 ghost use Rattle.spl_statement_code.specs.spl_code.Parts.{piece, pieces, ◌⨟◌};
 ghost use Rattle.spl_statement_code.specs.spl_code.Constants.{constant, text_offset};
 ghost use Rattle.spl_statement_code.specs.spl_code.Appends.{Appends};
-ghost use Rattle.spl_gen_expr.specs.Scopes.{scope_of};
+ghost use Rattle.spl_gen_expr.specs.spl_code_scopes.Scopes.{scope_of};
 ghost use Rattle.spl_statement_code.specs.Instructions as i;
 ghost use Rattle.spl_statement_code.specs.Effects as effects;
 

@@ -11,7 +11,7 @@ ghost use Rattle.spl_sorts.specs.spl_meaning.References.{by_address};
 ghost use Rattle.spl_statement_code.specs.spl_code.Parts.{pieces};
 ghost use Rattle.spl_statement_code.specs.spl_code.Code as written;
 ghost use Rattle.spl_statement_code.specs.spl_code.Appends.{Appends};
-ghost use Rattle.spl_gen_expr.specs.Scopes.{scope_of};
+ghost use Rattle.spl_gen_expr.specs.spl_code_scopes.Scopes.{scope_of};
 ghost use Rattle.spl_operations.specs.Views.{access_view};
 ghost use Rattle.spl_statement_code.specs.Assignments as targets;
 ghost use Rattle.spl_statement_code.specs.Effects as effects;

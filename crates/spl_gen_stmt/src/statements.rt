@@ -7,7 +7,7 @@ ghost use Rattle.spl_tree.specs.Views as view;
 ghost use Rattle.spl_tree.specs.StatementTrees.{statements};
 ghost use Rattle.spl_statement_code.specs.spl_code.Parts.{pieces, piece, ◌⨟◌};
 ghost use Rattle.spl_statement_code.specs.spl_code.Code as written;
-ghost use Rattle.spl_gen_expr.specs.Scopes.{scope_of};
+ghost use Rattle.spl_gen_expr.specs.spl_code_scopes.Scopes.{scope_of};
 ghost use Rattle.spl_statement_code.specs.Landings.{IsMade};
 ghost use Rattle.spl_statement_code.specs.Statements as shapes;
 ghost use Rattle.spl_statement_code.specs.Labels.{AppendsSetting, CanBeSet, marks_inside, marks_within};

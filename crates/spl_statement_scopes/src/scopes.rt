@@ -1,11 +1,11 @@
 //! The scopes of the statements of bodies.
 ghost use Rattle.std.specs.Prelude.{◌≡◌};
-ghost use Rattle.spl_body_scopes.specs.spl_gen_expr.Scopes.{scope_of};
+ghost use Rattle.spl_body_scopes.specs.spl_code_scopes.Scopes.{scope_of};
 ghost use Rattle.spl_body_scopes.specs.Levels.{level_of};
 ghost use Rattle.spl_body_scopes.specs.Found.{calls_in};
 ghost use Rattle.spl_statement_scopes.specs.Scopes.{StatesRoutine, StatesInner, StatesMain, StatesMainInner};
 
-use spl_body_scopes::spl_gen_expr::{Entries, Scope};
+use spl_body_scopes::spl_code_scopes::{Entries, Scope};
 use spl_body_scopes::{Level, scope};
 
 /// The scope of the statements of a body. Its first level has the results too, as `with_results` gives it: that of a

@@ -6,7 +6,7 @@ use Rattle.spl_sorts.specs.spl_meaning.Names as n
 use Rattle.spl_sorts.specs.spl_meaning.Names.{Names, Table, find, parameters, formals_of}
 use Rattle.spl_sorts.specs.spl_meaning.Places.{above_base, below_base, item_words, places_from}
 use Rattle.spl_sorts.specs.spl_meaning.Bodies.{marker_gap, parameter_places}
-use Rattle.spl_gen_expr.specs.spl_found.OwnNames.{behind_declarations}
+use Rattle.spl_places.specs.spl_found.OwnNames.{behind_declarations}
 use Rattle.spl_sorts.specs.declared.profiles.Formal.{Formal}
 use Rattle.spl_sorts.specs.Profiles.{formal_of}
 use Rattle.spl_sorts.specs.Tables.{table_of}

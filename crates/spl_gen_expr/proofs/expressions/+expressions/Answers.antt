@@ -8,7 +8,7 @@ use Rattle.spl_sorts.specs.Sorts.{sort_of}
 use Rattle.std.specs.Prelude.{map, option_map}
 use Rattle.spl_operations.specs.spl_code.Appends.{Appends}
 use Rattle.spl_operations.proofs.spl_code_proofs.AppendLaws.{then_appends}
-use Rattle.spl_gen_expr.specs.Scopes.{scope_of}
+use Rattle.spl_code_scopes.specs.Scopes.{scope_of}
 use Rattle.spl_gen_expr.specs.Marks.{aim_view}
 use Rattle.spl_gen_expr.specs.Phrases.{test_part}
 use Rattle.spl_operations.proofs.PutLemmas.{ok_then}

@@ -6,7 +6,7 @@ use Rattle.spl_sorts.specs.Profiles.{formal_of}
 use Rattle.spl_branch.specs.declared.buffer.Code.{Code}
 use Rattle.spl_operations.specs.spl_code.Code.{arguments}
 use Rattle.spl_operations.specs.spl_code.Appends.{Appends}
-use Rattle.spl_gen_expr.specs.Scopes.{scope_of}
+use Rattle.spl_code_scopes.specs.Scopes.{scope_of}
 use Rattle.spl_gen_expr.proofs.expressions.+expressions.Given as goal
 
 abbrev pub invariant-arguments-loop-e : goal.invariant-arguments-loop-e

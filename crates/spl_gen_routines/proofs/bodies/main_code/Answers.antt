@@ -3,7 +3,7 @@ use Rattle.spl_gen_body.proofs.spl_operations_proofs.PutLemmas.{ok_then}
 use Rattle.std.proofs.Common.{map}
 use Rattle.spl_tree.specs.Views as view
 use Rattle.spl_tree.specs.StatementTrees as trees
-use Rattle.spl_gen_body.specs.spl_gen_expr.Scopes.{scope_of}
+use Rattle.spl_statement_scopes.specs.spl_body_scopes.spl_code_scopes.Scopes.{scope_of}
 use Rattle.spl_gen_body.specs.spl_body_code.Frames.{granted}
 use Rattle.spl_routine_code.specs.Bodies.{statements_part}
 use Rattle.spl_routine_code.proofs.WholeBodies.{made_in_main, main_done}

@@ -6,7 +6,7 @@ use Rattle.spl_tree.specs.StatementTrees as trees
 use Rattle.spl_tree.specs.Spells.{heading_tree}
 use Rattle.spl_sorts.specs.spl_meaning.Names.{formals_of}
 use Rattle.spl_sorts.specs.spl_meaning.Pending.{formals_words}
-use Rattle.spl_gen_body.specs.spl_gen_expr.Scopes.{scope_of}
+use Rattle.spl_statement_scopes.specs.spl_body_scopes.spl_code_scopes.Scopes.{scope_of}
 use Rattle.spl_gen_body.specs.spl_body_code.Frames.{granted}
 use Rattle.spl_gen_body.specs.spl_body_code.Bodies.{subroutine_left}
 use Rattle.spl_routine_code.specs.Bodies.{statements_part}

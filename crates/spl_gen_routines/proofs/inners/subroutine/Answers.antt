@@ -6,7 +6,7 @@ use Rattle.spl_tree.specs.Views as view
 use Rattle.spl_sorts.specs.spl_meaning.Names.{formals_of}
 use Rattle.spl_sorts.specs.spl_meaning.Pending.{formals_words}
 use Rattle.spl_gen_body.proofs.spl_operations_proofs.PutLemmas.{ok_then}
-use Rattle.spl_gen_body.specs.spl_gen_expr.Scopes.{scope_of}
+use Rattle.spl_statement_scopes.specs.spl_body_scopes.spl_code_scopes.Scopes.{scope_of}
 use Rattle.spl_statement_scopes.specs.spl_scopes.Scopes.{Results}
 use Rattle.spl_statement_scopes.specs.spl_body_scopes.Levels.{Level, level_of, inner_level}
 use Rattle.spl_statement_scopes.specs.spl_body_scopes.Results.{result_of, results_through}

@@ -1,7 +1,7 @@
 -- The first level of a main body has no names and no results.
 use Rattle.std.proofs.Common.{None, ap, subst, ◌∙◌}
 use Rattle.spl_gen_body.proofs.spl_operations_proofs.PutLemmas.{ok_then}
-use Rattle.spl_gen_body.specs.spl_gen_expr.Scopes.{scope_of}
+use Rattle.spl_statement_scopes.specs.spl_body_scopes.spl_code_scopes.Scopes.{scope_of}
 use Rattle.spl_statement_scopes.specs.spl_body_scopes.Levels.{Level, level_of}
 use Rattle.spl_statement_scopes.specs.spl_body_scopes.Results.{result_of, results_through}
 use Rattle.spl_statement_scopes.specs.spl_body_scopes.Found.{calls_in}

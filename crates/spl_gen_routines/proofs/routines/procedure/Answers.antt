@@ -15,7 +15,7 @@ use Rattle.spl_statement_scopes.specs.spl_places.Held.{named}
 use Rattle.spl_statement_scopes.specs.spl_places.Spots.{frame_starts}
 use Rattle.spl_statement_scopes.specs.spl_places.Gathered.{items_under}
 use Rattle.spl_gen_body.proofs.spl_operations_proofs.PutLemmas.{ok_then}
-use Rattle.spl_gen_body.specs.spl_gen_expr.Scopes.{scope_of}
+use Rattle.spl_statement_scopes.specs.spl_body_scopes.spl_code_scopes.Scopes.{scope_of}
 use Rattle.spl_statement_scopes.specs.spl_body_scopes.Levels.{Level}
 use Rattle.spl_statement_scopes.specs.spl_body_scopes.Results.{result_of, results_through}
 use Rattle.spl_statement_scopes.specs.Levels.{with_results}

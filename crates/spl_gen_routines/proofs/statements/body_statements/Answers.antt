@@ -3,7 +3,7 @@ use Rattle.std.proofs.Common.{map}
 use Rattle.spl_tree.specs.Views as view
 use Rattle.spl_tree.specs.StatementTrees as trees
 use Rattle.spl_gen_body.proofs.spl_operations_proofs.PutLemmas.{ok_then}
-use Rattle.spl_gen_body.specs.spl_gen_expr.Scopes.{scope_of}
+use Rattle.spl_statement_scopes.specs.spl_body_scopes.spl_code_scopes.Scopes.{scope_of}
 use Rattle.spl_gen_stmt.specs.Contexts.{context_by}
 use Rattle.spl_gen_stmt.specs.spl_landing_maps.Landings.{landings_of}
 use Rattle.spl_landings.specs.spl_module_code.LabelsOfBodies.{labels_among}

@@ -2,7 +2,7 @@
 use Rattle.std.proofs.Common.{ap}
 use Rattle.spl_tree.specs.Views as view
 use Rattle.spl_operations.proofs.PutLemmas.{ok_then}
-use Rattle.spl_gen_expr.specs.Scopes.{scope_of}
+use Rattle.spl_gen_expr.specs.spl_code_scopes.Scopes.{scope_of}
 use Rattle.spl_gen_stmt.proofs.PartLemmas.{move_done, scan_done}
 use Rattle.spl_gen_stmt.proofs.effects.effect.Goals as goal
 

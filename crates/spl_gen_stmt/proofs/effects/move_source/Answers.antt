@@ -2,7 +2,7 @@
 use Rattle.std.proofs.Common.{ap}
 use Rattle.spl_tree.specs.Views as view
 use Rattle.spl_operations.proofs.PutLemmas.{ok_then}
-use Rattle.spl_gen_expr.specs.Scopes.{scope_of}
+use Rattle.spl_gen_expr.specs.spl_code_scopes.Scopes.{scope_of}
 use Rattle.spl_gen_stmt.proofs.PartLemmas.{counted_done, text_done}
 use Rattle.spl_gen_stmt.proofs.effects.move_source.Goals as goal
 

@@ -2,7 +2,7 @@
 use Rattle.std.proofs.Common.{true}
 use Rattle.spl_tree.specs.Views as view
 use Rattle.spl_operations.proofs.PutLemmas.{ok_then}
-use Rattle.spl_gen_expr.specs.Scopes.{scope_of}
+use Rattle.spl_gen_expr.specs.spl_code_scopes.Scopes.{scope_of}
 use Rattle.spl_statement_code.specs.Effects as effects
 use Rattle.spl_gen_stmt.proofs.PartLemmas.{assigned_done}
 use Rattle.spl_gen_stmt.proofs.parts.assign_effect.Goals as goal

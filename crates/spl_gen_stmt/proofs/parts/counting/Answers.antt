@@ -2,7 +2,7 @@
 use Rattle.spl_tree.specs.Views as view
 use Rattle.spl_tree.specs.Views.{letters}
 use Rattle.spl_tree.specs.Trees.{trees}
-use Rattle.spl_gen_expr.specs.Scopes.{scope_of}
+use Rattle.spl_gen_expr.specs.spl_code_scopes.Scopes.{scope_of}
 use Rattle.spl_gen_stmt.proofs.PartLemmas.{counting_done}
 use Rattle.spl_gen_stmt.proofs.parts.counting.Goals as goal
 

@@ -10,7 +10,7 @@ use Rattle.spl_statement_code.specs.spl_code.Parts.{piece}
 use Rattle.spl_statement_code.specs.spl_code.Code as written
 use Rattle.spl_statement_code.proofs.spl_code_proofs.AppendLaws.{then_appends}
 use Rattle.spl_operations.proofs.PutLemmas.{ok_then}
-use Rattle.spl_gen_expr.specs.Scopes.{scope_of}
+use Rattle.spl_gen_expr.specs.spl_code_scopes.Scopes.{scope_of}
 use Rattle.spl_statement_code.specs.Statements as shapes
 use Rattle.spl_statement_code.specs.Labels.{marks_inside, marks_within}
 use Rattle.spl_gen_stmt.specs.Contexts.{context_of}

@@ -3,11 +3,11 @@ use Rattle.std.specs.Prelude.{ℕ, List, option_map, Option}
 use Rattle.spl_sorts.specs.spl_meaning.Names.{find, or_else}
 use Rattle.spl_sorts.specs.spl_meaning.Places.{Place}
 use Rattle.spl_sorts.specs.Tables.{names_of}
-use Rattle.spl_operations.specs.spl_spots.NameMaps.{entries_of}
-use Rattle.spl_operations.specs.spl_spots.Spots.{spot_of}
-use Rattle.spl_operations.specs.spl_code.Calls as code
-use Rattle.spl_gen_expr.specs.declared.scopes.Places as declared
-use Rattle.spl_gen_expr.specs.declared.scopes.Scope.{Scope}
+use Rattle.spl_spots.specs.NameMaps.{entries_of}
+use Rattle.spl_spots.specs.Spots.{spot_of}
+use Rattle.spl_code.specs.Calls as code
+use Rattle.spl_code_scopes.specs.declared.scopes.Places as declared
+use Rattle.spl_code_scopes.specs.declared.scopes.Scope.{Scope}
 
 -- where the words of a name stand
 abbrev pub places_of : declared.Places → List ℕ → Option Place

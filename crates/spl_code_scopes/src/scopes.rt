@@ -2,12 +2,12 @@
 ghost use Rattle.std.specs.Prelude.{◌≡◌, option_map};
 ghost use Rattle.spl_tree.specs.Views.{letters};
 ghost use Rattle.spl_sorts.specs.spl_meaning.Names.{find};
-ghost use Rattle.spl_operations.specs.spl_spots.NameMaps.{entries_of};
-ghost use Rattle.spl_operations.specs.spl_spots.Spots.{spot_of};
-ghost use Rattle.spl_gen_expr.specs.Scopes.{places_of};
+ghost use Rattle.spl_spots.specs.NameMaps.{entries_of};
+ghost use Rattle.spl_spots.specs.Spots.{spot_of};
+ghost use Rattle.spl_code_scopes.specs.Scopes.{places_of};
 
-use spl_operations::spl_spots::{NameMap, Place};
 use spl_sorts::Names;
+use spl_spots::{NameMap, Place};
 use spl_tree::Name;
 
 /// Where the words of names stand: a subroutine's parameters hide what is around it, and that hides the globals.
