@@ -3,7 +3,7 @@ ghost use Rattle.std.specs.Prelude.{◌≡◌};
 ghost use Rattle.hp3000_top.specs.Steps.{text_of};
 
 use hp_program::Program;
-use job_runs::mpe_turns::Monitor;
+use job_runs::Monitor;
 
 /// What an input is answered by.
 #[derive(Drop)]

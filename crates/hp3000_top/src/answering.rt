@@ -10,7 +10,7 @@ use crate::running::run;
 use crate::unmade::Unmade;
 use crate::verbs::Verb;
 use hp_program::Program;
-use job_gen::job_text::{JobFault, read_job};
+use job_gen::{JobFault, read_job};
 use job_report::{FileRefusal, Refusal, listing, refusal_line};
 use mpe_progfile::{FileFault, read, write};
 use std::alloc::{AllocError, Global};

@@ -14,10 +14,6 @@ mod unmade;
 mod verbs;
 
 pub use exit::Exit;
-pub use job_gen::job_text;
-pub use job_runs::mpe_turns;
+pub use job_runs::{Event, Monitor};
 pub use ran::Ran;
-pub use spl_build;
-pub use spl_numbered::hp_flat;
-pub use spl_program;
 pub use top::hp3000_main;

@@ -10,7 +10,7 @@ use crate::unmade::Unmade;
 use hp_program::Program;
 use job_report::{ModulesRefusal, Refusal, refusal_line};
 use spl_build::{BuildFault, PrepFault, build};
-use spl_program::spl_sound::Sound;
+use spl_program::Sound;
 use spl_tree::Name;
 use std::alloc::{AllocError, Global};
 

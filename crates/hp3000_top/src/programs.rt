@@ -10,7 +10,7 @@ use crate::filing::through_file;
 use crate::linking::linked_program;
 use crate::unmade::Unmade;
 use hp_program::Program;
-use job_gen::job_text::Text;
+use job_gen::Text;
 use job_report::{Refusal, UnitRefusal, refusal_line};
 use spl_program::{ProgramFault, read_program};
 use spl_tree::{At, Name};

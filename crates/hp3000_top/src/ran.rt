@@ -1,5 +1,5 @@
 //! What is left of a job that ran.
-use job_runs::mpe_turns::Monitor;
+use job_runs::Monitor;
 
 /// What is left of a job that ran.
 #[derive(Drop)]

@@ -12,10 +12,9 @@ ghost use Rattle.hp3000_top.specs.Steps.{AreCopies, Answers, IsUnopened};
 use crate::answer::Answer;
 use crate::verbs::Verb;
 use hp_program::Program;
-use job_gen::job_text::{Job, Text};
+use job_gen::{Job, Text};
 use job_report::{Refusal, refusal_line};
-use job_runs::mpe_turns::{Monitor, OpenFault};
-use job_runs::{report_on, summary_on, take_turns};
+use job_runs::{Monitor, OpenFault, report_on, summary_on, take_turns};
 use std::alloc::{AllocError, Global};
 
 /// Programs equal to these.

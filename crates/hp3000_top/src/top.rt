@@ -17,8 +17,7 @@ use hp_outside::{ReadAll, Sink, Source, read_all, write_all};
 use hp_program::Program;
 use job_gen::generate;
 use spl_numbered::texts_number_segments;
-use spl_safe_programs::sound_programs_are_never_lost;
-use spl_safe_programs::spl_sound_programs::sound_programs_carry;
+use spl_safe_programs::{sound_programs_are_never_lost, sound_programs_carry};
 use spl_shapes::{cut_tokens_have_bytes, spelled_units_are_shaped};
 use std::alloc::Global;
 

@@ -1,8 +1,7 @@
 //! Runs of jobs over sources and sinks in memory, with what is left of them.
 use hp_outside::{MemorySink, MemorySource};
 use hp_program::Program;
-use hp3000_top::mpe_turns::Monitor;
-use hp3000_top::{Ran, hp3000_main};
+use hp3000_top::{Monitor, Ran, hp3000_main};
 use std::alloc::Global;
 use std::test::Fail;
 

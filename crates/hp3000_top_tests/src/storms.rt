@@ -1,7 +1,7 @@
 //! Sessions that lose every segment after each of their steps.
 use crate::runs::run;
 use hp_word::{Ending, Trap};
-use hp3000_top::mpe_turns::{Event, Monitor};
+use hp3000_top::{Event, Monitor};
 use std::alloc::Global;
 use std::test::Fail;
 

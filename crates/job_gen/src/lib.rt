@@ -6,5 +6,5 @@ mod jobs;
 #[cfg(test)]
 mod tests;
 
-pub use job_text;
+pub use job_text::{Job, JobFault, Text, read_job};
 pub use jobs::generate;

@@ -4,6 +4,6 @@
 mod reports;
 mod turns;
 
-pub use mpe_turns;
+pub use mpe_turns::{Event, Monitor, OpenFault};
 pub use reports::{report_on, summary_on};
 pub use turns::take_turns;

@@ -7,4 +7,3 @@ pub use laws::{
     data_words_are_initial, modules_make_segments, parts_have_few_entries, parts_keep_bounds,
     programs_keep_bounds, segments_have_few_words,
 };
-pub use spl_carries::hp_flat;

@@ -1,12 +1,11 @@
 //! The law of this crate, as the contract of a function that does nothing but call those whose laws it stands on.
 ghost use Rattle.spl_callable.specs.Laws.{CallablesFollow};
 
-use spl_callees::spl_cells::settable_procedures_are_called;
-use spl_callees::spl_procedures::routines_are_procedures;
-use spl_callees::spl_subroutines::{subroutine_bodies_are_subroutines, subroutines_are_called};
-use spl_inners::spl_routes::names_mean;
-use spl_inners::spl_routines::gates_are_served;
-use spl_inners::{inners_find, inners_land};
+use spl_callees::{
+    routines_are_procedures, settable_procedures_are_called, subroutine_bodies_are_subroutines,
+    subroutines_are_called,
+};
+use spl_inners::{gates_are_served, inners_find, inners_land, names_mean};
 use spl_link_routes::links_find;
 use spl_mains::{covered_bodies_follow, covered_inners_follow};
 use spl_readings::{bodies_read_alike, statements_read_alike};

@@ -4,5 +4,5 @@
 mod laws;
 
 pub use laws::callables_follow;
-pub use spl_inners::spl_sound_jumps;
-pub use spl_mains::spl_followed;
+pub use spl_inners::{sound_inners_land, sound_jumps_land, sound_routines_land};
+pub use spl_mains::{followed_programs_carry, main_bodies_follow};

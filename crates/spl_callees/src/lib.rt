@@ -4,6 +4,7 @@
 mod laws;
 
 pub use laws::callees_follow;
-pub use spl_cells;
-pub use spl_subroutines;
-pub use spl_subroutines::spl_procedures;
+pub use spl_cells::settable_procedures_are_called;
+pub use spl_subroutines::{
+    routines_are_procedures, subroutine_bodies_are_subroutines, subroutines_are_called,
+};

@@ -2,11 +2,11 @@
 ghost use Rattle.spl_carried.specs.Laws.{CoveredProgramsCarry};
 
 use spl_bounds::{data_words_are_initial, programs_keep_bounds};
-use spl_callable::callables_follow;
-use spl_callable::spl_followed::{followed_programs_carry, main_bodies_follow};
-use spl_callable::spl_sound_jumps::{sound_inners_land, sound_jumps_land, sound_routines_land};
-use spl_sound_beginnings::sound_units_begin_well;
-use spl_sound_beginnings::spl_piece_kinds::modules_have_kinds;
+use spl_callable::{
+    callables_follow, followed_programs_carry, main_bodies_follow, sound_inners_land,
+    sound_jumps_land, sound_routines_land,
+};
+use spl_sound_beginnings::{modules_have_kinds, sound_units_begin_well};
 
 /// A program that is made of units whose main body is covered, with calls of procedures and subroutines that are, carries them.
 pub fn covered_programs_carry()

@@ -2,7 +2,7 @@
 ghost use Rattle.spl_followed.specs.Mains.{SessionsOpenAsRuns, MainBodiesFollow, FramedProgramsFollow};
 ghost use Rattle.spl_followed.specs.Laws.{MachineFollowsSource, SourceFollowsMachine, LogsAgree, FollowedProgramsCarry};
 
-use spl_follow::spl_frames::{openings_have_their_words, words_stay_words};
+use spl_follow::{openings_have_their_words, words_stay_words};
 
 /// After each number of the machine's steps some number of the source's leads to the same point, unless the source strays.
 pub fn machine_follows_source()

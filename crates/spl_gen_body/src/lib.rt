@@ -12,6 +12,3 @@ pub use bodies::{
     leave_subroutine,
 };
 pub use laws::frames_are_of_bodies;
-pub use spl_gen_expr;
-pub use spl_initials::spl_places;
-pub use spl_rooms;

@@ -10,13 +10,11 @@ ghost use Rattle.spl_unit_laws.specs.spl_module_code.Modules.{AreModules};
 
 use crate::units::unit_modules;
 use spl_branch::Module;
-use spl_layout::Layout;
-use spl_layout::spl_globals::first_areas;
-use spl_layout::spl_rooms::Room;
+use spl_layout::{Layout, Room, first_areas};
 use spl_sound::Sound;
 use spl_tree::{Name, SplUnit};
+use spl_unit_codes::used_segments;
 use spl_unit_laws::Start;
-use spl_unit_laws::spl_unit_codes::used_segments;
 use std::alloc::{AllocError, Global};
 
 /// The modules of units, the first of which begins there.

@@ -6,4 +6,4 @@ mod units;
 mod walk;
 
 pub use compiling::compile;
-pub use spl_layout;
+pub use spl_layout::{Layout, LimitFault, places};

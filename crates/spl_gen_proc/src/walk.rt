@@ -17,15 +17,15 @@ ghost use Rattle.spl_gen_routines.specs.Views.{around_of, routine_around};
 ghost use Rattle.spl_unit_walks.specs.Views.{fixed_of};
 ghost use Rattle.spl_unit_laws.specs.Steps.{Grows, RoutineGrows, InnerGrows, cursor_behind, cursor_inner, IsFree, AreFree, OnceInUnit, OnceInAll, PartsStep, Steps};
 
-use spl_gen_routines::spl_body_scopes::{Level, declare, routine_level};
-use spl_gen_routines::spl_gen_expr::Entries;
+use spl_body_scopes::{Level, declare, routine_level};
+use spl_code_scopes::Entries;
 use spl_gen_routines::{Around, Declared, inner_count, listed_items, room_at, routine, subroutine};
-use spl_layout::spl_rooms::Room;
+use spl_layout::Room;
+use spl_places::{Part, total};
+use spl_spots::plus;
 use spl_tree::{Body, Decl, Heading, Stmt};
+use spl_unit_codes::Growing;
 use spl_unit_laws::Cursor;
-use spl_unit_laws::spl_places::{Part, total};
-use spl_unit_laws::spl_spots::plus;
-use spl_unit_laws::spl_unit_codes::Growing;
 use spl_unit_walks::{Fixed, own_subroutines, segment_procedures};
 use std::alloc::{AllocError, Global};
 

@@ -16,12 +16,12 @@ ghost use Rattle.spl_routine_code.specs.Scoped.{procedure_with, subroutine_with,
 
 use crate::statements::body_statements;
 use spl_branch::Code;
-use spl_gen_body::spl_gen_expr::Scope;
-use spl_gen_body::spl_rooms::Room;
+use spl_code_scopes::Scope;
 use spl_gen_body::{
     Procedure, enter_main, enter_procedure, enter_subroutine, leave_main, leave_procedure,
     leave_subroutine,
 };
+use spl_rooms::Room;
 use spl_tree::{Heading, Stmt};
 use std::alloc::{AllocError, Global};
 

@@ -14,13 +14,11 @@ ghost use Rattle.spl_gen_routines.specs.Views.{around_of};
 
 use crate::bodies::subroutine_code;
 use crate::rooms::room_at;
+use spl_body_scopes::{BodyResult, Level, Results, inner_level, inner_result};
 use spl_branch::Code;
-use spl_gen_body::spl_gen_expr::Entries;
-use spl_gen_body::spl_rooms::Room;
-use spl_statement_scopes::spl_body_scopes::{
-    BodyResult, Level, Results, inner_level, inner_result,
-};
-use spl_statement_scopes::spl_spots::plus;
+use spl_code_scopes::Entries;
+use spl_rooms::Room;
+use spl_spots::plus;
 use spl_statement_scopes::{statement_scope, with_results};
 use spl_tree::{Decl, Heading, Stmt};
 use std::alloc::{AllocError, Global};

@@ -10,6 +10,4 @@ mod statements;
 pub use inners::{Around, inner_count, subroutine};
 pub use rooms::room_at;
 pub use routines::{Declared, listed_items, main_body, routine};
-pub use spl_gen_body::spl_gen_expr;
-pub use spl_statement_scopes::spl_body_scopes;
 pub use statements::body_statements;

@@ -2,7 +2,7 @@
 ghost use Rattle.std.specs.Prelude.{◌≡◌};
 ghost use Rattle.spl_routine_code.specs.Routines as r;
 
-use spl_gen_body::spl_rooms::Room;
+use spl_rooms::Room;
 use spl_tree::At;
 
 /// A room of nothing.

@@ -11,7 +11,7 @@ ghost use Rattle.spl_gen_stmt.specs.spl_statement_code.FewWords.{nested_among};
 ghost use Rattle.spl_routine_code.specs.Bodies.{statements_part};
 
 use spl_branch::Code;
-use spl_gen_body::spl_gen_expr::Scope;
+use spl_code_scopes::Scope;
 use spl_gen_stmt::gen_statements;
 use spl_landings::landings;
 use spl_tree::Stmt;

@@ -13,5 +13,3 @@ mod statements;
 mod stores;
 
 pub use generator::{gen_statement, gen_statements};
-pub use spl_gen_expr;
-pub use spl_operations::spl_spots;

@@ -4,5 +4,7 @@
 mod laws;
 
 pub use laws::{inners_find, inners_land};
-pub use spl_routes;
-pub use spl_routes::{spl_routines, spl_sound_jumps};
+pub use spl_routes::{
+    calls_find, gates_are_served, names_mean, sound_inners_land, sound_jumps_land,
+    sound_routines_land,
+};

@@ -4,7 +4,7 @@
 mod layouts;
 
 pub use layouts::{Layout, places};
-pub use spl_entries::{Place, spl_globals};
+pub use spl_entries::Place;
+pub use spl_entries::spl_globals::first_areas;
 pub use spl_limits::LimitFault;
-pub use spl_rooms;
 pub use spl_rooms::Room;

@@ -2,8 +2,7 @@
 ghost use Rattle.std.specs.Prelude.{◌≤◌, length, IfOk};
 
 use spl_layout::{Layout, places};
-use spl_program::read_program;
-use spl_program::spl_sound::Sound;
+use spl_program::{Sound, read_program};
 use spl_tree::Chars;
 use std::alloc::{AllocError, Global};
 use std::test::Fail;

@@ -4,4 +4,4 @@
 mod laws;
 
 pub use laws::{covered_bodies_follow, covered_inners_follow, covered_main_bodies_follow};
-pub use spl_followed;
+pub use spl_followed::{followed_programs_carry, main_bodies_follow};

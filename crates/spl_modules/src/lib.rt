@@ -5,5 +5,4 @@ mod modules;
 mod walk;
 
 pub use modules::ModuleEntries;
-pub use spl_places;
 pub use walk::{UnitEntries, unit_entries};

@@ -4,4 +4,3 @@
 mod laws;
 
 pub use laws::texts_number_segments;
-pub use spl_bounds::hp_flat;

@@ -6,4 +6,4 @@ mod reading;
 
 pub use faults::ProgramFault;
 pub use reading::read_program;
-pub use spl_sound;
+pub use spl_sound::Sound;

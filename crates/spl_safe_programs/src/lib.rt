@@ -4,4 +4,4 @@
 mod laws;
 
 pub use laws::sound_programs_are_never_lost;
-pub use spl_sound_programs;
+pub use spl_sound_programs::sound_programs_carry;

@@ -7,4 +7,4 @@ pub use laws::{
     bodies_begin_well, modules_begin_well, sound_bodies_are_found, sound_codes_may_stand,
     sound_units_begin_well,
 };
-pub use spl_piece_kinds;
+pub use spl_piece_kinds::modules_have_kinds;

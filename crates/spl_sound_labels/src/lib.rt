@@ -4,5 +4,3 @@
 mod laws;
 
 pub use laws::{sound_labels_stand_once, sound_subprograms_have_no_subroutines};
-pub use spl_places;
-pub use spl_places::spl_spots;

@@ -1,7 +1,7 @@
 //! The laws of this crate, as the contracts of functions that do nothing.
 ghost use Rattle.spl_sound_programs.specs.Laws.{SoundProgramsAreCovered, SoundProgramsCarry};
 
-use spl_linked_names::spl_carried::covered_programs_carry;
+use spl_linked_names::covered_programs_carry;
 
 /// Programs that break no rule are covered: their main bodies, procedures and subroutines.
 pub fn sound_programs_are_covered()

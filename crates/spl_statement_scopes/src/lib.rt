@@ -6,6 +6,3 @@ mod scopes;
 
 pub use levels::{no_names, with_results};
 pub use scopes::statement_scope;
-pub use spl_body_scopes;
-pub use spl_places;
-pub use spl_places::{spl_lists, spl_spots};

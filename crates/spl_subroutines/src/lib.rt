@@ -4,4 +4,4 @@
 mod laws;
 
 pub use laws::{subroutine_bodies_are_subroutines, subroutines_are_called};
-pub use spl_procedures;
+pub use spl_procedures::routines_are_procedures;

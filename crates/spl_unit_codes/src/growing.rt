@@ -9,7 +9,7 @@ ghost use Rattle.spl_branch.specs.Codes.{IsComplete};
 ghost use Rattle.spl_unit_codes.specs.Slots.{AreComplete, IsSlot, AreSlots};
 
 use spl_branch::{Code, Entry, Module};
-use spl_module_code::spl_modules::UnitEntries;
+use spl_modules::UnitEntries;
 use spl_tree::{Name, SplUnit};
 use std::alloc::{AllocError, Global};
 

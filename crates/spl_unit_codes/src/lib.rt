@@ -6,4 +6,3 @@ mod picking;
 
 pub use growing::{Growing, begin, finish};
 pub use picking::{pick, segment_numbers, used_segments};
-pub use spl_module_code::spl_modules;

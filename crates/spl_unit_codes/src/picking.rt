@@ -10,7 +10,7 @@ ghost use Rattle.spl_module_code.specs.Modules.{named_segment, uses_in, uses_of,
 ghost use Rattle.spl_unit_codes.specs.Slots.{TakenFrom, PickedFrom};
 
 use spl_branch::Module;
-use spl_module_code::spl_places::NameMap;
+use spl_spots::NameMap;
 use spl_tree::{Decl, Name, SplUnit};
 use std::alloc::{AllocError, Global};
 

@@ -6,6 +6,3 @@ mod laws;
 
 pub use cursors::{Cursor, Start};
 pub use laws::{labels_stand_once, units_are_made};
-pub use spl_sound_labels::{spl_places, spl_spots};
-pub use spl_unit_codes;
-pub use spl_unit_codes::spl_modules;

@@ -4,10 +4,10 @@ ghost use Rattle.spl_sound.specs.spl_meaning.Names.{find};
 ghost use Rattle.spl_unit_laws.specs.spl_places.NameMaps.{entries_of};
 
 use spl_body_scopes::Level;
-use spl_layout::spl_rooms::Room;
+use spl_layout::Room;
+use spl_modules::UnitEntries;
+use spl_spots::NameMap;
 use spl_tree::SplUnit;
-use spl_unit_laws::spl_modules::UnitEntries;
-use spl_unit_laws::spl_places::NameMap;
 
 /// What stays the same for a whole unit.
 #[derive(Debug, Drop)]

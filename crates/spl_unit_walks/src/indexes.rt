@@ -5,7 +5,7 @@ ghost use Rattle.spl_unit_laws.specs.spl_places.NameMaps.{entries_of};
 ghost use Rattle.spl_unit_walks.specs.Views.{fixed_of};
 
 use crate::fixed::Fixed;
-use spl_unit_laws::spl_places::NameMap;
+use spl_spots::NameMap;
 
 /// The indexes of the procedures of a segment.
 pub fn segment_procedures<'t>(fixed: &Fixed<'t>, segment: u16) -> &'t NameMap<usize>

@@ -7,7 +7,7 @@ ghost use Rattle.spl_unit_walks.specs.Bodies.{PartsPicked};
 
 use spl_branch::Module;
 use spl_tree::{Name, SplUnit};
-use spl_unit_laws::spl_unit_codes::{Growing, finish, pick, segment_numbers};
+use spl_unit_codes::{Growing, finish, pick, segment_numbers};
 use std::alloc::{AllocError, Global};
 
 /// Appends the modules that the codes of a unit become, along the names of segments as the program uses these. Want of
