@@ -13,7 +13,7 @@ use Rattle.spl_gen_expr.specs.Marks.{Within, Sets}
 use Rattle.spl_gen_expr.proofs.MarkLemmas.{second_settable}
 use Rattle.spl_statement_code.specs.Landings.{Context, IsMade}
 use Rattle.spl_statement_code.specs.Labels.{AppendsSetting, CanBeSet, all_set}
-use Rattle.spl_gen_stmt.specs.Grown.{Grown, with_new, behind_new}
+use Rattle.spl_stored.specs.Grown.{Grown, with_new, behind_new}
 
 -- ---- marks as lists
 

@@ -1,5 +1,4 @@
 -- In reading order.
-pub mod FieldLemmas
 pub mod GrownLemmas
 pub mod PartLemmas
 pub mod WordCounts

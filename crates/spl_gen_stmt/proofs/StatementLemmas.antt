@@ -28,7 +28,7 @@ use Rattle.spl_statement_code.specs.Instructions.{TEST, LSUB, TBA, MTBA}
 use Rattle.spl_statement_code.specs.Landings.{Context, IsMade, landed}
 use Rattle.spl_statement_code.specs.Statements.{statement, listed, arms, idle, tested, counting, call_dropped, chosen, chosen_or, repeated_while, repeated_until, turns, chosen_among, arm}
 use Rattle.spl_statement_code.specs.Labels.{AppendsSetting, CanBeSet, marks_of, mark_of, marks_inside, marks_within}
-use Rattle.spl_gen_stmt.specs.Grown.{Grown}
+use Rattle.spl_stored.specs.Grown.{Grown}
 use Rattle.spl_gen_stmt.proofs.ViewLemmas.{block_tree, case_tree, call_tree, labelled_tree, if_tree, either_tree, while_tree, until_tree, for_tree}
 use Rattle.spl_gen_stmt.proofs.GrownLemmas.{grown_start, grown_more, grown_setting, grown_two, grown_none, grown_can, more_marks, first_set, first_set_here, second_set, closed_one, closed_two, can_first, setting_then, plain_then, setting_plain, plain, made_more, grown_still}
 

@@ -1,6 +1,4 @@
--- In reading order.
 pub mod Contexts
-pub mod Grown
 -- Passed on from the crates below.
 pub use Rattle.spl_gen_expr.specs.spl_found
 pub use Rattle.spl_gen_expr.specs as spl_gen_expr

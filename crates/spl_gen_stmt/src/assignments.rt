@@ -1,41 +1,22 @@
 //! Targets of assignments: their indexes, and what stores a value in them.
-ghost use Rattle.std.specs.Prelude.{◌≡◌, ◌+◌, ◌&&◌, nat_le, if◌then◌else◌, option_map, OnOk, IfOk};
+ghost use Rattle.std.specs.Prelude.{OnOk};
 ghost use Rattle.spl_tree.specs.Views as view;
 ghost use Rattle.spl_tree.specs.Views.{letters};
 ghost use Rattle.spl_tree.specs.Trees.{trees};
-ghost use Rattle.spl_sorts.specs.spl_meaning.Pending as pending;
-ghost use Rattle.spl_sorts.specs.Sorts.{sort_of};
 ghost use Rattle.spl_statement_code.specs.spl_code.Parts.{pieces};
 ghost use Rattle.spl_statement_code.specs.spl_code.Operands.{at_place};
 ghost use Rattle.spl_statement_code.specs.spl_code.Stores as stores;
 ghost use Rattle.spl_statement_code.specs.spl_code.Code.{is_indexed};
 ghost use Rattle.spl_statement_code.specs.spl_code.Appends.{Appends};
 ghost use Rattle.spl_gen_expr.specs.spl_code_scopes.Scopes.{scope_of};
-ghost use Rattle.spl_operations.specs.Views.{access_view};
 ghost use Rattle.spl_statement_code.specs.Assignments as targets;
 
-use crate::fields::{Bits, deposit_at};
-use crate::stores::{store, store_at};
 use spl_branch::Code;
 use spl_gen_expr::{Aim, Scope, small_constant, write};
-use spl_operations::spl_spots::plus;
-use spl_operations::{Access, mode_of};
-use spl_sorts::Sort;
+use spl_operations::mode_of;
+use spl_stored::{Bits, assigned_access, deposit_at, store, store_at};
 use spl_tree::{Kind, Name, Ref, Target};
 use std::alloc::AllocError;
-
-/// How what a name stands for on the left of := leads to a word.
-fn assigned_access(sort: Option<&Sort>) -> Access
-    ensures { access_view result ≡ targets.assigned_access (option_map (λ s. sort_of s.now) sort.entry) }
-{
-    match sort {
-        Some(Sort::Procedure(profile) | Sort::Subroutine(profile)) => match profile.result {
-            Some(kind) => Access::Own(kind),
-            None => Access::Nowhere,
-        },
-        _ => Access::of(sort),
-    }
-}
 
 /// Appends the index of a reference, where it has one.
 fn reference_index(
@@ -68,27 +49,6 @@ pub fn target_index(
         Target::Plain(r) => reference_index(scope, r, waiting, code),
         Target::Field { of, .. } => reference_index(scope, of, waiting, code),
         Target::Address(..) => Ok(()),
-    }
-}
-
-/// What waits behind the index of a reference.
-fn behind_index(r: &Ref, waiting: u64) -> Result<u64, AllocError>
-    ensures { IfOk result (λ k. k ≡ pending.behind_index (view.reference r.now) waiting) }
-{
-    match r.index {
-        Some(_) => plus(waiting, 1),
-        None => Ok(waiting),
-    }
-}
-
-/// What waits while the value for a target is worked out.
-pub fn behind_target(to: &Target, waiting: u64) -> Result<u64, AllocError>
-    ensures { IfOk result (λ k. k ≡ pending.waiting (view.target_tree to.now) waiting) }
-{
-    match to {
-        Target::Plain(r) => behind_index(r, waiting),
-        Target::Field { of, .. } => behind_index(of, waiting),
-        Target::Address(..) => Ok(waiting),
     }
 }
 

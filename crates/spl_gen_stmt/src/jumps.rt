@@ -1,7 +1,6 @@
 //! GO TO, RETURN and the places of labels.
-ghost use Rattle.std.specs.Prelude.{◌≡◌, ◌<◌, length, OnOk};
+ghost use Rattle.std.specs.Prelude.{◌<◌, length, OnOk};
 ghost use Rattle.spl_tree.specs.Views.{letters};
-ghost use Rattle.spl_statement_code.specs.spl_code.Parts.{pieces};
 ghost use Rattle.spl_statement_code.specs.spl_code.Appends.{Appends};
 ghost use Rattle.spl_statement_code.specs.Landings as landings;
 ghost use Rattle.spl_statement_code.specs.Landings.{IsMade};
@@ -10,24 +9,11 @@ ghost use Rattle.spl_gen_stmt.specs.Contexts.{context_of};
 ghost use Rattle.spl_landing_maps.specs.Landings.{landings_of};
 
 use crate::contexts::Context;
-use crate::puts::subtract_words;
 use spl_branch::Code;
 use spl_gen_expr::{lead, set_mark};
+use spl_stored::drop_words;
 use spl_tree::Name;
 use std::alloc::AllocError;
-
-/// Appends what deletes so many words.
-fn drop_words(code: &mut Code, n: u64) -> Result<(), AllocError>
-    ensures { OnOk result (Appends (pieces (landings.dropped n)) code.old code.new) }
-{
-    if n <= 255 {
-        return subtract_words(code, n as u8);
-    }
-    for i in 0..n / 255 {
-        subtract_words(code, 255)?;
-    }
-    subtract_words(code, (n % 255) as u8)
-}
 
 /// Appends a jump to a mark where so many words fewer wait.
 #[tactic(auto, using(spl_operations::proofs::PutLemmas::joins))]

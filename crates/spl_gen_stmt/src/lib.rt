@@ -4,12 +4,9 @@
 mod assignments;
 mod contexts;
 mod effects;
-mod fields;
 mod generator;
 mod jumps;
 mod parts;
-mod puts;
 mod statements;
-mod stores;
 
 pub use generator::{gen_statement, gen_statements};

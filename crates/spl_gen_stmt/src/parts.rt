@@ -1,32 +1,26 @@
 //! The parts of statements in which no other statement stands.
-ghost use Rattle.std.specs.Prelude.{◌≡◌, ◌<◌, true, length, map, option_map, OnOk};
-ghost use Rattle.hp_instr.specs.Given.{is_mode};
+ghost use Rattle.std.specs.Prelude.{◌<◌, true, length, map, OnOk};
 ghost use Rattle.spl_tree.specs.declared.names_and_places.At.{At};
 ghost use Rattle.spl_tree.specs.Views as view;
 ghost use Rattle.spl_tree.specs.Views.{letters};
 ghost use Rattle.spl_tree.specs.Trees.{trees};
-ghost use Rattle.spl_sorts.specs.Sorts.{sort_of};
-ghost use Rattle.spl_sorts.specs.spl_meaning.Kinds as kinds;
-ghost use Rattle.spl_sorts.specs.spl_meaning.References.{by_address};
 ghost use Rattle.spl_statement_code.specs.spl_code.Parts.{pieces};
 ghost use Rattle.spl_statement_code.specs.spl_code.Code as written;
 ghost use Rattle.spl_statement_code.specs.spl_code.Appends.{Appends};
 ghost use Rattle.spl_gen_expr.specs.spl_code_scopes.Scopes.{scope_of};
-ghost use Rattle.spl_operations.specs.Views.{access_view};
 ghost use Rattle.spl_statement_code.specs.Assignments as targets;
 ghost use Rattle.spl_statement_code.specs.Effects as effects;
 ghost use Rattle.spl_statement_code.specs.Statements as shapes;
 
-use crate::assignments::{behind_target, target_index, target_store};
+use crate::assignments::{target_index, target_store};
 use crate::effects::effect as append_effect;
-use crate::stores::{bring_under, from_top, store, store_own};
-use hp_instr::{Mode, Op, immediate};
+use hp_instr::immediate;
 use spl_branch::Code;
 use spl_gen_expr::{Aim, Scope, named, relate, write};
 use spl_operations::spl_spots::plus;
-use spl_operations::{Access, address_at, immediate as put_immediate, load_at, mode_of, operate};
-use spl_sorts::{Sort, callable};
-use spl_tree::{Effect, Expr, Kind, Name, Target, Test};
+use spl_operations::{Access, immediate as put_immediate, mode_of};
+use spl_stored::{behind_target, count_at, drop_result, from_top, result_of};
+use spl_tree::{Effect, Expr, Name, Target, Test};
 use std::alloc::AllocError;
 
 /// Appends a test, which leads to a mark where it is false.
@@ -81,37 +75,6 @@ pub fn assign_effect(
     target_store(scope, to, waiting, code)
 }
 
-/// Appends the store through the address that was passed for a variable of a kind. It is read before the store, and stays.
-#[tactic(auto, using(spl_operations::proofs::PutLemmas::joins), unfolding(hp_instr::specs::Fields::is_op))]
-fn count_through(code: &mut Code, kind: Kind, moved: bool, mode: Mode) -> Result<(), AllocError>
-    requires { is_mode mode ≡ true }
-    ensures { OnOk result (Appends (pieces (shapes.counter_at (by_address kind) moved mode)) code.old code.new) }
-{
-    if moved {
-        bring_under(code, Kind::Integer, 1, mode)?;
-    } else {
-        load_at(code, Access::Own(Kind::Integer), false, mode)?;
-        operate(code, Op::XCH)?;
-    }
-    store(code, Kind::Integer, true, false, Mode::SMinus(1))
-}
-
-/// Appends the store of the first value of a FOR in its variable, whose address stays.
-#[tactic(auto, using(spl_operations::proofs::PutLemmas::joins))]
-fn count_at(code: &mut Code, access: Access, moved: bool, mode: Mode) -> Result<(), AllocError>
-    requires { is_mode mode ≡ true }
-    ensures { OnOk result (Appends (pieces (shapes.counter_at (access_view access) moved mode)) code.old code.new) }
-{
-    match access {
-        Access::Own(kind) => {
-            store_own(code, kind, moved, mode)?;
-            address_at(code, Access::Own(Kind::Integer), false, mode)
-        }
-        Access::ByAddress(kind) => count_through(code, kind, moved, mode),
-        Access::ByCell(..) | Access::Nowhere => Ok(()),
-    }
-}
-
 /// The same for the variable that has a name.
 fn counter(scope: &Scope<'_>, name: &Name, waiting: u64, code: &mut Code) -> Result<(), AllocError>
     ensures { OnOk result (Appends (pieces (shapes.counter (scope_of scope.now) (letters name.now) waiting)) code.old code.new) }
@@ -161,28 +124,6 @@ pub fn counting(
     step_value(scope, step, plus(waiting, 1)?, code)?;
     let _ = write(scope, last, Aim::Value, plus(waiting, 2)?, code)?;
     Ok(())
-}
-
-/// Appends what deletes a result.
-#[tactic(auto, unfolding(hp_instr::specs::Fields::is_op))]
-fn drop_result(code: &mut Code, kind: Option<Kind>) -> Result<(), AllocError>
-    ensures { OnOk result (Appends (pieces (shapes.result_dropped kind)) code.old code.new) }
-{
-    match kind {
-        None => Ok(()),
-        Some(Kind::Double) => operate(code, Op::DDEL),
-        Some(Kind::Integer | Kind::Logical | Kind::Byte) => operate(code, Op::DEL),
-    }
-}
-
-/// The kind of the result of what a name stands for.
-fn result_of(sort: Option<&Sort>) -> Option<Kind>
-    ensures { result ≡ shapes.result_of (kinds.callable (option_map (λ s. sort_of s.now) sort.entry)) }
-{
-    match callable(sort) {
-        Some(profile) => profile.result,
-        None => None,
-    }
 }
 
 /// Appends a call whose result is not used.

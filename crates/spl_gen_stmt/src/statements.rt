@@ -17,12 +17,12 @@ use crate::contexts::Context;
 use crate::effects::effect;
 use crate::jumps::{go_to, jump, land};
 use crate::parts::{assign, assign_effect, call, counting, tested};
-use crate::puts::{begin, count_to, idle, new_mark};
 use hp_instr::{Op, immediate};
 use spl_branch::Code;
 use spl_gen_expr::{Aim, lead, relate, set_mark, two_marks, write};
 use spl_operations::spl_spots::plus;
 use spl_operations::{immediate as put_immediate, operate};
+use spl_stored::{begin, count_to, idle, new_mark};
 use spl_tree::{Expr, Stmt, Test};
 use std::alloc::AllocError;
 

@@ -1,7 +1,7 @@
 -- The cell is brought below the word, the index is loaded, the field is put in, and both are deleted.
 use Rattle.spl_statement_code.proofs.spl_code_proofs.AppendLaws.{more_pieces}
 use Rattle.spl_operations.proofs.PutLemmas.{ok_then, pieces_then}
-use Rattle.spl_gen_stmt.proofs.fields.deposit_element.Goals as goal
+use Rattle.spl_stored.proofs.fields.deposit_element.Goals as goal
 
 pub returns-in_ok-deposit : goal.returns-in_ok-deposit
 returns-in_ok-deposit c =

@@ -6,7 +6,7 @@ ghost use Rattle.spl_statement_code.specs.spl_code.Parts.{piece, nothing};
 ghost use Rattle.spl_statement_code.specs.spl_code.Appends.{Appends};
 ghost use Rattle.spl_statement_code.specs.Instructions as i;
 ghost use Rattle.spl_statement_code.specs.Statements.{idle};
-ghost use Rattle.spl_gen_stmt.specs.Grown.{Grown};
+ghost use Rattle.spl_stored.specs.Grown.{Grown};
 
 use hp_instr::{Instr, control};
 use spl_branch::{Code, Piece};
